@@ -1,0 +1,66 @@
+-- The records as lists, as long as their counts say.
+use mathlib.Core.Bool.{false}
+use mathlib.Core.List.{List, [], _++_}
+use Prim.Native.Nat.{ℕ, _-_}
+use lib.ListN.{length, getD, replicate}
+use lib.Ieee.{Float, binary64, ofBits}
+use Rattle.numbers.specs.UpTo.{table}
+use Rattle.network.specs.declared.bus.Power.{Power}
+use Rattle.network.specs.declared.bus.Bus.{Bus}
+use Rattle.network.specs.declared.branch.Branch.{Branch}
+use Rattle.network.specs.declared.switch.Switch.{Switch}
+use Rattle.network.specs.declared.switch.ReconfigAlgorithm.{ReconfigAlgorithm}
+use Rattle.network.specs.declared.topology.PowerNetwork.{PowerNetwork}
+
+-- what stands where nothing is listed
+abbrev pub noBus : Bus
+noBus = record { id = 0; pd = record { 0 = ofBits binary64 0 } }
+
+abbrev pub noBranch : Branch
+noBranch = record { «from_bus» = 0; «to_bus» = 0; r = ofBits binary64 0; status = false }
+
+abbrev pub noSwitch : Switch
+noSwitch = record { id = 0; «branch_idx» = 0; «normally_open» = false; «can_operate» = false }
+
+-- a feeder as document 01 lists it
+pub record Network : Type 0 where
+  pub base : Float
+  pub algorithm : ReconfigAlgorithm
+  pub iterations : ℕ
+  pub buses : List Bus
+  pub branches : List Branch
+  pub switches : List Switch
+
+-- the listed records of a value handed over: as many of each kind as its count says, also where that is over the limit
+unfoldable pub recordsOf : PowerNetwork → Network
+recordsOf n =
+    record {
+      base = n .«base_mva»;
+      algorithm = n .algorithm;
+      iterations = n .«max_iterations»;
+      buses = table (λ i. getD (n .buses) i noBus) (n .«bus_count»);
+      branches = table (λ i. getD (n .branches) i noBranch) (n .«branch_count»);
+      switches = table (λ i. getD (n .switches) i noSwitch) (n .«switch_count»);
+    }
+
+-- the first entries are listed, the others empty
+unfoldable pub padded : {A : Type 0} → ℕ → A → List A → List A
+padded size none l = l ++ replicate (size - length l) none
+
+-- the value that holds a feeder inside the limits
+unfoldable pub networkOf : Network → PowerNetwork
+networkOf N =
+    record {
+      buses = padded 256 noBus (N .buses);
+      branches = padded 512 noBranch (N .branches);
+      switches = padded 512 noSwitch (N .switches);
+      «bus_count» = length (N .buses);
+      «branch_count» = length (N .branches);
+      «switch_count» = length (N .switches);
+      «base_mva» = N .base;
+      algorithm = N .algorithm;
+      «max_iterations» = N .iterations;
+    }
+
+abbrev pub emptyNetwork : Float → ReconfigAlgorithm → ℕ → PowerNetwork
+emptyNetwork base algorithm iterations = networkOf (record { base = base; algorithm = algorithm; iterations = iterations; buses = []; branches = []; switches = [] })

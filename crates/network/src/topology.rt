@@ -1,0 +1,76 @@
+// Translated and changed from src/network/topology.rs of oxigrid. Copyright 2024-2026 COOLJAPAN OU (Team Kitasan), Apache License 2.0.
+ghost use mathlib.Core.Path.{_≡_};
+ghost use Rattle.network.specs.Records.{emptyNetwork};
+use crate::branch::Branch;
+use crate::bus::Bus;
+use crate::bus::Power;
+use crate::switch::ReconfigAlgorithm;
+use crate::switch::Switch;
+
+// A feeder and what is asked of it. Only the first `bus_count` buses are listed, and so for branches and switches.
+pub struct PowerNetwork {
+    pub buses: [Bus; 256],
+    pub branches: [Branch; 512],
+    pub switches: [Switch; 512],
+    pub bus_count: u16,
+    pub branch_count: u16,
+    pub switch_count: u16,
+    pub base_mva: f64,
+    pub algorithm: ReconfigAlgorithm,
+    pub max_iterations: u16,
+}
+
+impl PowerNetwork {
+    pub const MAX_BUSES: u16 = 256;
+
+    pub const MAX_BRANCHES: u16 = 512;
+
+    pub const MAX_SWITCHES: u16 = 512;
+
+    pub const MAX_ITERATIONS: u16 = 1000;
+
+    // With method 02, at most ten switches are normally open.
+    pub const MAX_TIES: u16 = 10;
+
+    // A network in which nothing is listed yet.
+    pub fn new(base_mva: f64, algorithm: ReconfigAlgorithm, max_iterations: u16) -> PowerNetwork
+        ensures { λ r. ⌜ r ≡ emptyNetwork «base_mva» algorithm «max_iterations» ⌝ }
+    {
+        let bus = Bus {
+            id: 0,
+            pd: Power(0.0),
+        };
+        let branch = Branch {
+            from_bus: 0,
+            to_bus: 0,
+            r: 0.0,
+            status: false,
+        };
+        let switch = Switch {
+            id: 0,
+            branch_idx: 0,
+            normally_open: false,
+            can_operate: false,
+        };
+        let buses = [bus; 256];
+        let branches = [branch; 512];
+        let switches = [switch; 512];
+        PowerNetwork {
+            buses,
+            branches,
+            switches,
+            bus_count: 0,
+            branch_count: 0,
+            switch_count: 0,
+            base_mva,
+            algorithm,
+            max_iterations,
+        }
+    }
+
+    pub fn bus_count(self) -> usize
+        ensures { λ r. ⌜ r ≡ self .«bus_count» ⌝ }
+    {
+        self.bus_count as usize
+    }
+}
