@@ -1,0 +1,79 @@
+-- Laws of choosing: what `those`, `firstOf` and `indexOf` find.
+use mathlib.Core.Path.{_≡_, refl, sym, ap, _∙_}
+use mathlib.Core.Logic.{_⊎_, inl, inr, _≢_}
+use mathlib.Core.Bool.{Bool, true, false, cond}
+use mathlib.Core.List.{List, [], _∷_, _++_, List·Memᴰ, List·Memᴰ·head, List·Memᴰ·tail, List·Memᴰ·not-nil, List·Memᴰ·cases-cons, List·Memᴰ·append-cases, List·Memᴰ·eq-of-singleton, Memᴰ·append-left, Memᴰ·append-right}
+use Prim.Native.Nat.{ℕ, zero, suc, _<_}
+use native.Mathlib.Decide.{ℕ-discrete}
+use native.Mathlib.Omega.{arith}
+use lib.Dec.{eqb}
+use lib.ListN.{length, getD}
+use Rattle.numbers.specs.UpTo.{upTo}
+use Rattle.numbers.specs.Counts.{eqb-true, eqb-false}
+use Rattle.numbers.specs.Choose.{those, firstOf, indexOf}
+
+module _ (p : ℕ → Bool) where
+  -- one number more
+  pub those-more : (n : ℕ) → those p (suc n) ≡ cond (p n) (those p n ++ (n ∷ [])) (those p n)
+  unfolding those upTo
+  those-more n = refl
+
+  pub in-those : (n i : ℕ) → i < n → p i ≡ true → List·Memᴰ i (those p n)
+  in-those zero i l e = absurd (omega arith)
+  in-those (suc n) i l e = rw (those-more n) (go (ℕ-discrete i n) (p n) refl (λ l′. in-those n i l′ e))
+    where
+      go : Dec (i ≡ n) → (b : Bool) → p n ≡ b → (i < n → List·Memᴰ i (those p n)) → List·Memᴰ i (cond (p n) (those p n ++ (n ∷ [])) (those p n))
+      go (yes q) b t ih = rw (← q, e) (Memᴰ·append-right (those p i) (List·Memᴰ·head refl))
+      go (no q) true t ih = rw t (Memᴰ·append-left (n ∷ []) (ih (omega arith)))
+      go (no q) false t ih = rw t (ih (omega arith))
+
+  pub of-those : (n i : ℕ) → List·Memᴰ i (those p n) → (i < n) × (p i ≡ true)
+  unfolding those upTo
+  of-those zero i m = absurd (List·Memᴰ·not-nil m)
+  of-those (suc n) i m = go (p n) refl (of-those n i) m
+    where
+      less : (i < n) × (p i ≡ true) → (i < suc n) × (p i ≡ true)
+      less (l, e) = (omega arith, e)
+
+      last : p n ≡ true → (List·Memᴰ i (those p n) → (i < n) × (p i ≡ true)) → List·Memᴰ i (those p n) ⊎ List·Memᴰ i (n ∷ []) → (i < suc n) × (p i ≡ true)
+      last t ih (inl m) = less (ih m)
+      last t ih (inr m) = let q : i ≡ n = List·Memᴰ·eq-of-singleton m in (omega arith, ap p q ∙ t)
+
+      go : (b : Bool) → p n ≡ b → (List·Memᴰ i (those p n) → (i < n) × (p i ≡ true)) → List·Memᴰ i (cond (p n) (those p n ++ (n ∷ [])) (those p n)) → (i < suc n) × (p i ≡ true)
+      go true t ih m = last t ih (List·Memᴰ·append-cases (those p n) (rw t at m))
+      go false t ih m = less (ih (rw t at m))
+
+  -- either one passes, and the first that does is found, or none does
+  pub first-cases : (none : ℕ) (l : List ℕ) → (List·Memᴰ (firstOf p none l) l × (p (firstOf p none l) ≡ true)) ⊎ ((x : ℕ) → List·Memᴰ x l → p x ≡ false)
+  unfolding firstOf
+  first-cases none [] = inr (λ x m. absurd (List·Memᴰ·not-nil m))
+  first-cases none (y ∷ l) = go (p y) refl (first-cases none l)
+    where
+      go : (b : Bool) → p y ≡ b → (List·Memᴰ (firstOf p none l) l × (p (firstOf p none l) ≡ true)) ⊎ ((x : ℕ) → List·Memᴰ x l → p x ≡ false)
+          → (List·Memᴰ (cond (p y) y (firstOf p none l)) (y ∷ l) × (p (cond (p y) y (firstOf p none l)) ≡ true)) ⊎ ((x : ℕ) → List·Memᴰ x (y ∷ l) → p x ≡ false)
+      go true t ih = inl (rw t (List·Memᴰ·head refl), rw (t, t))
+      go false t (inl h) = inl (rw t (List·Memᴰ·tail (h .0)), rw t (h .1))
+      go false t (inr h) = inr (λ x m. each x (List·Memᴰ·cases-cons m))
+        where
+          each : (x : ℕ) → (x ≡ y) ⊎ List·Memᴰ x l → p x ≡ false
+          each x (inl q) = ap p q ∙ t
+          each x (inr m) = h x m
+
+-- what stands in the list is found in it
+pub index-found : (x : ℕ) (l : List ℕ) → List·Memᴰ x l → indexOf x l < length l
+unfolding indexOf
+index-found x [] m = absurd (List·Memᴰ·not-nil m)
+index-found x (y ∷ l) m = go (ℕ-discrete x y) (List·Memᴰ·cases-cons m) (index-found x l)
+  where
+    go : Dec (x ≡ y) → (x ≡ y) ⊎ List·Memᴰ x l → (List·Memᴰ x l → indexOf x l < length l) → cond (eqb x y) zero (suc (indexOf x l)) < suc (length l)
+    go (yes e) c ih = rw (eqb-true e) (omega arith)
+    go (no n) (inl e) ih = absurd (n e)
+    go (no n) (inr m) ih = rw (eqb-false x y n) (omega (arith, ih m))
+
+-- what stands at position i, and at no position before it, is found there
+pub index-at : (l : List ℕ) (d i : ℕ) → i < length l → ((j : ℕ) → j < i → getD l j d ≢ getD l i d) → indexOf (getD l i d) l ≡ i
+unfolding indexOf
+index-at [] d i l h = absurd (omega arith)
+index-at (y ∷ xs) d zero l h = rw (eqb-true {a = y} refl)
+index-at (y ∷ xs) d (suc i) l h =
+    rw (eqb-false (getD xs i d) y (λ e. h zero (omega arith) (sym e)), index-at xs d i (omega arith) (λ j k. h (suc j) (omega arith)))

@@ -1,0 +1,33 @@
+-- Counts under two tests, one of which passes where the other does, or all but at one number.
+use mathlib.Core.Path.{_≡_, refl}
+use mathlib.Core.Logic.{_≢_}
+use mathlib.Core.Bool.{Bool, true, false}
+use Prim.Native.Nat.{ℕ, zero, suc, _≤_, _<_}
+use native.Mathlib.Decide.{ℕ-discrete}
+use native.Mathlib.Omega.{arith}
+use Rattle.numbers.specs.Counts.{count, count-yes, count-no}
+use Rattle.numbers.specs.Tests.{clash}
+
+pub count-mono : (p q : ℕ → Bool) (n : ℕ) → ((x : ℕ) → x < n → p x ≡ true → q x ≡ true) → count p n ≤ count q n
+unfolding count
+count-mono p q zero h = omega arith
+count-mono p q (suc n) h = go (p n) refl (q n) refl (count-mono p q n (λ x l. h x (omega arith)))
+  where
+    go : (a : Bool) → p n ≡ a → (b : Bool) → q n ≡ b → count p n ≤ count q n → count p (suc n) ≤ count q (suc n)
+    go true e true f ih = omega (arith, count-yes p n e, count-yes q n f)
+    go true e false f ih = clash (h n (omega arith) e) f
+    go false e true f ih = omega (arith, count-no p n e, count-yes q n f)
+    go false e false f ih = omega (arith, count-no p n e, count-no q n f)
+
+-- q passes where p does, but perhaps not at c
+pub count-but : (p q : ℕ → Bool) (n c : ℕ) → ((x : ℕ) → x < n → x ≢ c → p x ≡ true → q x ≡ true) → count p n ≤ suc (count q n)
+unfolding count
+count-but p q zero c h = omega arith
+count-but p q (suc n) c h = go (ℕ-discrete n c) (p n) refl (q n) refl (count-but p q n c (λ x l. h x (omega arith)))
+  where
+    go : Dec (n ≡ c) → (a : Bool) → p n ≡ a → (b : Bool) → q n ≡ b → count p n ≤ suc (count q n) → count p (suc n) ≤ suc (count q (suc n))
+    go d true e true f ih = omega (arith, count-yes p n e, count-yes q n f)
+    go (yes z) true e false f ih = omega (arith, count-yes p n e, count-no q n f, count-mono p q n (λ x l t. h x (omega arith) (omega arith) t))
+    go (no z) true e false f ih = clash (h n (omega arith) z e) f
+    go d false e true f ih = omega (arith, count-no p n e, count-yes q n f)
+    go d false e false f ih = omega (arith, count-no p n e, count-no q n f)

@@ -1,0 +1,105 @@
+-- Laws of tables f 0, f 1, .., f (n - 1): length, entries, parts, and how an array is filled with one by rising position.
+use mathlib.Core.Path.{_≡_, refl, sym, ap, _∙_}
+use mathlib.Core.Bool.{Bool, true, false, cond}
+use mathlib.Core.List.{List, [], _∷_, _++_, map}
+use Prim.Native.Nat.{ℕ, zero, suc, _+_, _≤_, _<_}
+use native.Mathlib.Decide.{ℕ-discrete}
+use native.Mathlib.Numerals.{add-one}
+use native.Mathlib.Omega.{arith}
+use lib.Dec.{ltb}
+use lib.ListN.{length, getD, take, drop, set, replicate, length-append, length-take, length-set, length-replicate, getD-replicate, List·getD-append}
+use lib.Seq.{drop-cons, ext-getD, getD-take, getD-at, getD-set-same, getD-set-other}
+use borrow.Author.Tests.{lt-ltb, le-ltb, ltb-true, ltb-false}
+use Rattle.numbers.specs.UpTo.{table}
+
+module _ {ℓ} {A : Type ℓ} (f : ℕ → A) where
+  pub length-table : (n : ℕ) → length (table f n) ≡ n
+  unfolding table
+  length-table zero = refl
+  length-table (suc n) = simp (length-append, length-table n) (omega arith)
+
+  -- one entry more, with the code's `n + 1`
+  pub table-more : (n : ℕ) → table f (n + 1) ≡ table f n ++ (f n ∷ [])
+  unfolding table
+  table-more n = rw (add-one n)
+
+  pub getD-table : (n i : ℕ) (d : A) → i < n → getD (table f n) i d ≡ f i
+  unfolding table
+  getD-table zero i d h = absurd (omega arith)
+  getD-table (suc n) i d h = go (ℕ-discrete i n) (λ l. getD-table n i d l)
+    where
+      go : Dec (i ≡ n) → (i < n → getD (table f n) i d ≡ f i) → getD (table f n ++ (f n ∷ [])) i d ≡ f i
+      go (yes e) ih = rw e (getD-at (table f n) (f n) [] d n (length-table n))
+      go (no k) ih = List·getD-append (table f n) (f n ∷ []) d i (rw (length-table n) (omega arith)) ∙ ih (omega arith)
+
+  pub drop-table : (n i : ℕ) → i < n → drop i (table f n) ≡ f i ∷ drop (i + 1) (table f n)
+  drop-table n i h = rw (add-one, drop-cons (table f n) i (f i) (rw (length-table n) h), getD-table n i (f i) h)
+
+-- inside a list the default plays no part
+pub any-default {ℓ} : {A : Type ℓ} (l : List A) (i : ℕ) (d e : A) → i < length l → getD l i d ≡ getD l i e
+any-default [] i d e h = absurd (omega arith)
+any-default (a ∷ l) zero d e h = refl
+any-default (a ∷ l) (suc i) d e h = any-default l i d e (omega arith)
+
+-- a list is a table if it has its length and its entries
+pub as-table {ℓ} : {A : Type ℓ} (f : ℕ → A) (n : ℕ) (d : A) (l : List A) → length l ≡ n → ((i : ℕ) → i < n → getD l i d ≡ f i) → l ≡ table f n
+as-table f n d l e h =
+    ext-getD d l (table f n) (e ∙ sym (length-table f n))
+    (λ i k. let j : i < n = omega (arith, e) in h i j ∙ sym (getD-table f n i d j))
+
+pub take-table {ℓ} : {A : Type ℓ} (f : ℕ → A) (n i : ℕ) → i ≤ n → take i (table f n) ≡ table f i
+take-table f n i h =
+    as-table f i (f 0) (take i (table f n)) (simp (length-take, length-table) (omega arith))
+    (λ j k. getD-take i (table f n) j (f 0) k ∙ getD-table f n j (f 0) (omega arith))
+
+pub replicate-table {ℓ} : {A : Type ℓ} (a : A) (n : ℕ) → replicate n a ≡ table (λ i. a) n
+replicate-table a n = as-table (λ i. a) n a (replicate n a) (length-replicate n a) (λ i h. getD-replicate n i a a h)
+
+pub table-cong {ℓ} : {A : Type ℓ} (f g : ℕ → A) (n : ℕ) → ((i : ℕ) → i < n → f i ≡ g i) → table f n ≡ table g n
+unfolding table
+table-cong f g zero h = refl
+table-cong f g (suc n) h = rw (h n (omega arith), table-cong f g n (λ i l. h i (omega arith)))
+
+module _ {A B : Type 0} (g : A → B) where
+  pub map-snoc : (l : List A) (a : A) → map g (l ++ (a ∷ [])) ≡ map g l ++ (g a ∷ [])
+  map-snoc [] a = refl
+  map-snoc (b ∷ l) a = rw (map-snoc l a)
+
+  pub map-table : (f : ℕ → A) (n : ℕ) → map g (table f n) ≡ table (λ i. g (f i)) n
+  unfolding table
+  map-table f zero = refl
+  map-table f (suc n) = rw (map-snoc (table f n) (f n), map-table f n)
+
+-- ---- an array that is filled by rising position
+module _ {A : Type 0} (f : ℕ → A) (d : A) where
+  -- the first i of n entries are those of the table, the others still d
+  unfoldable pub filled : ℕ → ℕ → List A
+  filled n i = table (λ j. cond (ltb j i) (f j) d) n
+
+  pub filled-none : (n : ℕ) → table (λ j. d) n ≡ filled n 0
+  unfolding filled
+  filled-none n = table-cong _ _ n (λ j h. rw (le-ltb j 0 (omega arith)))
+
+  pub filled-more : (n i : ℕ) → i < n → set (filled n i) i (f i) ≡ filled n (i + 1)
+  unfolding filled
+  filled-more n i h = as-table _ n d (set (filled n i) i (f i)) (length-set (filled n i) i (f i) ∙ length-table _ n) (λ j k. go j k (ℕ-discrete j i))
+    where
+      go : (j : ℕ) → j < n → Dec (j ≡ i) → getD (set (filled n i) i (f i)) j d ≡ cond (ltb j (i + 1)) (f j) d
+      go j k (yes e) = rw (e, lt-ltb i (i + 1) (omega arith)) (getD-set-same (filled n i) i (f i) d (rw (length-table (λ j. cond (ltb j i) (f j) d) n) h))
+      go j k (no m) =
+          getD-set-other (filled n i) i j (f i) d m
+          ∙ getD-table _ n j d k
+          ∙ ap (λ b. cond b (f j) d) (same (ltb j i) refl)
+        where
+          same : (b : Bool) → ltb j i ≡ b → ltb j i ≡ ltb j (i + 1)
+          same true e = e ∙ sym (lt-ltb j (i + 1) (let l = ltb-true j i e in omega arith))
+          same false e = e ∙ sym (le-ltb j (i + 1) (let l = ltb-false j i e in omega arith))
+
+  -- the others are d in the table too
+  pub filled-all : (n i : ℕ) → ((j : ℕ) → j < n → i ≤ j → f j ≡ d) → filled n i ≡ table f n
+  unfolding filled
+  filled-all n i h = table-cong _ _ n (λ j k. go j k (ltb j i) refl)
+    where
+      go : (j : ℕ) → j < n → (b : Bool) → ltb j i ≡ b → cond (ltb j i) (f j) d ≡ f j
+      go j k true e = rw e
+      go j k false e = rw e (sym (h j k (ltb-false j i e)))
