@@ -1,11 +1,20 @@
 // Translated and changed from src/network/topology.rs of oxigrid. Copyright 2024-2026 COOLJAPAN OU (Team Kitasan), Apache License 2.0.
 ghost use mathlib.Core.Path.{_≡_};
+ghost use lib.ListN.{take};
+ghost use Rattle.network.specs.Lookups.{busIndex};
 ghost use Rattle.network.specs.Records.{emptyNetwork};
 use crate::branch::Branch;
 use crate::bus::Bus;
 use crate::bus::Power;
 use crate::switch::ReconfigAlgorithm;
 use crate::switch::Switch;
+use numbers::at_most;
+
+// Where a bus stands in the list.
+pub enum BusIndex {
+    At(usize),
+    NotFound,
+}
 
 // A feeder and what is asked of it. Only the first `bus_count` buses are listed, and so for branches and switches.
 pub struct PowerNetwork {
@@ -72,5 +81,26 @@ impl PowerNetwork {
         ensures { λ r. ⌜ r ≡ self .«bus_count» ⌝ }
     {
         self.bus_count as usize
+    }
+
+    pub fn branch_count(self) -> usize
+        ensures { λ r. ⌜ r ≡ self .«branch_count» ⌝ }
+    {
+        self.branch_count as usize
+    }
+
+    // The first position of a listed bus with this id.
+    pub fn bus_index(self, bus_id: u16) -> BusIndex
+        ensures { λ r. ⌜ r ≡ busIndex (take (self .«bus_count») (self .buses)) «bus_id» ⌝ }
+    {
+        let count = at_most(self.bus_count as usize, 256);
+        let mut i: usize = 0;
+        while i < count {
+            if self.buses[i].id == bus_id {
+                return BusIndex::At(i);
+            }
+            i += 1;
+        }
+        BusIndex::NotFound
     }
 }

@@ -1,0 +1,48 @@
+-- Answers taken apart: what an accepted answer says of its parts.
+use mathlib.Core.Path.{_≡_, refl, sym, subst}
+use mathlib.Core.Logic.{_↔_}
+use mathlib.Core.Bool.{Bool, true, false, _||_, true≢false}
+use mathlib.Core.List.{List, [], _∷_}
+use Prim.Native.Nat.{ℕ}
+use Rattle.network.specs.declared.error.Verdict.{Verdict}
+use Rattle.network.specs.declared.error.Verdict.the-variants.{Accepted, Refused}
+use Rattle.network.specs.Answers.{Answer, accepted, refused, answerOf, _andThen_, Fault, _if_, judge}
+
+abbrev IsAccepted : {A : Type 0} → Answer A → Type 0
+IsAccepted (accepted a) = Unit {0}
+IsAccepted (refused n p) = ⊥
+
+pub no-refusal : {A B : Type 0} {n p : ℕ} {a : A} → _≡_ {A = Answer A} (refused n p) (accepted a) → B
+no-refusal e = absurd (subst IsAccepted (sym e) tt)
+
+-- no condition of the list is met
+abbrev pub Passes : List Fault → Type 0
+Passes [] = Unit {0}
+Passes ((n if b) ∷ fs) = (b ≡ false) × Passes fs
+
+pub judge-iff : (fs : List Fault) (p : ℕ) → (judge fs p ≡ accepted tt) ↔ Passes fs
+unfolding judge
+judge-iff [] p = (λ e. tt, λ e. refl)
+judge-iff ((n if true) ∷ fs) p = (λ e. no-refusal e, λ h. absurd (true≢false (h .0)))
+judge-iff ((n if false) ∷ fs) p = (λ e. (refl, judge-iff fs p .0 e), λ h. judge-iff fs p .1 (h .1))
+
+pub then-iff : (v w : Answer (Unit {0})) → ((v andThen w) ≡ accepted tt) ↔ ((v ≡ accepted tt) × (w ≡ accepted tt))
+unfolding _andThen_
+then-iff (accepted u) w = (λ e. (refl, e), λ h. h .1)
+then-iff (refused n p) w = (λ e. no-refusal e, λ h. no-refusal (h .0))
+
+-- a verdict in the place of the first answer
+pub refused-then : (v : Verdict) (a b : Answer (Unit {0})) (n p : ℕ) → v ≡ Refused n p → answerOf v ≡ a → answerOf v ≡ (a andThen b)
+unfolding _andThen_
+refused-then v a b n p r e = rw (← e, r)
+
+pub accepted-then : (v : Verdict) (a b : Answer (Unit {0})) → v ≡ Accepted → answerOf v ≡ a → b ≡ (a andThen b)
+unfolding _andThen_
+accepted-then v a b r e = rw (← e, r)
+
+pub neither : (a b : Bool) → (a || b) ≡ false → (a ≡ false) × (b ≡ false)
+neither true b e = absurd (true≢false e)
+neither false b e = (refl, e)
+
+pub or-none : (a b : Bool) → a ≡ false → b ≡ false → (a || b) ≡ false
+or-none a b p q = rw (p, q)

@@ -1,0 +1,313 @@
+-- The check of records finds nothing exactly where the network is inside document 01's limits.
+use mathlib.Core.Path.{_≡_, refl, sym, ap, _∙_}
+use mathlib.Core.Logic.{_⊎_, inl, inr, _↔_}
+use mathlib.Core.Bool.{Bool, true, false, cond, not, _&&_, _||_, false≢true, true≢false}
+use mathlib.Core.List.{List, [], _∷_, _++_, map, Memᴰ·append-left, Memᴰ·append-right, List·Memᴰ·append-cases, List·Memᴰ·eq-of-singleton, List·Memᴰ, List·Memᴰ·head, List·Memᴰ·tail, List·Memᴰ·not-nil, List·Memᴰ·cases-cons, Memᴰ·cast}
+use Prim.Native.Nat.{ℕ, suc, _+_, _≤_, _<_}
+use native.Mathlib.Omega.{arith}
+use lib.Dec.{leb, ltb, eqb}
+use lib.ListN.{length}
+use borrow.Author.Tests.{ltb-false, le-ltb, leb-false, lt-leb, eqb-true, eq-eqb, not-false}
+use Rattle.numbers.specs.TableLaws.{map-snoc}
+use Rattle.network.specs.declared.bus.Bus.{Bus}
+use Rattle.network.specs.declared.branch.Branch.{Branch}
+use Rattle.network.specs.declared.switch.Switch.{Switch}
+use Rattle.network.specs.Records.{Network}
+use Rattle.network.specs.Answers.{accepted, Fault, judge}
+use Rattle.network.specs.AnswerLaws.{Passes, judge-iff, then-iff, neither, or-none}
+use Rattle.network.specs.Faults.{Head, okBase, okLoad, okR, among, busId, switchId, on, ties, methodByte, headFaults, busFaults, branchFaults, switchFaults}
+use Rattle.network.specs.FaultLaws.{ties-more}
+use Rattle.network.specs.Check.{headOf, checkRun, checkRecords}
+use Rattle.network.specs.Inside.{Each, Distinct, Listed, Inside}
+
+-- ---- Q holds of each of the list, with those before it
+abbrev pub Through : {A : Type 0} → (List A → A → Type 0) → List A → List A → Type 0
+Through Q before [] = Unit {0}
+Through Q before (a ∷ rest) = Q before a × Through Q (before ++ (a ∷ [])) rest
+
+run-iff : {A : Type 0} (faults : List A → A → List Fault) (before : List A) (p : ℕ) (l : List A)
+    → (checkRun faults before p l ≡ accepted tt) ↔ Through (λ b a. Passes (faults b a)) before l
+unfolding checkRun
+run-iff faults before p [] = (λ e. tt, λ h. refl)
+run-iff faults before p (a ∷ rest) =
+    let j = judge-iff (faults before a) p in
+    let r = run-iff faults (before ++ (a ∷ [])) (suc p) rest in
+    let t = then-iff (judge (faults before a) p) (checkRun faults (before ++ (a ∷ [])) (suc p) rest) in
+    (λ e. (j .0 (t .0 e .0), r .0 (t .0 e .1)), λ h. t .1 (j .1 (h .0), r .1 (h .1)))
+
+module _ {A : Type 0} where
+  weaken : (Q R : List A → A → Type 0) (before l : List A) → ((b : List A) (a : A) → Q b a → R b a) → Through Q before l → Through R before l
+  weaken Q R before [] f h = tt
+  weaken Q R before (a ∷ rest) f h = (f before a (h .0), weaken Q R (before ++ (a ∷ [])) rest f (h .1))
+
+  zip : (Q R : List A → A → Type 0) (before l : List A) → Through Q before l → Through R before l → Through (λ b a. Q b a × R b a) before l
+  zip Q R before [] h k = tt
+  zip Q R before (a ∷ rest) h k = ((h .0, k .0), zip Q R (before ++ (a ∷ [])) rest (h .1) (k .1))
+
+  -- where those before play no part
+  through-each : (P : A → Type 0) (before l : List A) → Through (λ b a. P a) before l → Each P l
+  through-each P before [] h = tt
+  through-each P before (a ∷ rest) h = (h .0, through-each P (before ++ (a ∷ [])) rest (h .1))
+
+  each-through : (P : A → Type 0) (before l : List A) → Each P l → Through (λ b a. P a) before l
+  each-through P before [] h = tt
+  each-through P before (a ∷ rest) h = (h .0, each-through P (before ++ (a ∷ [])) rest (h .1))
+
+  each-map : (P Q : A → Type 0) (l : List A) → ((a : A) → P a → Q a) → Each P l → Each Q l
+  each-map P Q [] f h = tt
+  each-map P Q (a ∷ rest) f h = (f a (h .0), each-map P Q rest f (h .1))
+
+-- ---- membership
+among-mem : (x : ℕ) (ys : List ℕ) → among x ys ≡ true → List·Memᴰ x ys
+unfolding among
+among-mem x [] e = absurd (false≢true e)
+among-mem x (y ∷ ys) e = go (eqb x y) refl e (among-mem x ys)
+  where
+    go : (b : Bool) → eqb x y ≡ b → (b || among x ys) ≡ true → (among x ys ≡ true → List·Memᴰ x ys) → List·Memᴰ x (y ∷ ys)
+    go true q e ih = List·Memᴰ·head (eqb-true x y q)
+    go false q e ih = List·Memᴰ·tail (ih e)
+
+mem-among : (x : ℕ) (ys : List ℕ) → List·Memᴰ x ys → among x ys ≡ true
+unfolding among
+mem-among x [] m = absurd (List·Memᴰ·not-nil m)
+mem-among x (y ∷ ys) m = go (List·Memᴰ·cases-cons m) (mem-among x ys)
+  where
+    go : (x ≡ y) ⊎ List·Memᴰ x ys → (List·Memᴰ x ys → among x ys ≡ true) → (eqb x y || among x ys) ≡ true
+    go (inl q) ih = rw (eq-eqb x y q)
+    go (inr h) ih = last (eqb x y) (ih h)
+      where
+        last : (b : Bool) → among x ys ≡ true → (b || among x ys) ≡ true
+        last true e = refl
+        last false e = e
+
+not-mem : (x : ℕ) (ys : List ℕ) → among x ys ≡ false → List·Memᴰ x ys → ⊥
+not-mem x ys e m = true≢false (sym (mem-among x ys m) ∙ e)
+
+not-among : (x : ℕ) (ys : List ℕ) → (List·Memᴰ x ys → ⊥) → among x ys ≡ false
+not-among x ys n = go (among x ys) refl
+  where
+    go : (b : Bool) → among x ys ≡ b → among x ys ≡ false
+    go true e = absurd (n (among-mem x ys e))
+    go false e = e
+
+-- ---- none twice: each is new to those before it
+module _ {A : Type 0} (f : A → ℕ) where
+  abbrev pub New : List A → A → Type 0
+  New before a = among (f a) (map f before) ≡ false
+
+  -- no key of the list is a key of those before
+  Apart : List A → List A → Type 0
+  Apart before l = (x : ℕ) → List·Memᴰ x (map f l) → List·Memᴰ x (map f before) → ⊥
+
+  new-distinct : (before l : List A) → Through New before l → Distinct (map f l) × Apart before l
+  unfolding Apart
+  new-distinct before [] h = (tt, λ x m k. List·Memᴰ·not-nil m)
+  new-distinct before (a ∷ rest) h =
+      let ih = new-distinct (before ++ (a ∷ [])) rest (h .1) in
+      let apart : (x : ℕ) → List·Memᴰ x (map f rest) → List·Memᴰ x (map f before ++ (f a ∷ [])) → ⊥ = rw (map-snoc f before a) at (ih .1) in (
+        (λ m. apart (f a) m (Memᴰ·append-right (map f before) (List·Memᴰ·head refl)), ih .0),
+        λ x m k. go x k (List·Memᴰ·cases-cons m) (λ n. apart x n (Memᴰ·append-left (f a ∷ []) k)),
+      )
+    where
+      go : (x : ℕ) → List·Memᴰ x (map f before) → (x ≡ f a) ⊎ List·Memᴰ x (map f rest) → (List·Memᴰ x (map f rest) → ⊥) → ⊥
+      go x k (inl q) n = not-mem (f a) (map f before) (h .0) (Memᴰ·cast (sym q) k)
+      go x k (inr m) n = n m
+
+  distinct-new : (before l : List A) → Distinct (map f l) → Apart before l → Through New before l
+  unfolding Apart
+  distinct-new before [] d h = tt
+  distinct-new before (a ∷ rest) d h = (
+    not-among (f a) (map f before) (h (f a) (List·Memᴰ·head refl)),
+    distinct-new (before ++ (a ∷ [])) rest (d .1) (rw (map-snoc f before a) (λ x m k. go x m (List·Memᴰ·append-cases (map f before) k))),
+  )
+    where
+      go : (x : ℕ) → List·Memᴰ x (map f rest) → List·Memᴰ x (map f before) ⊎ List·Memᴰ x (f a ∷ []) → ⊥
+      go x m (inl k) = h x (List·Memᴰ·tail m) k
+      go x m (inr k) = d .0 (Memᴰ·cast (sym (List·Memᴰ·eq-of-singleton k)) m)
+
+  first-apart : (l : List A) → Apart [] l
+  unfolding Apart
+  first-apart l x m k = List·Memᴰ·not-nil k
+
+-- ---- at most ten ties
+abbrev Few : Head → List Switch → Switch → Type 0
+Few h before s = (eqb (methodByte (h .algorithm)) 2 && (s .«normally_open» && leb 10 (ties before))) ≡ false
+
+tie-few : (h : Head) (before : List Switch) (s : Switch) → Few h before s → methodByte (h .algorithm) ≡ 2 → s .«normally_open» ≡ true → ties before < 10
+tie-few h before s f m e = leb-false 10 (ties before) (rw (eq-eqb (methodByte (h .algorithm)) 2 m, e) at f)
+
+few-ties : (h : Head) (before l : List Switch) → Through (Few h) before l → methodByte (h .algorithm) ≡ 2 → ties before ≤ 10 → ties before + ties l ≤ 10
+unfolding ties
+few-ties h before [] t m b = omega arith
+few-ties h before (s ∷ rest) t m b = go (s .«normally_open») refl (few-ties h (before ++ (s ∷ [])) rest (t .1) m)
+  where
+    go : (k : Bool) → s .«normally_open» ≡ k → (ties (before ++ (s ∷ [])) ≤ 10 → ties (before ++ (s ∷ [])) + ties rest ≤ 10) → ties before + cond k (suc (ties rest)) (ties rest) ≤ 10
+    go true e ih =
+        let l : ties before < 10 = tie-few h before s (t .0) m e in
+        let i : suc (ties before) ≤ 10 → suc (ties before) + ties rest ≤ 10 = rw (ties-more before s, e) at ih in
+        let j = i l in omega arith
+    go false e ih = let i : ties before ≤ 10 → ties before + ties rest ≤ 10 = rw (ties-more before s, e) at ih in i b
+
+ties-few : (h : Head) (before l : List Switch) → (methodByte (h .algorithm) ≡ 2 → ties before + ties l ≤ 10) → Through (Few h) before l
+unfolding ties
+ties-few h before [] t = tt
+ties-few h before (s ∷ rest) t = (one (eqb (methodByte (h .algorithm)) 2) (s .«normally_open») refl refl, ties-few h (before ++ (s ∷ [])) rest (λ m. rw (ties-more before s) (more (s .«normally_open») refl m)))
+  where
+    one : (m k : Bool) → eqb (methodByte (h .algorithm)) 2 ≡ m → s .«normally_open» ≡ k → (m && (k && leb 10 (ties before))) ≡ false
+    one true true p q =
+        let j : ties before + suc (ties rest) ≤ 10 = rw q at (t (eqb-true (methodByte (h .algorithm)) 2 p)) in
+        lt-leb 10 (ties before) (omega arith)
+    one true false p q = refl
+    one false k p q = refl
+
+    more : (k : Bool) → s .«normally_open» ≡ k → methodByte (h .algorithm) ≡ 2 → cond k (suc (ties before)) (ties before) + ties rest ≤ 10
+    more true q m = let j : ties before + suc (ties rest) ≤ 10 = rw q at (t m) in omega arith
+    more false q m = rw q at (t m)
+
+-- ---- the four kinds
+-- what the head's conditions leave
+pub record HeadInside (h : Head) : Type 0 where
+  pub iterations : h .iterations ≤ 1000
+  pub counts : (h .buses ≤ 256) × (h .branches ≤ 512) × (h .switches ≤ 512)
+  pub base : okBase (h .base) ≡ true
+
+pub head-iff : (h : Head) → Passes (headFaults h) ↔ HeadInside h
+unfolding headFaults
+head-iff h = (left, right)
+  where
+    left : Passes (headFaults h) → HeadInside h
+    left p =
+        let c = neither (ltb 256 (h .buses) || ltb 512 (h .branches)) (ltb 512 (h .switches)) (p .1 .0) in
+        let d = neither (ltb 256 (h .buses)) (ltb 512 (h .branches)) (c .0) in
+        record {
+          iterations = ltb-false 1000 (h .iterations) (p .0);
+          counts = (ltb-false 256 (h .buses) (d .0), ltb-false 512 (h .branches) (d .1), ltb-false 512 (h .switches) (c .1));
+          base = not-false (okBase (h .base)) (p .1 .1 .0);
+        }
+
+    right : HeadInside h → Passes (headFaults h)
+    right i = (
+      le-ltb 1000 (h .iterations) (i .iterations),
+      (
+        or-none _ _ (or-none _ _ (le-ltb 256 (h .buses) (i .counts .0)) (le-ltb 512 (h .branches) (i .counts .1))) (le-ltb 512 (h .switches) (i .counts .2)),
+        (ap not (i .base), tt),
+      ),
+    )
+
+buses-iff : (l : List Bus) → Through (λ b a. Passes (busFaults b a)) [] l ↔ (Each (λ b. okLoad (b .pd .0) ≡ true) l × Distinct (map busId l))
+unfolding busFaults
+buses-iff l = (left, right)
+  where
+    left : Through (λ b a. Passes (busFaults b a)) [] l → Each (λ b. okLoad (b .pd .0) ≡ true) l × Distinct (map busId l)
+    left t = (
+      through-each (λ b. okLoad (b .pd .0) ≡ true) [] l (weaken _ _ [] l (λ e a p. not-false (okLoad (a .pd .0)) (p .0)) t),
+      new-distinct busId [] l (weaken _ (New busId) [] l (λ e a p. p .1 .0) t) .0,
+    )
+
+    right : Each (λ b. okLoad (b .pd .0) ≡ true) l × Distinct (map busId l) → Through (λ b a. Passes (busFaults b a)) [] l
+    right i =
+        weaken _ _ [] l (λ e a p. (ap not (p .0), (p .1, tt)))
+        (zip (λ e a. okLoad (a .pd .0) ≡ true) (New busId) [] l (each-through (λ b. okLoad (b .pd .0) ≡ true) [] l (i .0)) (distinct-new busId [] l (i .1) (first-apart busId l)))
+
+-- what a branch's conditions leave
+record BranchInside (ids : List ℕ) (b : Branch) : Type 0 where
+  resistance : okR (b .r) ≡ true
+  from-listed : List·Memᴰ (b .«from_bus») ids
+  to-listed : List·Memᴰ (b .«to_bus») ids
+
+branch-iff : (buses : List Bus) (b : Branch) → Passes (branchFaults buses b) ↔ BranchInside (map busId buses) b
+unfolding branchFaults
+branch-iff buses b = (left, right)
+  where
+    left : Passes (branchFaults buses b) → BranchInside (map busId buses) b
+    left p =
+        let n = neither (not (among (b .«from_bus») (map busId buses))) (not (among (b .«to_bus») (map busId buses))) (p .1 .0) in
+        record {
+          resistance = not-false (okR (b .r)) (p .0);
+          from-listed = among-mem (b .«from_bus») (map busId buses) (not-false _ (n .0));
+          to-listed = among-mem (b .«to_bus») (map busId buses) (not-false _ (n .1));
+        }
+
+    right : BranchInside (map busId buses) b → Passes (branchFaults buses b)
+    right i = (
+      ap not (i .resistance),
+      (or-none _ _ (ap not (mem-among (b .«from_bus») (map busId buses) (i .from-listed))) (ap not (mem-among (b .«to_bus») (map busId buses) (i .to-listed))), tt),
+    )
+
+branches-iff : (buses : List Bus) (l : List Branch) → Through (λ b a. Passes (branchFaults buses a)) [] l ↔ Each (BranchInside (map busId buses)) l
+branches-iff buses l = (
+  λ t. through-each (BranchInside (map busId buses)) [] l (weaken (λ b a. Passes (branchFaults buses a)) (λ e a. BranchInside (map busId buses) a) [] l (λ e a p. branch-iff buses a .0 p) t),
+  λ i. weaken (λ e a. BranchInside (map busId buses) a) (λ b a. Passes (branchFaults buses a)) [] l (λ e a p. branch-iff buses a .1 p) (each-through (BranchInside (map busId buses)) [] l i),
+)
+
+record SwitchesInside (h : Head) (l : List Switch) : Type 0 where
+  positions : Each (λ s. s .«branch_idx» < h .branches) l
+  ids : Distinct (map switchId l)
+  alone : Distinct (map on l)
+  few : methodByte (h .algorithm) ≡ 2 → ties l ≤ 10
+
+switches-iff : (h : Head) (l : List Switch) → Through (λ b a. Passes (switchFaults h b a)) [] l ↔ SwitchesInside h l
+unfolding switchFaults ties
+switches-iff h l = (left, right)
+  where
+    left : Through (λ b a. Passes (switchFaults h b a)) [] l → SwitchesInside h l
+    left t = record {
+      positions = through-each (λ s. s .«branch_idx» < h .branches) [] l (weaken _ _ [] l (λ e a p. leb-false (h .branches) (a .«branch_idx») (p .0)) t);
+      ids = new-distinct switchId [] l (weaken _ (New switchId) [] l (λ e a p. p .1 .0) t) .0;
+      alone = new-distinct on [] l (weaken _ (New on) [] l (λ e a p. p .1 .1 .0) t) .0;
+      few = λ m. let z : 0 + ties l ≤ 10 = few-ties h [] l (weaken _ (Few h) [] l (λ e a p. p .1 .1 .1 .0) t) m (omega arith) in omega arith;
+    }
+
+    right : SwitchesInside h l → Through (λ b a. Passes (switchFaults h b a)) [] l
+    right i =
+        let t₁ = each-through (λ (s : Switch). s .«branch_idx» < h .branches) [] l (i .positions) in
+        let t₂ = distinct-new switchId [] l (i .ids) (first-apart switchId l) in
+        let t₃ = distinct-new on [] l (i .alone) (first-apart on l) in
+        let t₄ = ties-few h [] l (λ m. let z = i .few m in omega arith) in
+        weaken _ _ [] l
+        (λ e a p. (lt-leb (h .branches) (a .«branch_idx») (p .0), (p .1 .0, (p .1 .1 .0, (p .1 .1 .1, tt)))))
+        (zip _ _ [] l t₁ (zip (New switchId) _ [] l t₂ (zip (New on) (Few h) [] l t₃ t₄)))
+
+-- ---- the whole network
+pub check-inside : (N : Network) → (checkRecords N ≡ accepted tt) ↔ Inside N
+unfolding checkRecords headOf
+check-inside N = (left, right)
+  where
+    h : Head
+    h = headOf N
+
+    left : checkRecords N ≡ accepted tt → Inside N
+    left e =
+        let t₀ = then-iff (judge (headFaults h) 1) _ .0 e in
+        let t₁ = then-iff (checkRun busFaults [] 2 (N .buses)) _ .0 (t₀ .1) in
+        let t₂ = then-iff (checkRun (λ before. branchFaults (N .buses)) [] (2 + h .buses) (N .branches)) _ .0 (t₁ .1) in
+        let i = head-iff h .0 (judge-iff (headFaults h) 1 .0 (t₀ .0)) in
+        let b = buses-iff (N .buses) .0 (run-iff busFaults [] 2 (N .buses) .0 (t₁ .0)) in
+        let r = branches-iff (N .buses) (N .branches) .0 (run-iff (λ before. branchFaults (N .buses)) [] (2 + h .buses) (N .branches) .0 (t₂ .0)) in
+        let s = switches-iff h (N .switches) .0 (run-iff (switchFaults h) [] (2 + h .buses + h .branches) (N .switches) .0 (t₂ .1)) in
+        record {
+          iterations = i .iterations;
+          counts = i .counts;
+          base = i .base;
+          loads = b .0;
+          bus-ids = b .1;
+          resistances = each-map _ _ (N .branches) (λ a p. p .resistance) r;
+          ends = each-map _ _ (N .branches) (λ a p. (p .from-listed, p .to-listed)) r;
+          positions = s .positions;
+          switch-ids = s .ids;
+          alone = s .alone;
+          few-ties = s .few;
+        }
+
+    right : Inside N → checkRecords N ≡ accepted tt
+    right i =
+        let v₀ = judge-iff (headFaults h) 1 .1 (head-iff h .1 (record { iterations = i .iterations; counts = i .counts; base = i .base })) in
+        let v₁ = run-iff busFaults [] 2 (N .buses) .1 (buses-iff (N .buses) .1 (i .loads, i .bus-ids)) in
+        let ends : Each (BranchInside (map busId (N .buses))) (N .branches) = each-zip (N .branches) (i .resistances) (i .ends) in
+        let v₂ = run-iff (λ before. branchFaults (N .buses)) [] (2 + h .buses) (N .branches) .1 (branches-iff (N .buses) (N .branches) .1 ends) in
+        let v₃ = run-iff (switchFaults h) [] (2 + h .buses + h .branches) (N .switches) .1 (switches-iff h (N .switches) .1 (record { positions = i .positions; ids = i .switch-ids; alone = i .alone; few = i .few-ties })) in
+        then-iff (judge (headFaults h) 1) _ .1 (v₀, then-iff (checkRun busFaults [] 2 (N .buses)) _ .1 (v₁, then-iff (checkRun (λ before. branchFaults (N .buses)) [] (2 + h .buses) (N .branches)) _ .1 (v₂, v₃)))
+      where
+        each-zip : (l : List Branch) → Each (λ b. okR (b .r) ≡ true) l → Each (λ b. Listed N (b .«from_bus») × Listed N (b .«to_bus»)) l → Each (BranchInside (map busId (N .buses))) l
+        each-zip [] q r = tt
+        each-zip (b ∷ rest) q r = (record { resistance = q .0; from-listed = r .0 .0; to-listed = r .0 .1 }, each-zip rest (q .1) (r .1))

@@ -1,0 +1,65 @@
+-- A lookup by rising position: what is left to look at from position i on.
+use mathlib.Core.Path.{_≡_, refl, sym, ap, _∙_}
+use mathlib.Core.Bool.{cond}
+use mathlib.Core.List.{List, map}
+use Prim.Native.Nat.{ℕ, suc, _+_, _≤_, _<_}
+use native.Mathlib.Nat.{add-zero, zero-add}
+use native.Mathlib.Numerals.{add-one}
+use native.Mathlib.Omega.{arith}
+use lib.Dec.{eqb, ltb}
+use lib.ListN.{length, getD, take, drop, length-take, length-map, drop-of-length-le, List·getD-map}
+use lib.Seq.{drop-cons, getD-take}
+use borrow.Author.Tests.{eq-eqb, ne-eqb, lt-ltb, le-ltb}
+use Rattle.numbers.specs.Choose.{indexOf}
+use Rattle.numbers.specs.UpTo.{table}
+use Rattle.numbers.specs.TableLaws.{as-table}
+use Rattle.network.specs.declared.bus.Bus.{Bus}
+use Rattle.network.specs.declared.topology.BusIndex.{BusIndex}
+use Rattle.network.specs.declared.topology.BusIndex.the-variants.{At, NotFound}
+use Rattle.network.specs.declared.topology.PowerNetwork.{PowerNetwork}
+use Rattle.network.specs.Faults.{busId}
+use Rattle.network.specs.Lookups.{busIndex}
+use Rattle.network.specs.Records.{noBus, recordsOf}
+
+module _ (x : ℕ) (l : List ℕ) where
+  -- x stands at none of the first i positions
+  unfoldable pub Unseen : ℕ → Type 0
+  Unseen i = indexOf x l ≡ i + indexOf x (drop i l)
+
+  pub unseen-none : Unseen 0
+  unfolding Unseen
+  unseen-none = sym (zero-add (indexOf x l))
+
+  module _ (i : ℕ) (u : Unseen i) where
+    pub unseen-more : i < length l → (getD l i 0 ≡ x → ⊥) → Unseen (i + 1)
+    unfolding Unseen indexOf
+    unseen-more h n =
+        let e : indexOf x (drop i l) ≡ suc (indexOf x (drop (i + 1) l)) = rw (drop-cons l i 0 h, ne-eqb x (getD l i 0) (λ q. n (sym q)), add-one) in
+        omega (arith, u, e)
+
+    pub seen-here : i < length l → getD l i 0 ≡ x → indexOf x l ≡ i
+    unfolding Unseen indexOf
+    seen-here h q = u ∙ rw (drop-cons l i 0 h, eq-eqb x (getD l i 0) (sym q)) (add-zero i)
+
+    pub seen-nowhere : length l ≤ i → indexOf x l ≡ i
+    unfolding Unseen indexOf
+    seen-nowhere h = u ∙ rw (drop-of-length-le l {i = i} h) (add-zero i)
+
+pub found-at : (buses : List Bus) (id i : ℕ) → i < length buses → indexOf id (map busId buses) ≡ i → At i ≡ busIndex buses id
+unfolding busIndex
+found-at buses id i h e = rw (e, lt-ltb i (length buses) h)
+
+pub not-found : (buses : List Bus) (id i : ℕ) → length buses ≤ i → indexOf id (map busId buses) ≡ i → NotFound ≡ busIndex buses id
+unfolding busIndex
+not-found buses id i h e = rw (e, le-ltb i (length buses) h)
+
+-- the id at a position of the listed buses
+pub id-at : (count : ℕ) (buses : List Bus) (i : ℕ) → i < count → getD (map busId (take count buses)) i 0 ≡ getD buses i noBus .id
+id-at count buses i h = List·getD-map busId (take count buses) i noBus ∙ ap busId (getD-take count buses i noBus h)
+
+-- inside the limit these are the listed records
+pub listed-buses : (n : PowerNetwork) → n .«bus_count» ≤ length (n .buses) → take (n .«bus_count») (n .buses) ≡ recordsOf n .buses
+unfolding recordsOf
+listed-buses n h =
+    as-table _ (n .«bus_count») noBus (take (n .«bus_count») (n .buses)) (length-take (n .«bus_count») (n .buses) ∙ omega arith)
+    (λ i k. getD-take (n .«bus_count») (n .buses) i noBus k)

@@ -1,0 +1,15 @@
+-- The lookups of a feeder's records.
+use mathlib.Core.Bool.{cond}
+use mathlib.Core.List.{List, map}
+use Prim.Native.Nat.{ℕ}
+use lib.Dec.{ltb}
+use lib.ListN.{length}
+use Rattle.numbers.specs.Choose.{indexOf}
+use Rattle.network.specs.declared.bus.Bus.{Bus}
+use Rattle.network.specs.declared.topology.BusIndex.{BusIndex}
+use Rattle.network.specs.declared.topology.BusIndex.the-variants.{At, NotFound}
+use Rattle.network.specs.Faults.{busId}
+
+-- the first position of a bus with this id
+unfoldable pub busIndex : List Bus → ℕ → BusIndex
+busIndex buses id = let i = indexOf id (map busId buses) in cond (ltb i (length buses)) (At i) NotFound
