@@ -1,0 +1,6 @@
+// Feeders as graphs.
+pub mod path;
+pub mod radial;
+pub mod rows;
+pub mod walk;
+pub mod walks;

@@ -1,0 +1,46 @@
+// Document 01's radiality.
+ghost use mathlib.Core.Path.{_≡_};
+ghost use Prim.Native.Nat.{_<_, min};
+ghost use Rattle.numbers.specs.Counts.{count};
+ghost use Rattle.graph.specs.Rows.{flag, rowRadial};
+use crate::rows::Graph;
+use crate::walk::walk;
+use numbers::wide16;
+
+// How many of the branches that an array has a flag for there are.
+fn flagged(branch_count: u16) -> u16
+    ensures { λ r. ⌜ r ≡ min «branch_count» 512 ⌝ }
+{
+    if branch_count < 512 { branch_count } else { 512 }
+}
+
+// How many branches are live.
+fn live_count(live: [bool; 512], branch_count: u16) -> u16
+    ensures { λ r. ⌜ r ≡ count (flag live) «branch_count» ⌝ }
+{
+    let n = flagged(branch_count);
+    let mut total = 0u16;
+    let mut k = 0u16;
+    while k < n {
+        let at = wide16(k);
+        if live[at] {
+            total += 1;
+        }
+        k += 1;
+    }
+    total
+}
+
+// True for zero buses; else one live branch less than buses, and all buses reached.
+pub fn is_radial(graph: Graph, live: [bool; 512]) -> bool
+    ensures { λ r. ⌜ r ≡ rowRadial graph live ⌝ }
+{
+    let n = graph.bus_count;
+    if n == 0 {
+        return true;
+    }
+    if live_count(live, graph.branch_count) != n - 1 {
+        return false;
+    }
+    walk(graph, live, 0, 0).count == n
+}

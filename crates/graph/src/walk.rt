@@ -1,0 +1,102 @@
+// The breadth-first walk, by the rows.
+ghost use mathlib.Core.Path.{_≡_};
+ghost use mathlib.Core.List.{List};
+ghost use Prim.Native.Nat.{_<_};
+ghost use lib.ListN.{length};
+ghost use Rattle.graph.specs.Walk.{Visit, walkBy, enterAll};
+ghost use Rattle.graph.specs.Rows.{rowNeighbours, rowFrom, leads, walked};
+ghost use Rattle.graph.specs.Walking.{Walking, enterLive};
+use crate::rows::Graph;
+use crate::walks::Walk;
+use numbers::wide16;
+use numbers::wide8;
+
+// Bus x is put behind those reached, with branch k, unless the branch is not live or the bus is barred or reached already.
+fn enter(
+    seen: &mut [bool; 256],
+    bus: &mut [u8; 256],
+    by: &mut [u16; 256],
+    count: u16,
+    barred: u8,
+    live: bool,
+    x: u8,
+    k: u16,
+) -> u16
+    requires { ⌜ ((o : List Visit) × Walking o (now seen) (now bus) (now by) count) ⌝ }
+    ensures { λ r. ⌜ ((o : List Visit) → Walking o (now (seen .entry)) (now (bus .entry)) (now (by .entry)) count
+        → Walking (enterLive live barred o (record { bus = x; by = k })) (now (seen .exit)) (now (bus .exit)) (now (by .exit)) r) ⌝ }
+{
+    if !live {
+        return count;
+    }
+    if x == barred {
+        return count;
+    }
+    let at = wide8(x);
+    if seen[at] {
+        return count;
+    }
+    seen[at] = true;
+    let end = wide16(count);
+    bus[end] = x;
+    by[end] = k;
+    count + 1
+}
+
+// The row from half-branch first on, by rising branch position: 1,024 half-branches at most.
+fn expand(
+    far: &[u8; 1024],
+    next: &[u16; 1024],
+    live: &[bool; 512],
+    first: u16,
+    barred: u8,
+    seen: &mut [bool; 256],
+    bus: &mut [u8; 256],
+    by: &mut [u16; 256],
+    count: u16,
+) -> u16
+    requires { ⌜ ((o : List Visit) × Walking o (now seen) (now bus) (now by) count) ⌝ }
+    ensures { λ r. ⌜ ((o : List Visit) → Walking o (now (seen .entry)) (now (bus .entry)) (now (by .entry)) count
+        → Walking (enterAll barred o (leads (now (far .entry)) (now (live .entry)) (rowFrom (now (next .entry)) 1024 first)))
+            (now (seen .exit)) (now (bus .exit)) (now (by .exit)) r) ⌝ }
+{
+    let mut end = count;
+    let mut h = first;
+    let mut i = 0u16;
+    while i < 1024 {
+        if 1024 <= h {
+            return end;
+        }
+        let half = wide16(h);
+        let k = h / 2;
+        let at = wide16(k);
+        end = enter(seen, bus, by, end, barred, live[at], far[half], k);
+        h = next[half];
+        i += 1;
+    }
+    end
+}
+
+// The buses that a walk from start reaches without entering the barred one, in the order in which it reaches them.
+pub fn walk(graph: Graph, live: [bool; 512], start: u8, barred: u8) -> Walk
+    ensures { λ r. ⌜ r ≡ walked (walkBy (rowNeighbours graph live) start barred) ⌝ }
+{
+    let far = graph.far;
+    let first = graph.first;
+    let next = graph.next;
+    let mut seen = [false; 256];
+    let mut bus = [0u8; 256];
+    let mut by = [0u16; 256];
+    let at = wide8(start);
+    seen[at] = true;
+    bus[0] = start;
+    let mut count = 1u16;
+    let mut head = 0u16;
+    while head < count {
+        let turn = wide16(head);
+        let u = wide8(bus[turn]);
+        count = expand(&far, &next, &live, first[u], barred, &mut seen, &mut bus, &mut by, count);
+        head += 1;
+    }
+    Walk { count, bus, by }
+}
