@@ -1,0 +1,157 @@
+-- Demand 3, one claim: the steps along a plan, what stands after a list of steps, and what holds of it for any two lists.
+-- Read with: Plan (the planner's answer); crate graph's Graph (Path, Loop, Tree) and Feeder; crate network's Live.
+use mathlib.Core.Path.{_≡_}
+use mathlib.Core.Logic.{_↔_, _≢_}
+use mathlib.Core.Bool.{Bool, true, false, cond, _&&_}
+use mathlib.Core.List.{List, [], _∷_, _++_, map, List·Memᴰ}
+use mathlib.Core.Option.{Option, none, some}
+use Prim.Native.Nat.{ℕ, zero, suc, pred, _≤_}
+use lib.Dec.{eqb}
+use lib.ListN.{length, set, getElem?}
+use Rattle.numbers.specs.UpTo.{table}
+use Rattle.numbers.specs.Choose.{indexOf}
+use Rattle.network.specs.Records.{Network}
+use Rattle.network.specs.Answers.{accepted}
+use Rattle.network.specs.Faults.{switchId}
+use Rattle.network.specs.Live.{live}
+use Rattle.graph.specs.Graph.{Path, Loop, Tree}
+use Rattle.graph.specs.Feeder.{feeder, LiveIn}
+use Rattle.plan.specs.Plan.{State, byte, branchOf, operable, Moves, plan, checkPlan}
+
+-- ---- the two kinds of step
+-- the position of the switch with this id
+abbrev pub switchAt : Network → ℕ → ℕ
+switchAt N id = indexOf id (map switchId (N .switches))
+
+-- "A pair carried out sets what it closes to 00, then what it opens to 01"
+unfoldable pub closed : Network → Moves → State → State
+closed N q s = set s (switchAt N (q .closes)) 0
+
+unfoldable pub carriedOut : Network → Moves → State → State
+carriedOut N q s = set (closed N q s) (switchAt N (q .opens)) 1
+
+-- "Undone, it moves the same switches the other way, the last moved first": that is carrying out the pair turned round
+abbrev pub turned : Moves → Moves
+turned q = record { closes = q .opens; opens = q .closes }
+
+abbrev pub turnedIf : Option Moves → Option Moves
+turnedIf none = none
+turnedIf (some q) = some (turned q)
+
+pub data Step : Type 0 where
+  forward back : Step
+
+-- what a step carries out with d pairs done: forward "the first pair of the planner's answer that isn't done", back "the last one done", turned round; or none
+unfoldable pub found : List Moves → Step → ℕ → Option Moves
+found P forward d = getElem? P d
+found P back zero = none
+found P back (suc d) = turnedIf (getElem? P d)
+
+-- forward "adds one to the number done", back "takes one off"
+abbrev pub counted : Step → ℕ → ℕ
+counted forward d = suc d
+counted back d = pred d
+
+-- document 01's stopping point: a state, and the number of pairs done
+pub record Point : Type 0 where
+  pub state : State
+  pub done : ℕ
+
+-- a step that finds none leaves state and number
+unfoldable pub taken : Network → Step → Point → Option Moves → Point
+taken N x p none = p
+taken N x p (some q) = record { state = carriedOut N q (p .state); done = counted x (p .done) }
+
+-- "Each step gets the state and number the last one left"
+unfoldable pub run : Network → List Moves → List Step → Point → Point
+run N P [] p = p
+run N P (x ∷ xs) p = run N P xs (taken N x p (found P x (p .done)))
+
+-- after a list of steps "from the present state with no pair done"
+unfoldable pub after : Network → State → State → List Step → Point
+after N present wanted xs = run N (plan N present wanted) xs (record { state = present; done = 0 })
+
+-- ---- what is claimed of them
+abbrev pub SameLive : Network → State → State → Type 0
+SameLive N s t = (k : ℕ) → live N s k ≡ live N t k
+
+-- from s to t branch e becomes live, branch f ceases to be, and every other stays as it is
+pub record Exchanged (N : Network) (s t : State) (e f : ℕ) : Type 0 where
+  pub before : (live N s e ≡ false) × (live N s f ≡ true)
+  pub then : (live N t e ≡ true) × (live N t f ≡ false)
+  pub others : (k : ℕ) → k ≢ e → k ≢ f → live N t k ≡ live N s k
+
+-- "The loop of a closing is the closed branch with the path that joined its ends before": closing branch e turned state s into t,
+-- there was exactly one such path, there is exactly one loop now, and branch f lies on it
+pub record OnLoop (N : Network) (s t : State) (e f : ℕ) : Type 0 where
+  pub closing : (live N s e ≡ false) × (live N t e ≡ true)
+  pub nothing-else : (k : ℕ) → k ≢ e → live N t k ≡ live N s k
+  pub path : List ℕ
+  pub joins : Path (feeder N) (LiveIn N s) (feeder N .from e) (feeder N .to e) path
+  pub only-path : (l : List ℕ) → Path (feeder N) (LiveIn N s) (feeder N .from e) (feeder N .to e) l → l ≡ path
+  pub loop : Loop (feeder N) (LiveIn N t)
+  pub only-loop : (o : Loop (feeder N) (LiveIn N t)) (k : ℕ) → List·Memᴰ k (o .branch ∷ o .rest) ↔ List·Memᴰ k (e ∷ path)
+  pub lies : List·Memᴰ f path
+
+-- another pair: it closes branch `closes` by its switches, then opens `opens` by those of its switches that `by` names
+pub record OtherPair : Type 0 where
+  pub closes : ℕ
+  pub opens : ℕ
+  pub by : ℕ → Bool
+
+unfoldable pub otherCarriedOut : Network → OtherPair → State → State
+otherCarriedOut N q s =
+    table (λ i. cond (eqb (branchOf N i) (q .opens) && q .by i) 1 (cond (eqb (branchOf N i) (q .closes)) 0 (byte s i))) (length (N .switches))
+
+unfoldable pub othersCarriedOut : Network → List OtherPair → State → State
+othersCarriedOut N [] s = s
+othersCarriedOut N (q ∷ qs) s = othersCarriedOut N qs (otherCarriedOut N q s)
+
+module _ (N : Network) (present wanted : State) where
+  abbrev pub reached : List Step → State
+  reached xs = after N present wanted xs .state
+
+  abbrev pub done : List Step → ℕ
+  done xs = after N present wanted xs .done
+
+  -- after the steps xs, step x carries out q
+  abbrev pub Carries : List Step → Step → Moves → Type 0
+  Carries xs x q = found (plan N present wanted) x (done xs) ≡ some q
+
+  -- the branches that q closes and opens
+  abbrev pub closedBy : Moves → ℕ
+  closedBy q = branchOf N (switchAt N (q .closes))
+
+  abbrev pub openedBy : Moves → ℕ
+  openedBy q = branchOf N (switchAt N (q .opens))
+
+  pub record SwitchingPlan : Type 0 where
+    -- for any two lists, the live branches reached are equal exactly when equally many pairs stand done
+    pub same : (xs ys : List Step) → SameLive N (reached xs) (reached ys) ↔ (done xs ≡ done ys)
+    -- after every list the state is radial
+    pub radial : (xs : List Step) → Tree (feeder N) (LiveIn N (reached xs))
+    -- a step carries out what it finds, and counts it
+    pub moves : (xs : List Step) (x : Step) (q : Moves) → Carries xs x q
+        → after N present wanted (xs ++ (x ∷ [])) ≡ record { state = carriedOut N q (reached xs); done = counted x (done xs) }
+    -- each pair, undone too, closes one branch that was dead and opens one that was live
+    pub exchanges : (xs : List Step) (x : Step) (q : Moves) → Carries xs x q → Exchanged N (reached xs) (carriedOut N q (reached xs)) (closedBy q) (openedBy q)
+    -- each opening, undoing included, lies on the one loop that its closing made
+    pub on-loop : (xs : List Step) (x : Step) (q : Moves) → Carries xs x q → OnLoop N (reached xs) (closed N q (reached xs)) (closedBy q) (openedBy q)
+    -- no locked switch moves, and no other byte changes
+    pub operable-only : (xs : List Step) (x : Step) (q : Moves) → Carries xs x q → (operable N (switchAt N (q .closes)) ≡ true) × (operable N (switchAt N (q .opens)) ≡ true)
+    pub others-stay : (xs : List Step) (x : Step) (q : Moves) → Carries xs x q
+        → (i : ℕ) → i ≢ switchAt N (q .closes) → i ≢ switchAt N (q .opens) → byte (carriedOut N q (reached xs)) i ≡ byte (reached xs) i
+    -- with all pairs done the live branches are the wanted ones, with none the present ones
+    pub all-done : (xs : List Step) → done xs ≡ length (plan N present wanted) → SameLive N (reached xs) wanted
+    pub none-done : (xs : List Step) → done xs ≡ 0 → SameLive N (reached xs) present
+    -- no more than all are ever done; forward finds none only with all done, back only with none done, and then state and number stay
+    pub at-most-all : (xs : List Step) → done xs ≤ length (plan N present wanted)
+    pub forward-none : (xs : List Step) → (found (plan N present wanted) forward (done xs) ≡ none) ↔ (done xs ≡ length (plan N present wanted))
+    pub back-none : (xs : List Step) → (found (plan N present wanted) back (done xs) ≡ none) ↔ (done xs ≡ 0)
+    pub stays : (xs : List Step) (x : Step) → found (plan N present wanted) x (done xs) ≡ none → after N present wanted (xs ++ (x ∷ [])) ≡ after N present wanted xs
+    -- no other list of pairs that leads from the present state to the wanted live branches is shorter
+    pub shortest : (qs : List OtherPair) → SameLive N (othersCarriedOut N qs present) wanted → length (plan N present wanted) ≤ length qs
+
+-- demand 3, for every network and states that the planner accepts
+abbrev pub Demand3 : Type 0
+Demand3 = (N : Network) (present wanted : State) → checkPlan N present wanted ≡ accepted tt → SwitchingPlan N present wanted

@@ -1,0 +1,12 @@
+pub mod Plan
+pub mod Claim
+pub mod LiveLaws
+pub mod Exchanges
+pub mod Missing
+pub mod Plannable
+pub mod Moved
+pub mod Stages
+pub mod Planner
+pub mod Accepted
+pub mod Proof
+pub mod Examples

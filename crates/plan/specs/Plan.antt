@@ -1,0 +1,112 @@
+-- Document 01's planner: pairs of branches, the switches that a pair moves, the refusals, and the lines that are written.
+use mathlib.Core.Bool.{Bool, true, false, cond, not, _&&_, _||_}
+use mathlib.Core.List.{List, [], _∷_, map}
+use Prim.Native.Nat.{ℕ}
+use lib.Dec.{eqb, ltb}
+use lib.ListN.{length, getD}
+use Rattle.numbers.specs.Choose.{those, firstOf, indexOf}
+use Rattle.network.specs.Records.{Network, noSwitch}
+use Rattle.network.specs.Answers.{Answer, accepted, refused, _andThen_, _if_, judge}
+use Rattle.network.specs.Faults.{on}
+use Rattle.network.specs.Check.{checkRecords}
+use Rattle.network.specs.Live.{live, checkState}
+use Rattle.graph.specs.Walk.{bfsPath}
+use Rattle.graph.specs.Feeder.{feeder, radialIn}
+
+-- a byte for each switch: 00 closed, 01 open
+abbrev pub State : Type 0
+State = List ℕ
+
+abbrev pub byte : State → ℕ → ℕ
+byte s i = getD s i 0
+
+-- the branch that switch i is on, and whether the switch can operate
+abbrev pub branchOf : Network → ℕ → ℕ
+branchOf N i = getD (N .switches) i noSwitch .«branch_idx»
+
+abbrev pub operable : Network → ℕ → Bool
+operable N i = getD (N .switches) i noSwitch .«can_operate»
+
+-- ---- pairs of branches
+-- document 01's pair: a branch that is closed, then a branch that is opened
+pub record Pair : Type 0 where
+  pub closed : ℕ
+  pub opened : ℕ
+
+-- "Take branches live in the wanted state only, by switch order"
+unfoldable pub closings : Network → State → State → List ℕ
+closings N present wanted =
+    map (branchOf N) (those (λ i. live N wanted (branchOf N i) && not (live N present (branchOf N i))) (length (N .switches)))
+
+-- "the path that joined its from bus to its to bus before the closing, beginning at the from bus", over the branches live then
+unfoldable pub pathBefore : Network → (ℕ → Bool) → ℕ → List ℕ
+pathBefore N E e = bfsPath (feeder N) E (feeder N .from e) (feeder N .to e)
+
+-- "open the first branch there that the wanted state doesn't have live"
+unfoldable pub opening : Network → State → (ℕ → Bool) → ℕ → ℕ
+opening N wanted E e = firstOf (λ k. not (live N wanted k)) 0 (pathBefore N E e)
+
+-- the live branches after a pair
+unfoldable pub exchanged : (ℕ → Bool) → Pair → ℕ → Bool
+exchanged E q k = cond (eqb k (q .opened)) false (cond (eqb k (q .closed)) true (E k))
+
+-- each closing with its opening, over the branches that are live when it comes to it
+unfoldable pub pairsFrom : Network → State → (ℕ → Bool) → List ℕ → List Pair
+pairsFrom N wanted E [] = []
+pairsFrom N wanted E (e ∷ es) =
+    let q : Pair = record { closed = e; opened = opening N wanted E e } in
+    q ∷ pairsFrom N wanted (exchanged E q) es
+
+unfoldable pub pairs : Network → State → State → List Pair
+pairs N present wanted = pairsFrom N wanted (live N present) (closings N present wanted)
+
+-- ---- the switches that a pair moves, by their ids
+pub record Moves : Type 0 where
+  pub closes : ℕ
+  pub opens : ℕ
+
+-- the id of the switch on branch k
+unfoldable pub switchOn : Network → ℕ → ℕ
+switchOn N k = getD (N .switches) (indexOf k (map on (N .switches))) noSwitch .id
+
+abbrev pub movesOf : Network → Pair → Moves
+movesOf N q = record { closes = switchOn N (q .closed); opens = switchOn N (q .opened) }
+
+-- the planner's answer
+unfoldable pub plan : Network → State → State → List Moves
+plan N present wanted = map (movesOf N) (pairs N present wanted)
+
+-- ---- refusals 11 to 13
+unfoldable pub checkRadial : Network → State → ℕ → Answer (Unit {0})
+checkRadial N s place = judge ((11 if not (radialIn N s)) ∷ []) place
+
+-- live in one of the two states only
+unfoldable pub differing : Network → State → State → ℕ → Bool
+differing N present wanted k = (live N present k && not (live N wanted k)) || (live N wanted k && not (live N present k))
+
+-- the switches that differ on a branch that is live in one of the two states only, and are locked
+unfoldable pub lockedDifferences : Network → State → State → List ℕ
+lockedDifferences N present wanted =
+    those (λ i. not (eqb (byte present i) (byte wanted i)) && (differing N present wanted (branchOf N i) && not (operable N i))) (length (N .switches))
+
+-- refusal 12: "first such id in list order"
+abbrev pub refuseLocked : Network → List ℕ → Answer (Unit {0})
+refuseLocked N [] = accepted tt
+refuseLocked N (i ∷ l) = refused 12 (getD (N .switches) i noSwitch .id)
+
+unfoldable pub checkLocked : Network → State → State → Answer (Unit {0})
+checkLocked N present wanted = refuseLocked N (lockedDifferences N present wanted)
+
+-- refusal 13
+unfoldable pub checkRoom : ℕ → ℕ → Answer (Unit {0})
+checkRoom needed lent = judge ((13 if ltb lent needed) ∷ []) 0
+
+-- "Calls test the network, then 10 (present first), 11 (likewise), 12"
+unfoldable pub checkPlan : Network → State → State → Answer (Unit {0})
+checkPlan N present wanted =
+    checkRecords N
+    andThen checkState N present 0
+    andThen checkState N wanted 1
+    andThen checkRadial N present 0
+    andThen checkRadial N wanted 1
+    andThen checkLocked N present wanted

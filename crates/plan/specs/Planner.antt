@@ -1,0 +1,215 @@
+-- The planner's pairs lead from the branches live in the present state to those live in the wanted one: on the path between the
+-- ends of each closing stands a branch that is not wanted, for the wanted state has no loop.
+use mathlib.Core.Path.{_≡_, refl, sym, ap, _∙_}
+use mathlib.Core.Logic.{_⊎_, inl, inr}
+use mathlib.Core.Bool.{Bool, true, false, not, _&&_}
+use mathlib.Core.List.{List, [], _∷_, _++_, map, List·Memᴰ, List·Memᴰ·head, List·Memᴰ·tail, List·Memᴰ·not-nil, List·Memᴰ·cases-cons, List·Memᴰ·append-cases, List·Memᴰ·eq-of-singleton, Memᴰ·cast, Memᴰ·map, Memᴰ·of-map}
+use Prim.Native.Nat.{ℕ, zero, suc, _<_}
+use native.Mathlib.Decide.{ℕ-discrete, decLt}
+use native.Mathlib.Omega.{arith}
+use lib.ListN.{length}
+use borrow.Author.Tests.{not-true, not-false}
+use Rattle.numbers.specs.UpTo.{upTo}
+use Rattle.numbers.specs.Choose.{those}
+use Rattle.numbers.specs.ChooseLaws.{those-more, in-those, of-those, first-cases}
+use Rattle.numbers.specs.Tests.{both, which, clash, same-test}
+use Rattle.network.specs.Records.{Network}
+use Rattle.network.specs.Live.{live}
+use Rattle.graph.specs.Graph.{Net, Branches, Live, Chain, stay, step, Distinct, Path, Connected, Tree}
+use Rattle.graph.specs.Feeder.{feeder}
+use Rattle.graph.specs.Chains.{_⊆_}
+use Rattle.graph.specs.Trees.{tree-forest, part-is-whole}
+use Rattle.graph.specs.WalkLaws.{bfs-path}
+use Rattle.plan.specs.Plan.{State, branchOf, Pair, closings, pathBefore, opening, exchanged, pairsFrom, pairs}
+use Rattle.plan.specs.LiveLaws.{live-one}
+use Rattle.plan.specs.Plannable.{Regular, Free, Plannable}
+use Rattle.plan.specs.Exchanges.{Fits, opened-live, closing-closed, opening-opened, exchanged-other, exchanged-tree}
+use Rattle.plan.specs.Moved.{Switchable, Ready}
+use Rattle.plan.specs.Stages.{Leads, there, next}
+
+-- a chain whose every branch is of R
+chain-within : {G : Net} {S R : Branches} {a b : ℕ} {l : List ℕ} → Chain G S a b l → ((x : ℕ) → List·Memᴰ x l → S x → R x) → Chain G R a b l
+chain-within (stay e) h = stay e
+chain-within (step {k = k} s e c) h = step (h k (List·Memᴰ·head refl) s) e (chain-within c (λ x m. h x (List·Memᴰ·tail m)))
+
+distinct-append : (l : List ℕ) (x : ℕ) → Distinct l → ¬ List·Memᴰ x l → Distinct (l ++ (x ∷ []))
+distinct-append [] x d n = (List·Memᴰ·not-nil, tt)
+distinct-append (y ∷ l) x d n = (λ m. go (List·Memᴰ·append-cases l m), distinct-append l x (d .1) (λ m. n (List·Memᴰ·tail m)))
+  where
+    go : List·Memᴰ y l ⊎ List·Memᴰ y (x ∷ []) → ⊥
+    go (inl m) = d .0 m
+    go (inr m) = n (List·Memᴰ·head (sym (List·Memᴰ·eq-of-singleton m)))
+
+distinct-those : (p : ℕ → Bool) (n : ℕ) → Distinct (those p n)
+unfolding those upTo
+distinct-those p zero = tt
+distinct-those p (suc n) = go (p n) refl (distinct-those p n)
+  where
+    go : (b : Bool) → p n ≡ b → Distinct (those p n) → Distinct (those p (suc n))
+    go true t ih = rw (those-more p n, t) (distinct-append (those p n) n ih (λ m. absurd (omega (arith, of-those p n n m .0))))
+    go false t ih = rw (those-more p n, t) ih
+
+distinct-map : (f : ℕ → ℕ) (l : List ℕ) → Distinct l → ((x y : ℕ) → List·Memᴰ x l → List·Memᴰ y l → f x ≡ f y → x ≡ y) → Distinct (map f l)
+distinct-map f [] d h = tt
+distinct-map f (x ∷ l) d h = (
+  λ m. let (y, k, e) = Memᴰ·of-map f l m in d .0 (Memᴰ·cast (h x y (List·Memᴰ·head refl) (List·Memᴰ·tail k) (sym e)) k),
+  distinct-map f l (d .1) (λ y z k m. h y z (List·Memᴰ·tail k) (List·Memᴰ·tail m)),
+)
+
+-- a branch live in one of two states only is in service, and it has a switch that differs: where those are operable, it can be moved
+one-only : (N : Network) (s t : State) → Free N s t → (k : ℕ) → live N s k ≡ true → live N t k ≡ false → Switchable N k
+one-only N s t free k h d =
+    let (served, (i, o, n, b)) = live-one N s t k h d in
+    record {
+      at = i;
+      on = o;
+      served = served;
+      free = free i (o .listed) (λ e. n (e ∙ b)) (λ e. clash h (sym (ap (live N s) (o .here)) ∙ e ∙ ap (live N t) (o .here) ∙ d));
+    }
+
+module _ (N : Network) (present wanted : State) (given : Plannable N present wanted) where
+  abbrev G : Net
+  G = feeder N
+
+  abbrev W : ℕ → Bool
+  W = live N wanted
+
+  regular : Regular N
+  regular = given .regular
+
+  wanted-only : (k : ℕ) → live N wanted k ≡ true → live N present k ≡ false → Switchable N k
+  wanted-only = one-only N wanted present (λ i l n m. given .free i l (λ e. n (sym e)) (λ e. m (sym e)))
+
+  present-only : (k : ℕ) → live N present k ≡ true → live N wanted k ≡ false → Switchable N k
+  present-only = one-only N present wanted (given .free)
+
+  -- what holds with the closings cs left
+  record Remaining (E : ℕ → Bool) (cs : List ℕ) : Type 0 where
+    tree : Tree G (Live G E)
+    -- they are the branches that are wanted and not live, each once
+    left : (k : ℕ) → W k ≡ true → E k ≡ false → List·Memᴰ k cs
+    each : (k : ℕ) → List·Memᴰ k cs → (W k ≡ true) × (E k ≡ false) × Switchable N k
+    apart : Distinct cs
+    -- what is live and not wanted was live in the present state
+    kept : (k : ℕ) → E k ≡ true → W k ≡ false → live N present k ≡ true
+
+  -- no tree is a part of another
+  arrived : (E : ℕ → Bool) → Remaining E [] → (k : ℕ) → k < G .branches → E k ≡ W k
+  arrived E t k l = same-test (E k) (W k) (λ p. part-is-whole (given .wanted-tree .connected) (t .tree .no-loop) more (λ j r. regular .ends j (r .0)) dec k (l, p) .1) (λ w. more k (l, w) .1)
+    where
+      more : Live G W ⊆ Live G E
+      more j (b, w) = (b, go (which (E j)))
+        where
+          go : (E j ≡ true) ⊎ (E j ≡ false) → E j ≡ true
+          go (inl p) = p
+          go (inr p) = absurd (List·Memᴰ·not-nil (t .left j w p))
+
+      dec : (j : ℕ) → Dec (Live G W j)
+      dec j = go (decLt j (G .branches)) (which (W j))
+        where
+          go : Dec (j < G .branches) → (W j ≡ true) ⊎ (W j ≡ false) → Dec (Live G W j)
+          go (yes b) (inl w) = yes (b, w)
+          go (yes b) (inr w) = no (λ r. clash (r .1) w)
+          go (no n) w = no (λ r. n (r .0))
+
+  module _ (E : ℕ → Bool) (e : ℕ) (es : List ℕ) (t : Remaining E (e ∷ es)) where
+    abbrev f : ℕ
+    f = opening N wanted E e
+
+    abbrev q : Pair
+    q = record { closed = e; opened = f }
+
+    e-wanted : W e ≡ true
+    e-wanted = t .each e (List·Memᴰ·head refl) .0
+
+    e-dead : E e ≡ false
+    e-dead = t .each e (List·Memᴰ·head refl) .1
+
+    e-free : Switchable N e
+    e-free = t .each e (List·Memᴰ·head refl) .2
+
+    e-in : e < G .branches
+    e-in = regular .placed (e-free .on)
+
+    joins : Path G (Live G E) (G .from e) (G .to e) (pathBefore N E e)
+    unfolding pathBefore Connected
+    joins =
+        let b = regular .ends e e-in in
+        bfs-path G E (regular .ends) (regular .few) (G .from e) (b .0) (G .to e) (t .tree .connected (G .from e) (G .to e) (b .0) (b .1))
+
+    -- were all branches of the path wanted, they would be a loop with e in the wanted state
+    found : List·Memᴰ f (pathBefore N E e) × (W f ≡ false)
+    unfolding opening
+    found = go (first-cases (λ k. not (W k)) 0 (pathBefore N E e))
+      where
+        lives : (x : ℕ) → not (W x) ≡ false → W x ≡ true
+        lives x h = not-false (W x) h
+
+        go : (List·Memᴰ f (pathBefore N E e) × (not (W f) ≡ true)) ⊎ ((x : ℕ) → List·Memᴰ x (pathBefore N E e) → not (W x) ≡ false)
+            → List·Memᴰ f (pathBefore N E e) × (W f ≡ false)
+        go (inl h) = (h .0, not-true _ (h .1))
+        go (inr h) = absurd (tree-forest (given .wanted-tree) e (e-in, e-wanted)
+            (pathBefore N E e, chain-within (joins .0) (λ x m a. ((a .0, lives x (h x m)), λ p. clash (a .1) (ap E p ∙ e-dead)))))
+
+    fits : Fits G E q
+    fits = record { listed = e-in; dead = e-dead; path = pathBefore N E e; joins = joins; lies = found .0 }
+
+    ready : Ready N E q
+    ready = record {
+      tree = t .tree;
+      fits = fits;
+      closing = e-free;
+      opening = present-only f (t .kept f (opened-live fits .1) (found .1)) (found .1);
+    }
+
+    then : Remaining (exchanged E q) es
+    then = record {
+      tree = exchanged-tree fits (t .tree);
+      left = λ k w d. left k w d (ℕ-discrete k e) (ℕ-discrete k f);
+      each = λ k m. let (w, d, o) = t .each k (List·Memᴰ·tail m) in (w, exchanged-other E q k (λ p. t .apart .0 (Memᴰ·cast (sym p) m)) (λ p. clash w (ap W p ∙ found .1)) ∙ d, o);
+      apart = t .apart .1;
+      kept = λ k a w. kept k a w (ℕ-discrete k e) (ℕ-discrete k f);
+    }
+      where
+        left : (k : ℕ) → W k ≡ true → exchanged E q k ≡ false → Dec (k ≡ e) → Dec (k ≡ f) → List·Memᴰ k es
+        left k w d (yes p) y = clash (closing-closed fits) (sym (ap (exchanged E q) p) ∙ d)
+        left k w d (no n) (yes p) = clash w (ap W p ∙ found .1)
+        left k w d (no n) (no m) = go (List·Memᴰ·cases-cons (t .left k w (sym (exchanged-other E q k n m) ∙ d)))
+          where
+            go : (k ≡ e) ⊎ List·Memᴰ k es → List·Memᴰ k es
+            go (inl p) = absurd (n p)
+            go (inr i) = i
+
+        kept : (k : ℕ) → exchanged E q k ≡ true → W k ≡ false → Dec (k ≡ e) → Dec (k ≡ f) → live N present k ≡ true
+        kept k a w (yes p) y = clash e-wanted (sym (ap W p) ∙ w)
+        kept k a w (no n) (yes p) = clash a (ap (exchanged E q) p ∙ opening-opened E q)
+        kept k a w (no n) (no m) = t .kept k (sym (exchanged-other E q k n m) ∙ a) w
+
+  leads : (cs : List ℕ) (E : ℕ → Bool) → Remaining E cs → Leads N W E (pairsFrom N wanted E cs)
+  unfolding pairsFrom
+  leads [] E t = there (t .tree) (arrived E t)
+  leads (e ∷ es) E t = next (ready E e es t) (e-wanted E e es t) (found E e es t .1) (leads es _ (then E e es t))
+
+  -- a switch of a closing
+  closing-switch : (i : ℕ) → List·Memᴰ i (those (λ i. live N wanted (branchOf N i) && not (live N present (branchOf N i))) (length (N .switches)))
+      → (i < length (N .switches)) × (live N wanted (branchOf N i) ≡ true) × (live N present (branchOf N i) ≡ false)
+  closing-switch i m =
+      let h = of-those _ (length (N .switches)) i m in
+      let w = both (live N wanted (branchOf N i)) _ (h .1) in
+      (h .0, w .0, not-true _ (w .1))
+
+  pub pairs-lead : Leads N (live N wanted) (live N present) (pairs N present wanted)
+  unfolding pairs closings
+  pairs-lead = leads (closings N present wanted) (live N present) (record {
+    tree = given .present-tree;
+    left = λ k w d.
+        let o = wanted-only k w d .on in
+        Memᴰ·cast (sym (o .here)) (Memᴰ·map (branchOf N) (in-those _ (length (N .switches)) (wanted-only k w d .at) (o .listed) (rw (o .here, w, d))));
+    each = λ k m.
+        let (i, h, p) = Memᴰ·of-map (branchOf N) _ m in
+        let (l, w, d) = closing-switch i h in
+        rw (← p) (w, d, wanted-only (branchOf N i) w d);
+    apart = distinct-map (branchOf N) _ (distinct-those _ (length (N .switches))) (λ i j h m e.
+        regular .alone (record { listed = closing-switch i h .0; here = e }) (record { listed = closing-switch j m .0; here = refl }));
+    kept = λ k a w. a;
+  })

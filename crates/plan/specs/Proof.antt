@@ -1,0 +1,126 @@
+-- Demand 3 for every network and states that the planner accepts: each part from the state with the first `done` pairs carried out.
+use mathlib.Core.Path.{_≡_, refl, sym, ap, _∙_}
+use mathlib.Core.Logic.{_↔_}
+use mathlib.Core.Bool.{Bool}
+use mathlib.Core.List.{List, [], _∷_, _++_, map}
+use mathlib.Core.Option.{Option, none, some}
+use Prim.Native.Nat.{ℕ, zero, suc, _+_, _≤_, _<_}
+use native.Mathlib.Omega.{arith}
+use lib.ListN.{length, drop, getElem?, length-drop, length-map}
+use lib.Seq.{drop-length}
+use Rattle.numbers.specs.Tests.{same-test}
+use Rattle.network.specs.Records.{Network}
+use Rattle.network.specs.Live.{live}
+use Rattle.graph.specs.Feeder.{feeder}
+use Rattle.plan.specs.Plan.{State, Pair, pairs, Moves, movesOf, plan}
+use Rattle.plan.specs.Claim.{turnedIf, Step, back, found, Point, taken, run, after, SameLive, SwitchingPlan, Demand3}
+use Rattle.plan.specs.LiveLaws.{live-listed}
+use Rattle.plan.specs.Plannable.{Regular, Plannable}
+use Rattle.plan.specs.Moved.{Shows, shows-tree, pair-exchanges, pair-on-loop, pair-operable, other-bytes}
+use Rattle.plan.specs.Missing.{missing, missing-same, missing-none, others-missing}
+use Rattle.plan.specs.Stages.{Leads, there, leads-tree, leads-missing, stage, Due, leads-at, At, run-at, found-due}
+use Rattle.plan.specs.Accepted.{accepted-plannable}
+use Rattle.plan.specs.Planner.{pairs-lead}
+
+-- below its length a list has an element, at its length none
+none-at : {A : Type 0} (l : List A) (n : ℕ) → n ≤ length l → (getElem? l n ≡ none) ↔ (n ≡ length l)
+none-at [] n h = (λ e. omega arith, λ e. refl)
+none-at (a ∷ l) zero h = (λ e. let z : _≡_ {A = ℕ} 0 1 = cc in absurd (omega arith), λ e. absurd (omega arith))
+none-at (a ∷ l) (suc n) h = let r = none-at l n (omega arith) in (λ e. ap suc (r .0 e), λ e. r .1 (omega arith))
+
+run-more : (N : Network) (P : List Moves) (xs : List Step) (x : Step) (p : Point) → run N P (xs ++ (x ∷ [])) p ≡ taken N x (run N P xs p) (found P x (run N P xs p .done))
+unfolding run
+run-more N P [] x p = refl
+run-more N P (y ∷ xs) x p = run-more N P xs x _
+
+-- the same listed branches are live: then the same branches are
+same-live : (N : Network) (s t : State) → ((k : ℕ) → k < feeder N .branches → live N s k ≡ live N t k) → SameLive N s t
+unfolding feeder
+same-live N s t h k = same-test _ _ (λ e. sym (h k (live-listed N s k e)) ∙ e) (λ e. h k (live-listed N t k e) ∙ e)
+
+module _ (N : Network) (present wanted : State) (given : Plannable N present wanted) where
+  abbrev Q : List Pair
+  Q = pairs N present wanted
+
+  abbrev P : List Moves
+  P = plan N present wanted
+
+  regular : Regular N
+  regular = given .regular
+
+  lead : Leads N (live N wanted) (live N present) Q
+  lead = pairs-lead N present wanted given
+
+  start : Shows N present (live N present)
+  start = record { good = given .present-good; flags = λ k. refl }
+
+  as-many : length P ≡ length Q
+  unfolding plan
+  as-many = length-map Q (movesOf N)
+
+  at : (xs : List Step) → At N present Q (after N present wanted xs)
+  unfolding after plan stage
+  at xs = run-at regular lead start xs _ (record { low = omega arith; here = refl })
+
+  -- what stands after the steps xs
+  reach : (xs : List Step) → (D : ℕ → Bool) × Leads N (live N wanted) D (drop (after N present wanted xs .done) Q) × Shows N (after N present wanted xs .state) D
+  reach xs = rw (at xs .here) (leads-at regular lead start (after N present wanted xs .done) (at xs .low))
+
+  -- as many branches are missing as pairs are left
+  left : (xs : List Step) → missing (feeder N) (live N wanted) (live N (after N present wanted xs .state)) + after N present wanted xs .done ≡ length P
+  left xs =
+      let (D, l, s) = reach xs in
+      omega (arith, missing-same (feeder N) (live N wanted) (live N (after N present wanted xs .state)) D (λ k b. s .flags k), leads-missing l, length-drop (after N present wanted xs .done) Q, at xs .low, as-many)
+
+  -- equally many pairs done: the same state
+  same-state : (xs ys : List Step) → after N present wanted xs .done ≡ after N present wanted ys .done → after N present wanted xs .state ≡ after N present wanted ys .state
+  same-state xs ys e = at xs .here ∙ ap (stage N present (map (movesOf N) Q)) e ∙ sym (at ys .here)
+
+  due : (xs : List Step) (x : Step) (m : Moves) → found P x (after N present wanted xs .done) ≡ some m → Due N (after N present wanted xs .state) m
+  unfolding plan
+  due xs x m e = found-due regular lead start x (after N present wanted xs) (at xs) m e
+
+  final : {D : ℕ → Bool} → Leads N (live N wanted) D [] → (k : ℕ) → k < feeder N .branches → D k ≡ live N wanted k
+  final (there t h) = h
+
+  arrives : (xs : List Step) → after N present wanted xs .done ≡ length P → SameLive N (after N present wanted xs .state) wanted
+  arrives xs e =
+      let (D, l, s) = reach xs in
+      same-live N _ wanted (λ k b. s .flags k ∙ final (rw (e ∙ as-many, drop-length Q) at l) k b)
+
+  back-finds : (d : ℕ) → d ≤ length P → (found P back d ≡ none) ↔ (d ≡ 0)
+  unfolding found
+  back-finds zero l = (λ e. refl, λ e. refl)
+  back-finds (suc n) l = (λ e. go (getElem? P n) refl e, λ e. absurd (omega arith))
+    where
+      go : (o : Option Moves) → getElem? P n ≡ o → turnedIf o ≡ none → suc n ≡ 0
+      go none e g = absurd (omega (arith, none-at P n (omega arith) .0 e))
+      go (some m) e g = let z : _≡_ {A = ℕ} 0 1 = cc in absurd (omega arith)
+
+  low : (xs : List Step) → after N present wanted xs .done ≤ length P
+  low xs = omega (arith, at xs .low, as-many)
+
+  pub plannable-plan : SwitchingPlan N present wanted
+  unfolding found
+  plannable-plan = record {
+    same = λ xs ys. (
+      λ h. omega (arith, left xs, left ys, missing-same (feeder N) (live N wanted) _ _ (λ k b. h k)),
+      λ e k. ap (λ s. live N s k) (same-state xs ys e),
+    );
+    radial = λ xs. let (D, l, s) = reach xs in shows-tree s (leads-tree l);
+    moves = λ xs x m e. unfold after in run-more N P xs x _ ∙ unfold taken in ap (taken N x (after N present wanted xs)) e;
+    exchanges = λ xs x m e. let d = due xs x m e in rw (d .moves) (pair-exchanges regular (d .shows) (d .ready));
+    on-loop = λ xs x m e. let d = due xs x m e in rw (d .moves) (pair-on-loop regular (d .shows) (d .ready));
+    operable-only = λ xs x m e. let d = due xs x m e in rw (d .moves) (pair-operable regular (d .shows) (d .ready));
+    others-stay = λ xs x m e. other-bytes N m (after N present wanted xs .state);
+    all-done = arrives;
+    none-done = λ xs e k. unfold after run in ap (λ s. live N s k) (same-state xs [] e);
+    at-most-all = low;
+    forward-none = λ xs. none-at P (after N present wanted xs .done) (low xs);
+    back-none = λ xs. back-finds (after N present wanted xs .done) (low xs);
+    stays = λ xs x e. unfold after in run-more N P xs x _ ∙ unfold taken in ap (taken N x (after N present wanted xs)) e;
+    shortest = λ qs h. omega (arith, as-many, leads-missing lead, others-missing N (live N wanted) qs present, missing-none (feeder N) (live N wanted) _ (λ k b. h k));
+  }
+
+pub demand3 : Demand3
+demand3 N present wanted e = plannable-plan N present wanted (accepted-plannable N present wanted e)
