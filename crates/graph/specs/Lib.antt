@@ -3,6 +3,7 @@ pub mod Walk
 pub mod Radial
 pub mod Feeder
 pub mod Rows
+pub mod FeederRows
 pub mod Chains
 pub mod Paths
 pub mod Forests

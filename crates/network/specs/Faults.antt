@@ -4,7 +4,8 @@ use mathlib.Core.List.{List, [], _∷_, map}
 use Prim.Native.Nat.{ℕ, suc}
 use lib.Dec.{leb, ltb, eqb}
 use lib.ListN.{length}
-use lib.Ieee.{Float, binary64, ofBits, le, neg}
+use lib.Ieee.{Float, le}
+use Rattle.numbers.specs.Constants.{zero64, thousandth, thousand, million, minusMillion}
 use Rattle.network.specs.declared.bus.Bus.{Bus}
 use Rattle.network.specs.declared.branch.Branch.{Branch}
 use Rattle.network.specs.declared.switch.Switch.{Switch}
@@ -31,27 +32,17 @@ pub record Head : Type 0 where
 abbrev pub inRange : Float → Float → Float → Bool
 inRange low high x = le low x && le x high
 
--- 0.001, the nearest f64; 1,000; 1,000,000
-abbrev pub thousandth : Float
-thousandth = ofBits binary64 0x3f50_624d_d2f1_a9fc
-
-abbrev pub thousand : Float
-thousand = ofBits binary64 0x408f_4000_0000_0000
-
-abbrev pub million : Float
-million = ofBits binary64 0x412e_8480_0000_0000
-
 -- base_mva from 0.001 to 1,000,000
 unfoldable pub okBase : Float → Bool
 okBase x = inRange thousandth million x
 
 -- pd within ±1,000,000
 unfoldable pub okLoad : Float → Bool
-okLoad x = inRange (neg million) million x
+okLoad x = inRange minusMillion million x
 
 -- r from 0 to 1,000
 unfoldable pub okR : Float → Bool
-okR x = inRange (ofBits binary64 0) thousand x
+okR x = inRange zero64 thousand x
 
 -- ---- what a condition asks of other records
 unfoldable pub among : ℕ → List ℕ → Bool

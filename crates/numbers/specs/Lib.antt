@@ -6,3 +6,7 @@ pub mod TableLaws
 pub mod Tests
 pub mod CountLaws
 pub mod ChooseLaws
+pub mod Bounds
+pub mod Signs
+pub mod Sums
+pub mod RangeLaws

@@ -1,0 +1,10 @@
+pub mod Loss
+pub mod Examples
+pub mod InRange
+pub mod TermLaws
+pub mod LossLaws
+pub mod PercentLaws
+pub mod Accepted
+pub mod RowLoss
+pub mod LossSame
+pub mod RowLossLaws

@@ -1,0 +1,38 @@
+-- The loss as the code takes it: over the rows of a graph, with arrays for the loads, the branches and the flags of the live ones.
+use mathlib.Core.Bool.{Bool, cond}
+use mathlib.Core.List.{List}
+use Prim.Native.Nat.{ℕ}
+use lib.Dec.{eqb}
+use lib.ListN.{getD}
+use lib.Ieee.{Float, binary64, add}
+use Rattle.numbers.specs.Constants.{zero64}
+use Rattle.numbers.specs.UpTo.{upTo}
+use Rattle.network.specs.declared.branch.Branch.{Branch}
+use Rattle.network.specs.declared.bus.Power.{Power}
+use Rattle.network.specs.Records.{noBranch}
+use Rattle.graph.specs.declared.rows.Graph.{Graph}
+use Rattle.graph.specs.Walk.{walkBy}
+use Rattle.graph.specs.Rows.{flag, rowNet, rowNeighbours}
+use Rattle.losses.specs.Loss.{walkLoad, totalOf}
+
+abbrev pub noPower : Power
+noPower = record { 0 = zero64 }
+
+-- the load at a bus
+abbrev pub loadAt : List Power → ℕ → Float
+loadAt loads b = getD loads b noPower .0
+
+-- the loads at the first n buses of an array, added in its order
+unfoldable pub arrayLoad : List Power → List ℕ → ℕ → Float
+arrayLoad loads bus n = upTo (λ t i. add binary64 t (loadAt loads (getD bus i 0))) zero64 n
+
+-- the load behind branch k
+unfoldable pub rowLoad : Graph → List Power → List Bool → ℕ → Float
+rowLoad g loads live k = walkLoad (loadAt loads) (walkBy (rowNeighbours g live) (rowNet g .to k) (rowNet g .from k))
+
+-- the total of the live ones among the first n branches
+unfoldable pub rowTotal : Graph → List Power → List Branch → Float → List Bool → ℕ → Float
+rowTotal g loads branches base live n = totalOf (flag live) (λ k. getD branches k noBranch .r) (rowLoad g loads live) base n
+
+unfoldable pub rowLoss : Graph → List Power → List Branch → Float → List Bool → Float
+rowLoss g loads branches base live = cond (eqb (g .«bus_count») 0) zero64 (rowTotal g loads branches base live (g .«branch_count»))

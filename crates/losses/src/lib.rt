@@ -1,0 +1,2 @@
+// The loss of a state.
+pub mod reconfiguration;

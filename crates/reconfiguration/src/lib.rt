@@ -1,0 +1,1 @@
+// The searches, their answer, and the list of operations.
