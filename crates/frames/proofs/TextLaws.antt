@@ -1,0 +1,40 @@
+-- A text is what its head line and the lines behind it make: a head that is refused, or the records collected, which decide before the line at which reading stopped.
+use mathlib.Core.Path.{_≡_, refl, sym, ap, _∙_}
+use Prim.Native.Nat.{ℕ, _≤_}
+use mathlib.Core.List.{List}
+use lib.ListN.{length, drop}
+use Rattle.network.specs.Answers.{accepted, refused, answerOf, _andThen_}
+use Rattle.network.specs.Check.{checkRecords}
+use Rattle.network.specs.Records.{networkOf, recordsOf}
+use Rattle.network.specs.RecordLaws.{records-of-network}
+use Rattle.network.specs.Faults.{Head}
+use Rattle.frames.specs.declared.pass.Pass as Code
+use Rattle.frames.specs.Text.{cut, head, headOf, headLineFaults, readOne, without, readText}
+use Rattle.frames.specs.Passes.{Collected, collect, afterHead, readTwice}
+use Rattle.frames.specs.ReadLaws.{head-passed}
+use Rattle.frames.specs.Split.{split}
+use Rattle.frames.specs.FramedLaws.{one-made, without-refused}
+use Rattle.frames.specs.FrameReads.{IsCollected}
+
+-- a value that holds records is the value of the records that it holds
+pub holds-records : {c : Collected} {r : Code.Pass} → IsCollected c r → r .network ≡ networkOf (recordsOf (r .network))
+holds-records {c} i = rw (i .network, records-of-network (c .network))
+
+module _ (t : List ℕ) where
+  pub head-refuses : {n p : ℕ} → refused n p ≡ without (readOne head headOf headLineFaults 1 (cut t)) → refused n p ≡ readText t
+  unfolding readTwice afterHead
+  head-refuses e = sym (split t ∙ ap afterHead (without-refused _ (sym e)))
+
+  module _ {h : Head} (e : accepted h ≡ without (readOne head headOf headLineFaults 1 (cut t))) where
+    pub body-asks : (37 ≤ length t) × (h .buses ≤ 256) × (h .branches ≤ 512) × (h .switches ≤ 512)
+    body-asks =
+        let o = one-made head headOf headLineFaults 1 t (sym e) in
+        let i = head-passed (cut t) _ (o .0) in
+        (o .1, i .counts .0, i .counts .1, i .counts .2)
+
+    pub text-settled : {r : Code.Pass} → IsCollected (collect h (cut (drop 37 t))) r
+        → (checkRecords (recordsOf (r .network)) andThen answerOf (r .stopped) andThen accepted (recordsOf (r .network))) ≡ readText t
+    unfolding readTwice afterHead
+    text-settled i =
+        let o = one-made head headOf headLineFaults 1 t (sym e) in
+        rw (i .network, i .stopped, records-of-network) (sym (split t ∙ ap afterHead (o .0)))

@@ -1,0 +1,110 @@
+-- `judge_line` meets its contract: what the characters are refused for comes first, then length and kind byte.
+use mathlib.Core.Path.{sym, ap, _∙_}
+use native.Mathlib.Omega.{arith}
+use lib.ListN.{take, length-drop}
+use borrow.Author.Needs.{needs}
+use Rattle.network.specs.Answers.{answerOf}
+use Rattle.frames.specs.Hex.{number}
+use Rattle.frames.specs.FirstLineLaws.{clear-at, other-size, other-kind, as-wanted, frame-then, frame-missing}
+use Rattle.frames.proofs.VerdictLaws.{refused-then, accepted-then}
+use Rattle.frames.proofs.PartLaws.{part-is, part-digits}
+use Rattle.frames.proofs.line.judge_line.Statement.{statement}
+use Rattle.frames.proofs.line.judge_line.Tie as tie
+
+returns : tie.Need-returns
+returns c = frame-missing _ _ _ _ _ (c .if1 .taken)
+
+line-length-requires : tie.Need-line-length-requires
+line-length-requires c κs = search needs
+
+judge-characters-requires : tie.Need-judge-characters-requires
+judge-characters-requires c κs = search needs
+
+enum-told : tie.Need-enum-told
+enum-told c = search needs
+
+enum-told-2 : tie.Need-enum-told-2
+enum-told-2 c = search needs
+
+returns-2 : tie.Need-returns-2
+returns-2 c =
+    let d = c .before .before in
+    ap answerOf (c .enum-told2 .given .1) ∙ sym (frame-then _ _ _ _ ∙ refused-then _ (d .judge-characters .ensures) (c .enum-told2 .given .1))
+
+returns-3 : tie.Need-returns-3
+returns-3 c =
+    let v = c .before in
+    let d = v .before .before in
+    let e = d .before .before in
+    let s = e .before .before in
+    let clear = clear-at _ _ _ _ (d .before .line-length .ensures) (s .pre .0) (e .if1 .left) (sym (ap answerOf (v .enum-told .given .1)) ∙ d .judge-characters .ensures) in
+    sym (frame-then _ _ _ _ ∙ accepted-then _ (d .judge-characters .ensures) (v .enum-told .given .1) ∙ other-size _ _ _ _ _ _ clear (c .if2 .taken))
+
+add-byte : tie.Need-add-byte
+add-byte c =
+    let n = c .before .before .before .before in
+    let s = n .before .before .before in
+    omega (arith, length-drop (s .args .at) (s .args .text .now), n .line-length .ensures .within)
+
+sub-byte : tie.Need-sub-byte
+sub-byte c = search needs
+
+part-byte-start : tie.Need-part-byte-start
+part-byte-start c = search needs
+
+part-byte-end : tie.Need-part-byte-end
+part-byte-end c =
+    let n = c .before .before .before .before in
+    let s = n .before .before .before in
+    omega (arith, length-drop (s .args .at) (s .args .text .now), n .line-length .ensures .within)
+
+byte-requires : tie.Need-byte-requires
+byte-requires c κs =
+    let v = c .before .before in
+    let d = v .before .before in
+    let e = d .before .before in
+    let s = e .before .before in
+    let l = length-drop (s .args .at) (s .args .text .now) in
+    let w = d .before .line-length .ensures in
+    let clear = clear-at _ _ _ _ w (s .pre .0) (e .if1 .left) (sym (ap answerOf (v .enum-told .given .1)) ∙ d .judge-characters .ensures) in
+    part-digits _ (s .args .at) _ 2 (omega (arith, w .within)) (omega arith) (clear .digits)
+
+returns-4 : tie.Need-returns-4
+returns-4 c =
+    let v = c .before .before .before .before in
+    let d = v .before .before in
+    let e = d .before .before in
+    let s = e .before .before in
+    let clear = clear-at _ _ _ _ (d .before .line-length .ensures) (s .pre .0) (e .if1 .left) (sym (ap answerOf (v .enum-told .given .1)) ∙ d .judge-characters .ensures) in
+    sym (frame-then _ _ _ _ ∙ accepted-then _ (d .judge-characters .ensures) (v .enum-told .given .1)
+    ∙ other-kind _ _ _ _ _ _ clear (λ q. c .if3 .taken (c .before .byte .ensures ∙ ap (λ x. number (take 2 x)) (part-is _ (s .args .at) _) ∙ q)))
+
+returns-5 : tie.Need-returns-5
+returns-5 c =
+    let g = c .before .before .before in
+    let v = g .before in
+    let d = v .before .before in
+    let e = d .before .before in
+    let s = e .before .before in
+    let clear = clear-at _ _ _ _ (d .before .line-length .ensures) (s .pre .0) (e .if1 .left) (sym (ap answerOf (v .enum-told .given .1)) ∙ d .judge-characters .ensures) in
+    sym (frame-then _ _ _ _ ∙ accepted-then _ (d .judge-characters .ensures) (v .enum-told .given .1)
+    ∙ as-wanted _ _ _ _ _ _ clear (g .if2 .left) (sym (c .before .byte .ensures ∙ ap (λ x. number (take 2 x)) (part-is _ (s .args .at) _)) ∙ c .if3 .left))
+
+pub judge-line-spec : {M : Type 1} → statement M
+judge-line-spec =
+    tie.close
+    (tie.spec
+    returns
+    line-length-requires
+    judge-characters-requires
+    enum-told
+    enum-told-2
+    returns-2
+    returns-3
+    add-byte
+    sub-byte
+    part-byte-start
+    part-byte-end
+    byte-requires
+    returns-4
+    returns-5)

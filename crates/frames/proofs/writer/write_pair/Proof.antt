@@ -1,0 +1,45 @@
+-- `write_pair` meets its contract: the slice is too short for the frame, or each field is stored behind the one before it.
+use mathlib.Core.Path.{ap, _∙_}
+use native.Mathlib.Omega.{arith}
+use lib.ListN.{length}
+use Rattle.frames.specs.Printed.{pair, pairText}
+use Rattle.frames.specs.WrittenLaws.{length-written}
+use Rattle.frames.proofs.WriterLaws.{stores, frame-short, frame-stored}
+use borrow.Author.Needs.{needs}
+use Rattle.frames.proofs.writer.write_pair.Statement.{statement}
+use Rattle.frames.proofs.writer.write_pair.Tie as tie
+
+returns : tie.Need-returns
+unfolding pairText
+returns c = frame-short pair (_, (_, tt)) _ (c .if1 .taken)
+
+write-field-requires : tie.Need-write-field-requires
+write-field-requires c κs = search needs
+
+write-field-requires-2 : tie.Need-write-field-requires-2
+write-field-requires-2 c κs = search needs
+
+write-field-requires-3 : tie.Need-write-field-requires-3
+write-field-requires-3 c κs = search needs
+
+slice-write-out : tie.Need-slice-write-out
+slice-write-out c = search needs
+
+returns-2 : tie.Need-returns-2
+unfolding pairText stores
+returns-2 c = frame-stored pair (_, (_, tt)) _ (c .before .before .write-field3 .last .0) (omega arith) (cc)
+
+same-length : tie.Need-same-length
+same-length c = ap length (returns-2 c) ∙ length-written _ _
+
+pub write-pair-spec : {M : Type 1} → statement M
+write-pair-spec =
+    tie.close
+    (tie.spec
+    returns
+    write-field-requires
+    write-field-requires-2
+    write-field-requires-3
+    slice-write-out
+    same-length
+    returns-2)

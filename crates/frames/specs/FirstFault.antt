@@ -1,0 +1,110 @@
+-- The reader refuses by the first line that has a condition met, and accepts where there is none: reader and rule go through the same lines, kind by kind.
+use mathlib.Core.Path.{_≡_, refl, sym, ap, _∙_}
+use mathlib.Core.Bool.{false}
+use mathlib.Core.List.{List, [], _∷_, _++_, map}
+use Prim.Native.Nat.{ℕ, zero, suc, _+_}
+use native.Mathlib.Omega.{arith}
+use lib.ListN.{take, drop}
+use Rattle.network.specs.declared.bus.Bus.{Bus}
+use Rattle.network.specs.declared.branch.Branch.{Branch}
+use Rattle.network.specs.declared.switch.Switch.{Switch}
+use Rattle.network.specs.Answers.{Answer, accepted, refused, _andThen_, Fault, judge}
+use Rattle.network.specs.Records.{Network}
+use Rattle.network.specs.Faults.{Head}
+use Rattle.frames.specs.Hex.{Fields}
+use Rattle.frames.specs.Text.{Line, cut, lineFaults, Frame, head, bus, branch, switch, looks, fieldsOf, headOf, busOf, branchOf, switchOf, headLineFaults, busLineFaults, branchLineFaults, switchLineFaults, follow, _>>=_, pure, readOne, readRun, readEnd, readLines, without, readText}
+use Rattle.frames.specs.ReaderLaws.{Verdict, then-then, go-on, without-then, network, behindSwitches, behindBranches, behindBuses, behindHead, lines-read}
+use Rattle.frames.specs.Conditions.{kindConditions, surplusConditions, busesOf, bodyConditions, conditions, judgeLines, verdictOf}
+
+verdict-then : {A : Type 0} (v : Verdict) (a : A) → verdictOf (v andThen accepted a) ≡ v
+unfolding verdictOf _andThen_
+verdict-then (accepted u) a = refl
+verdict-then (refused n p) a = refl
+
+module _ {A : Type 0} (F : Frame) (make : Fields (F .widths) → A) (faults : List A → Fields (F .widths) → List Fault) where
+  abbrev made : Line → A
+  made l = make (fieldsOf F l)
+
+  run-judged : (n : ℕ) (before : List A) (p : ℕ) (ls : List Line)
+      → readRun F make faults before n p ls ≡ (judgeLines p (kindConditions F make faults before n ls) andThen accepted (map made (take n ls), drop n ls))
+  unfolding readRun readOne kindConditions judgeLines judge _andThen_ follow pure
+  run-judged zero before p ls = refl
+  run-judged (suc n) before p [] = refl
+  run-judged (suc n) before p (l ∷ ls) =
+      let c : List Fault = lineFaults (looks F l) l ++ faults before (fieldsOf F l) in
+      let v : Verdict = judgeLines (suc p) (kindConditions F make faults (before ++ (made l ∷ [])) n ls) in
+      go-on (judge c p) (made l, ls) (λ a. readRun F make faults (before ++ (a ∷ [])) n (suc p) >>= λ rest. pure (a ∷ rest)) refl
+      ∙ ap (λ x. judge c p andThen x) (go-on v (map made (take n ls), drop n ls) (λ rest. pure (made l ∷ rest)) (run-judged n (before ++ (made l ∷ [])) (suc p) ls))
+      ∙ then-then (judge c p) v (accepted (made l ∷ map made (take n ls), drop n ls))
+
+  run-append : (n : ℕ) (before : List A) (p : ℕ) (ls : List Line) (rest : List (List Fault))
+      → judgeLines p (kindConditions F make faults before n ls ++ rest) ≡ (judgeLines p (kindConditions F make faults before n ls) andThen judgeLines (p + n) rest)
+  unfolding kindConditions judgeLines judge _andThen_
+  run-append zero before p ls rest = ap (λ (q : ℕ). judgeLines q rest) (omega arith)
+  run-append (suc n) before p [] rest = refl
+  run-append (suc n) before p (l ∷ ls) rest =
+      let c : List Fault = lineFaults (looks F l) l ++ faults before (fieldsOf F l) in
+      let v : Verdict = judgeLines (suc p) (kindConditions F make faults (before ++ (made l ∷ [])) n ls) in
+      let e : suc p + n ≡ p + suc n = omega arith in
+      ap (λ x. judge c p andThen x) (run-append n (before ++ (made l ∷ [])) (suc p) ls rest ∙ ap (λ (q : ℕ). v andThen judgeLines q rest) e)
+      ∙ then-then (judge c p) v (judgeLines (p + suc n) rest)
+
+end-judged : (p : ℕ) (ls : List Line) → readEnd p ls ≡ (judgeLines p (surplusConditions ls) andThen accepted (tt {0}, drop 1 ls))
+unfolding readEnd surplusConditions judgeLines _andThen_
+end-judged p [] = refl
+end-judged p (l ∷ ls) = then-then (judge (lineFaults false l) p) (accepted tt) (accepted (tt {0}, ls))
+
+body-judged : (h : Head) (ls : List Line) → (r : Network × List Line) × (behindHead h ls ≡ (judgeLines 2 (bodyConditions h ls) andThen accepted r))
+unfolding behindHead behindBuses behindBranches behindSwitches bodyConditions busesOf pure
+body-judged h ls =
+    let l₁ : List Line = drop (h .buses) ls in
+    let l₂ : List Line = drop (h .branches) l₁ in
+    let l₃ : List Line = drop (h .switches) l₂ in
+    let buses : List Bus = busesOf (h .buses) ls in
+    let branches : List Branch = map (λ l. branchOf (fieldsOf branch l)) (take (h .branches) l₁) in
+    let switches : List Switch = map (λ l. switchOf (fieldsOf switch l)) (take (h .switches) l₂) in
+    let N : Network = network h buses branches switches in
+    let end : Answer (Network × List Line) = accepted (N, drop 1 l₃) in
+    let p₂ : ℕ = 2 + h .buses in
+    let p₃ : ℕ = p₂ + h .branches in
+    let p₄ : ℕ = p₃ + h .switches in
+    let c₁ : List (List Fault) = kindConditions bus busOf busLineFaults [] (h .buses) ls in
+    let c₂ : List (List Fault) = kindConditions branch branchOf (λ before. branchLineFaults buses) [] (h .branches) l₁ in
+    let c₃ : List (List Fault) = kindConditions switch switchOf (switchLineFaults h) [] (h .switches) l₂ in
+    let c₄ : List (List Fault) = surplusConditions l₃ in
+    let v₁ : Verdict = judgeLines 2 c₁ in
+    let v₂ : Verdict = judgeLines p₂ c₂ in
+    let v₃ : Verdict = judgeLines p₃ c₃ in
+    let v₄ : Verdict = judgeLines p₄ c₄ in
+    let read : behindHead h ls ≡ (v₁ andThen (v₂ andThen (v₃ andThen (v₄ andThen end)))) =
+    go-on v₁ (buses, l₁) (behindBuses h) (run-judged bus busOf busLineFaults (h .buses) [] 2 ls)
+    ∙ ap (λ x. v₁ andThen x) (go-on v₂ (branches, l₂) (behindBranches h buses) (run-judged branch branchOf (λ before. branchLineFaults buses) (h .branches) [] p₂ l₁)
+    ∙ ap (λ x. v₂ andThen x) (go-on v₃ (switches, l₃) (behindSwitches h buses branches) (run-judged switch switchOf (switchLineFaults h) (h .switches) [] p₃ l₂)
+    ∙ ap (λ x. v₃ andThen x) (go-on v₄ (tt {0}, drop 1 l₃) _ (end-judged p₄ l₃)))) in
+    let judged : judgeLines 2 (bodyConditions h ls) ≡ (v₁ andThen (v₂ andThen (v₃ andThen v₄))) =
+    run-append bus busOf busLineFaults (h .buses) [] 2 ls (c₂ ++ (c₃ ++ c₄))
+    ∙ ap (λ x. v₁ andThen x) (run-append branch branchOf (λ before. branchLineFaults buses) (h .branches) [] p₂ l₁ (c₃ ++ c₄)
+    ∙ ap (λ x. v₂ andThen x) (run-append switch switchOf (switchLineFaults h) (h .switches) [] p₃ l₂ c₄)) in (
+      (N, drop 1 l₃),
+      read
+          ∙ ap (λ x. v₁ andThen (v₂ andThen x)) (then-then v₃ v₄ end)
+          ∙ ap (λ x. v₁ andThen x) (then-then v₂ (v₃ andThen v₄) end)
+          ∙ then-then v₁ (v₂ andThen (v₃ andThen v₄)) end
+          ∙ ap (λ x. x andThen end) (sym judged),
+    )
+
+lines-judged : (ls : List Line) → verdictOf (without (readLines ls)) ≡ judgeLines 1 (conditions ls)
+unfolding readLines readOne conditions judgeLines judge follow without verdictOf _andThen_
+lines-judged [] = refl
+lines-judged (l ∷ ls) =
+    let h : Head = headOf (fieldsOf head l) in
+    let v : Verdict = judge (lineFaults (looks head l) l ++ headLineFaults (fieldsOf head l)) 1 in
+    let b = body-judged h ls in
+    let w : Verdict = judgeLines 2 (bodyConditions h ls) in
+    ap (λ x. verdictOf (without x)) (lines-read (l ∷ ls) ∙ go-on v (h, ls) behindHead refl ∙ ap (λ x. v andThen x) (b .1) ∙ then-then v w (accepted (b .0)))
+    ∙ ap verdictOf (without-then (v andThen w) (b .0 .0) (b .0 .1))
+    ∙ verdict-then (v andThen w) (b .0 .0)
+
+pub first-fault : (t : List ℕ) → verdictOf (readText t) ≡ judgeLines 1 (conditions (cut t))
+unfolding readText
+first-fault t = lines-judged (cut t)

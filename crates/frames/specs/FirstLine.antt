@@ -1,0 +1,38 @@
+-- The first line of what is left of a text: where it ends, and its refusals 1 and 2.
+use mathlib.Core.Path.{_≡_}
+use mathlib.Core.Bool.{Bool, true, not, _&&_, _||_}
+use mathlib.Core.List.{List, [], _∷_}
+use mathlib.Core.Logic.{_⊎_}
+use Prim.Native.Nat.{ℕ, _%_, _≤_, _<_}
+use lib.Dec.{ltb, eqb}
+use lib.ListN.{length, take, getD}
+use Rattle.network.specs.Answers.{Answer, refused, Fault, _if_, judge}
+use Rattle.frames.specs.Hex.{isDigit, number}
+use Rattle.frames.specs.Text.{Line, every, lineFaults}
+use Rattle.frames.specs.LineLaws.{plain}
+
+-- n characters stand before the first line feed or the end; or there are over 36, and n is 37
+pub record LineEnd (t : List ℕ) (n : ℕ) : Type 0 where
+  pub within : n ≤ length t
+  pub no-feed : every plain (take n t) ≡ true
+  pub ends : (36 < n) ⊎ (n ≡ length t) ⊎ (getD t n 0 ≡ 10)
+
+-- the faults of the first line; a missing one is 2
+unfoldable pub judgeFirst : (Line → List Fault) → ℕ → List Line → Answer (Unit {0})
+judgeFirst faults place [] = refused 2 place
+judgeFirst faults place (l ∷ ls) = judge (faults l) place
+
+-- what a line's characters are refused for, whatever kind is wanted
+abbrev pub characterFaults : Line → List Fault
+characterFaults l =
+    (2 if ltb 36 (length (l .chars)))
+    ∷ (1 if (not (l .ended) || eqb (length (l .chars) % 2) 1 || not (every isDigit (l .chars))))
+    ∷ []
+
+-- has a line this kind byte and this length?
+abbrev pub wanted : ℕ → ℕ → Line → Bool
+wanted kind size l = eqb (length (l .chars)) size && eqb (number (take 2 (l .chars))) kind
+
+-- refusals 1 and 2 of the first line, where a frame of this kind and length is wanted
+unfoldable pub judgeFrame : ℕ → ℕ → ℕ → List Line → Answer (Unit {0})
+judgeFrame kind size place ls = judgeFirst (λ l. lineFaults (wanted kind size l) l) place ls

@@ -1,0 +1,144 @@
+-- A text is its lines, and a line of a kind without a fault is its fields.
+use mathlib.Core.Path.{_≡_, refl, sym, ap, ap₂, _∙_}
+use mathlib.Core.Bool.{Bool, true, false, cond, not, _||_}
+use mathlib.Core.List.{List, [], _∷_, _++_}
+use Prim.Native.Nat.{ℕ, _%_, _^_, _≤_, _<_}
+use lib.Dec.{ltb, eqb, lit<, lit≤}
+use lib.ListN.{length}
+use borrow.Author.Tests.{le-ltb, eq-eqb, eqb-true, not-true, not-false}
+use Rattle.network.specs.Answers.{accepted, Fault, judge}
+use Rattle.network.specs.Inside.{Each}
+use Rattle.frames.specs.Hex.{isDigit, Fields, readFields, writeFields, Fit, total}
+use Rattle.frames.specs.HexLaws.{digit-no-feed, length-fields, every-fields, fields-kept, chars-kept}
+use Rattle.frames.specs.Text.{Line, put, cut, every, lineFaults, Frame, head, bus, branch, switch, layout, looks, fieldsOf}
+use Rattle.frames.specs.ReaderLaws.{both, neither, judge-past, judge-passed}
+
+-- ---- a text and its lines
+-- the text of lines
+unfoldable pub joined : List Line → List ℕ
+joined [] = []
+joined (l ∷ ls) = l .chars ++ (cond (l .ended) (10 ∷ []) [] ++ joined ls)
+
+joined-put : (c : ℕ) (ls : List Line) → joined (put c ls) ≡ c ∷ joined ls
+unfolding joined put
+joined-put c [] = refl
+joined-put c (l ∷ ls) = refl
+
+pub joined-cut : (t : List ℕ) → joined (cut t) ≡ t
+unfolding joined cut
+joined-cut [] = refl
+joined-cut (c ∷ t) = go (eqb c 10) refl (joined-cut t)
+  where
+    go : (b : Bool) → eqb c 10 ≡ b → joined (cut t) ≡ t → joined (cond b (record { chars = []; ended = true } ∷ cut t) (put c (cut t))) ≡ c ∷ t
+    go true e ih = ap₂ {C = List ℕ} (λ x xs. x ∷ xs) (sym (eqb-true c 10 e)) ih
+    go false e ih = joined-put c (cut t) ∙ ap (λ xs. c ∷ xs) ih
+
+-- no line feed
+abbrev pub plain : ℕ → Bool
+plain c = not (eqb c 10)
+
+-- where the next line of a text ends
+pub cut-ended : (cs t : List ℕ) → every plain cs ≡ true → cut (cs ++ (10 ∷ t)) ≡ record { chars = cs; ended = true } ∷ cut t
+unfolding every cut put
+cut-ended [] t e = refl
+cut-ended (c ∷ cs) t e =
+    let h = both (plain c) (every plain cs) e in
+    rw (not-true (eqb c 10) (h .0), cut-ended cs t (h .1))
+
+pub cut-unended : (c : ℕ) (cs : List ℕ) → every plain (c ∷ cs) ≡ true → cut (c ∷ cs) ≡ record { chars = c ∷ cs; ended = false } ∷ []
+unfolding every cut put
+cut-unended c [] e = rw (not-true (eqb c 10) (both (plain c) true e .0))
+cut-unended c (d ∷ cs) e =
+    let h = both (plain c) (every plain (d ∷ cs)) e in
+    rw (not-true (eqb c 10) (h .0), cut-unended d cs (h .1))
+
+digits-plain : (cs : List ℕ) → every isDigit cs ≡ true → every plain cs ≡ true
+unfolding every
+digits-plain [] e = refl
+digits-plain (c ∷ cs) e =
+    let h = both (isDigit c) (every isDigit cs) e in
+    rw (digit-no-feed c (h .0)) (digits-plain cs (h .1))
+
+-- a line of digits that is ended
+pub record Plain (l : Line) : Type 0 where
+  pub is-ended : l .ended ≡ true
+  pub is-digits : every isDigit (l .chars) ≡ true
+
+pub cut-joined : (ls : List Line) → Each Plain ls → cut (joined ls) ≡ ls
+unfolding joined cut
+cut-joined [] h = refl
+cut-joined (l ∷ ls) h =
+    rw (h .0 .is-ended) (cut-ended (l .chars) (joined ls) (digits-plain (l .chars) (h .0 .is-digits))
+    ∙ ap (λ (r : List Line). record { chars = l .chars; ended = true } ∷ r) (cut-joined ls (h .1)))
+
+-- ---- lines of a kind
+pub record Sound (F : Frame) : Type 0 where
+  pub byte : F .kind < 16 ^ 2
+  pub short : total (layout F) ≤ 36
+  pub even : eqb (total (layout F) % 2) 1 ≡ false
+
+pub head-sound : Sound head
+head-sound = record { byte = lit< tt; short = lit≤ tt; even = refl }
+
+pub bus-sound : Sound bus
+bus-sound = record { byte = lit< tt; short = lit≤ tt; even = refl }
+
+pub branch-sound : Sound branch
+branch-sound = record { byte = lit< tt; short = lit≤ tt; even = refl }
+
+pub switch-sound : Sound switch
+switch-sound = record { byte = lit< tt; short = lit≤ tt; even = refl }
+
+-- the line that fields make
+unfoldable pub lineOf : (F : Frame) → Fields (F .widths) → Line
+lineOf F f = record { chars = writeFields (layout F) (F .kind, f); ended = true }
+
+module _ (F : Frame) (s : Sound F) where
+  pub line-plain : (f : Fields (F .widths)) → Fit (F .widths) f → Plain (lineOf F f)
+  unfolding lineOf
+  line-plain f h = record { is-ended = refl; is-digits = every-fields (layout F) (F .kind, f) (s .byte, h) }
+
+  pub line-long : (f : Fields (F .widths)) → length (lineOf F f .chars) ≡ total (layout F)
+  unfolding lineOf
+  line-long f = length-fields (layout F) (F .kind, f)
+
+  line-fields : (f : Fields (F .widths)) → Fit (F .widths) f → readFields (layout F) (lineOf F f .chars) ≡ (F .kind, f)
+  unfolding lineOf
+  line-fields f h = fields-kept (layout F) (F .kind, f) (s .byte, h)
+
+  pub fields-line : (f : Fields (F .widths)) → Fit (F .widths) f → fieldsOf F (lineOf F f) ≡ f
+  unfolding fieldsOf
+  fields-line f h = ap (λ (g : Fields (layout F)). g .1) (line-fields f h)
+
+  looks-line : (f : Fields (F .widths)) → Fit (F .widths) f → looks F (lineOf F f) ≡ true
+  unfolding looks
+  looks-line f h = rw (eq-eqb _ _ (line-long f), eq-eqb _ _ (ap (λ (g : Fields (layout F)). g .0) (line-fields f h)))
+
+  -- the line that fields make meets none of the conditions of lines
+  pub line-clear : (f : Fields (F .widths)) → Fit (F .widths) f → (fs : List Fault) (p : ℕ) → judge (lineFaults (looks F (lineOf F f)) (lineOf F f) ++ fs) p ≡ judge fs p
+  unfolding lineFaults
+  line-clear f h fs p =
+      let l = lineOf F f in
+      let pl = line-plain f h in
+      let long = line-long f in
+      let b1 : ltb 36 (length (l .chars)) ≡ false = rw long (le-ltb 36 _ (s .short)) in
+      let b2 : (not (l .ended) || eqb (length (l .chars) % 2) 1 || not (every isDigit (l .chars))) ≡ false = rw (pl .is-ended, long, s .even, pl .is-digits) in
+      let b3 : not (looks F l) ≡ false = rw (looks-line f h) in
+      judge-past 2 _ _ p b1 ∙ judge-past 1 _ _ p b2 ∙ judge-past 2 _ _ p b3
+
+  -- a line that meets none is the line of its fields
+  pub line-kept : (l : Line) (fs : List Fault) (p : ℕ) → judge (lineFaults (looks F l) l ++ fs) p ≡ accepted tt
+      → (l ≡ lineOf F (fieldsOf F l)) × Fit (F .widths) (fieldsOf F l) × (judge fs p ≡ accepted tt)
+  unfolding lineFaults looks fieldsOf lineOf
+  line-kept l fs p e =
+      let s1 = judge-passed 2 _ _ p e in
+      let s2 = judge-passed 1 _ _ p (s1 .1) in
+      let s3 = judge-passed 2 _ _ p (s2 .1) in
+      let n1 = neither (not (l .ended) || eqb (length (l .chars) % 2) 1) (not (every isDigit (l .chars))) (s2 .0) in
+      let ended : l .ended ≡ true = not-false _ (neither (not (l .ended)) (eqb (length (l .chars) % 2) 1) (n1 .0) .0) in
+      let read : Fields (layout F) = readFields (layout F) (l .chars) in
+      let like = both (eqb (length (l .chars)) (total (layout F))) (eqb (read .0) (F .kind)) (not-false _ (s3 .0)) in
+      let kept = chars-kept (layout F) (l .chars) (eqb-true _ _ (like .0)) (not-false _ (n1 .1)) in
+      let kind : _≡_ {A = Fields (layout F)} (F .kind, read .1) read = ap (λ (k : ℕ). (k, read .1)) (sym (eqb-true _ _ (like .1))) in
+      let same : writeFields (layout F) (F .kind, read .1) ≡ l .chars = ap (writeFields (layout F)) kind ∙ kept .0 in
+      (ap₂ (λ (cs : List ℕ) (b : Bool). record { chars = cs; ended = b }) (sym same) ended, kept .1 .1, s3 .1)

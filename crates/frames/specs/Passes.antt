@@ -1,0 +1,102 @@
+-- Reading in two passes. The first looks at each line's text and at the meaning of its bytes alone (rows 1, 2 and, of branch and switch lines, 3) and
+-- collects the records up to the first line at fault; then the records are checked as records handed over without text are.
+-- Split shows that this is readText:
+--   split : (t : List ℕ) → readText t ≡ readTwice t
+use mathlib.Core.List.{List, [], _∷_, _++_}
+use Prim.Native.Nat.{ℕ, _+_}
+use lib.Dec.{ltb}
+use Rattle.numbers.specs.UpTo.{upTo}
+use Rattle.network.specs.declared.bus.Bus.{Bus}
+use Rattle.network.specs.declared.branch.Branch.{Branch}
+use Rattle.network.specs.declared.switch.Switch.{Switch}
+use Rattle.network.specs.Answers.{Answer, accepted, refused, _andThen_, Fault, _if_}
+use Rattle.network.specs.Records.{Network}
+use Rattle.network.specs.Faults.{Head}
+use Rattle.network.specs.Check.{checkRecords}
+use Rattle.frames.specs.Hex.{Fields}
+use Rattle.frames.specs.Text.{Line, cut, Frame, head, bus, branch, switch, headOf, busOf, branchOf, switchOf, headLineFaults, readOne, readEnd, without}
+
+-- ---- a byte without a meaning, row 3; a bus line has no such byte
+abbrev pub busBytes : Fields (bus .widths) → List Fault
+busBytes f = []
+
+abbrev pub branchBytes : Fields (branch .widths) → List Fault
+branchBytes f = (3 if ltb 1 (f .1 .1 .1 .0)) ∷ []
+
+abbrev pub switchBytes : Fields (switch .widths) → List Fault
+switchBytes f = (3 if ltb 3 (f .1 .1 .0)) ∷ []
+
+-- ---- the pass over the lines of one kind
+-- the records read so far, the lines left, and the refusal at which the pass stopped, if it did; the line refused is then the first of those left
+pub record Pass (A : Type 0) : Type 0 where
+  pub records : List A
+  pub left : List Line
+  pub stopped : Answer (Unit {0})
+
+abbrev pub going : {A : Type 0} → List A → List Line → Pass A
+going records left = record { records = records; left = left; stopped = accepted tt }
+
+abbrev pub halted : {A : Type 0} → List A → List Line → ℕ → ℕ → Pass A
+halted records left n place = record { records = records; left = left; stopped = refused n place }
+
+-- what the next line adds
+unfoldable pub passOne : {A : Type 0} → List A → List Line → Answer (A × List Line) → Pass A
+passOne records left (accepted r) = going (records ++ (r .0 ∷ [])) (r .1)
+passOne records left (refused n place) = halted records left n place
+
+-- a pass that has stopped stays as it is
+unfoldable pub passOn : {A : Type 0} → List A → List Line → Answer (Unit {0}) → Answer (A × List Line) → Pass A
+passOn records left (accepted u) next = passOne records left next
+passOn records left (refused n place) next = halted records left n place
+
+-- one line more, at this place
+unfoldable pub passStep : {A : Type 0} → (F : Frame) → (Fields (F .widths) → A) → (Fields (F .widths) → List Fault) → ℕ → Pass A → Pass A
+passStep F make bytes place pass = passOn (pass .records) (pass .left) (pass .stopped) (readOne F make bytes place (pass .left))
+
+-- n lines, the first at this place
+unfoldable pub passRun : {A : Type 0} → (F : Frame) → (Fields (F .widths) → A) → (Fields (F .widths) → List Fault) → ℕ → ℕ → List Line → Pass A
+passRun F make bytes n place ls = upTo (λ pass i. passStep F make bytes (place + i) pass) (going [] ls) n
+
+-- ---- the pass over a whole text
+-- a kind's lines are reached where all lines of the kind before were read
+unfoldable pub onward : {B : Type 0} → List Line → Answer (Unit {0}) → (List Line → Pass B) → Pass B
+onward left (accepted u) more = more left
+onward left (refused n place) more = halted [] left n place
+
+abbrev pub after : {A B : Type 0} → Pass A → (List Line → Pass B) → Pass B
+after pass more = onward (pass .left) (pass .stopped) more
+
+abbrev pub passBuses : Head → List Line → Pass Bus
+passBuses h = passRun bus busOf busBytes (h .buses) 2
+
+abbrev pub passBranches : Head → List Line → Pass Branch
+passBranches h = passRun branch branchOf branchBytes (h .branches) (2 + h .buses)
+
+abbrev pub passSwitches : Head → List Line → Pass Switch
+passSwitches h = passRun switch switchOf switchBytes (h .switches) (2 + h .buses + h .branches)
+
+-- the records collected, and the refusal of the first line at fault, if there is one
+pub record Collected : Type 0 where
+  pub network : Network
+  pub stopped : Answer (Unit {0})
+
+unfoldable pub collect : Head → List Line → Collected
+collect h ls =
+    let b = passBuses h ls in
+    let r = after b (passBranches h) in
+    let s = after r (passSwitches h) in
+    record {
+      network = record { base = h .base; algorithm = h .algorithm; iterations = h .iterations; buses = b .records; branches = r .records; switches = s .records };
+      stopped = s .stopped andThen without (readEnd (2 + h .buses + h .branches + h .switches) (s .left));
+    }
+
+-- the records decide, each at its place, then the line at which the pass stopped, which comes after all of theirs
+abbrev pub settle : Collected → Answer Network
+settle c = checkRecords (c .network) andThen c .stopped andThen accepted (c .network)
+
+unfoldable pub afterHead : Answer (Head × List Line) → Answer Network
+afterHead (accepted r) = settle (collect (r .0) (r .1))
+afterHead (refused n place) = refused n place
+
+unfoldable pub readTwice : List ℕ → Answer Network
+readTwice t = afterHead (readOne head headOf headLineFaults 1 (cut t))

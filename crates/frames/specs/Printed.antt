@@ -1,0 +1,57 @@
+-- The frames that are printed (document 01, section Triangle), and what a lent slice holds once bytes are written into it.
+use mathlib.Core.Bool.{Bool, cond}
+use mathlib.Core.List.{List, [], _∷_, _++_}
+use Prim.Native.Nat.{ℕ}
+use lib.Dec.{leb}
+use lib.ListN.{length, drop}
+use Rattle.frames.specs.declared.writer.SwitchAction.{SwitchAction}
+use Rattle.frames.specs.declared.writer.SwitchAction.the-variants.{Open, Close}
+use Rattle.frames.specs.Text.{Frame}
+use Rattle.frames.specs.Acceptable.{frameText}
+
+-- bytes at the front of a slice: "a longer slice keeps its tail", and one that is too short keeps every byte
+unfoldable pub written : List ℕ → List ℕ → List ℕ
+written bytes out = cond (leb (length bytes) (length out)) (bytes ++ drop (length bytes) out) out
+
+-- ---- 81
+-- "radial byte of the best state, base loss, best loss, reduction percent, iterations (u16), converged"
+abbrev pub answer : Frame
+answer = record { kind = 0x81; widths = 2 ∷ 16 ∷ 16 ∷ 16 ∷ 4 ∷ 2 ∷ [] }
+
+-- a radial or converged byte: 01 where it is so, as in the triangle's answer, else 00
+abbrev pub truthByte : Bool → ℕ
+truthByte b = cond b 1 0
+
+-- the losses and the reduction by their "f64 bits"
+unfoldable pub answerText : Bool → ℕ → ℕ → ℕ → ℕ → Bool → List ℕ
+answerText radial base best reduction iterations converged =
+    frameText answer (truthByte radial, (base, (best, (reduction, (iterations, (truthByte converged, tt))))))
+
+-- ---- 82
+-- "switch id, 00 open or 01 close"
+abbrev pub operation : Frame
+operation = record { kind = 0x82; widths = 4 ∷ 2 ∷ [] }
+
+-- "00 open or 01 close": what is done to the switch. A state's byte says how a switch stands, 00 closed and 01 open
+abbrev pub actionByte : SwitchAction → ℕ
+actionByte Open = 0
+actionByte Close = 1
+
+unfoldable pub operationText : ℕ → SwitchAction → List ℕ
+operationText switchId action = frameText operation (switchId, (actionByte action, tt))
+
+-- ---- 83
+-- "id closed, id opened"
+abbrev pub pair : Frame
+pair = record { kind = 0x83; widths = 4 ∷ 4 ∷ [] }
+
+unfoldable pub pairText : ℕ → ℕ → List ℕ
+pairText closes opens = frameText pair (closes, (opens, tt))
+
+-- ---- 8F
+-- "number byte, place (u16)"
+abbrev pub refusal : Frame
+refusal = record { kind = 0x8F; widths = 2 ∷ 4 ∷ [] }
+
+unfoldable pub refusalText : ℕ → ℕ → List ℕ
+refusalText number place = frameText refusal (number, (place, tt))

@@ -1,0 +1,271 @@
+-- The reader against the check of records and the text of a network: what is written is judged as the records are (`read-written`), and what is
+-- accepted was written so (`accepted-written`). Both go line by line, from the laws of a line's characters and of a record's fields.
+use mathlib.Core.Path.{_≡_, refl, sym, ap, _∙_, subst}
+use mathlib.Core.Bool.{false, not, true≢false}
+use mathlib.Core.List.{List, [], _∷_, _++_, map, flatMap, append-nil, append-assoc}
+use Prim.Native.Nat.{ℕ, zero, suc, _+_}
+use lib.ListN.{length}
+use borrow.Author.Tests.{not-false}
+use Rattle.network.specs.declared.bus.Bus.{Bus}
+use Rattle.network.specs.declared.branch.Branch.{Branch}
+use Rattle.network.specs.declared.switch.Switch.{Switch}
+use Rattle.network.specs.Answers.{Answer, accepted, _andThen_, Fault, judge}
+use Rattle.network.specs.Records.{Network}
+use Rattle.network.specs.Faults.{Head, okLoad, okR, headFaults, busFaults, branchFaults, switchFaults}
+use Rattle.network.specs.AnswerLaws.{judge-iff}
+use Rattle.network.specs.InsideLaws.{HeadInside, head-iff}
+use Rattle.network.specs.Check as check
+use Rattle.network.specs.Check.{checkRun, checkRecords}
+use Rattle.network.specs.Inside.{Each}
+use Rattle.frames.specs.Hex.{Fields}
+use Rattle.frames.specs.Text.{Line, cut, lineFaults, looks, fieldsOf, head, switch, headOf, switchOf, headLineFaults, switchLineFaults, follow, _>>=_, pure, readOne, readRun, readEnd, readLines, without, readText}
+use Rattle.frames.specs.Acceptable.{frameText, textOf, Writable}
+use Rattle.frames.specs.ReaderLaws.{Verdict, no-refusal, same-value, judge-passed, judge-append, then-then, then-accepted, go-on, follow-accepted, without-then, without-accepted, network, behindSwitches, behindBranches, behindBuses, behindHead, lines-read}
+use Rattle.frames.specs.LineLaws.{joined, joined-cut, cut-joined, Plain, lineOf, line-plain, fields-line, line-clear, line-kept}
+use Rattle.frames.specs.RecordLaws.{Kind, headKind, busKind, branchKind, switchKind}
+
+-- the line of a record
+unfoldable recordLine : {A : Type 0} → Kind A → A → Line
+recordLine K a = lineOf (K .frame) (K .fields a)
+
+module _ {A : Type 0} (K : Kind A) (own : List A → A → List Fault) (ranged : (before : List A) (a : A) (p : ℕ) → judge (own before a) p ≡ accepted tt → K .Ranged a) where
+  -- all conditions on a line's fields
+  abbrev whole : List A → Fields (K .frame .widths) → List Fault
+  whole before f = K .bytes f ++ own before (K .make f)
+
+  -- ---- one line
+  one-written : (before : List A) (p : ℕ) (a : A) → K .Room a → (ls : List Line)
+      → readOne (K .frame) (K .make) (whole before) p (recordLine K a ∷ ls) ≡ (judge (own before a) p andThen accepted (a, ls))
+  unfolding readOne recordLine _andThen_
+  one-written before p a h ls =
+      let F = K .frame in
+      let f = K .fields a in
+      let fit = K .fit a h in
+      rw (fields-line F (K .sound) f fit, line-clear F (K .sound) f fit (whole before f) p, judge-append (K .bytes f) (own before (K .make f)) p, K .meant a p, K .made a h)
+
+  one-kept : (before : List A) (p : ℕ) (ls : List Line) (r : A × List Line) → readOne (K .frame) (K .make) (whole before) p ls ≡ accepted r
+      → (ls ≡ recordLine K (r .0) ∷ r .1) × K .Room (r .0) × (judge (own before (r .0)) p ≡ accepted tt)
+  unfolding readOne recordLine
+  one-kept before p [] r e = no-refusal e
+  one-kept before p (l ∷ ls) r e =
+      let F = K .frame in
+      let f = fieldsOf F l in
+      let a = K .make f in
+      let t = then-accepted (judge (lineFaults (looks F l) l ++ whole before f) p) (accepted (a, ls)) e in
+      let k = line-kept F (K .sound) l (whole before f) p (t .0) in
+      let j = then-accepted (judge (K .bytes f) p) (judge (own before a) p) (sym (judge-append (K .bytes f) (own before a) p) ∙ k .2) in
+      let same = K .kept f p (k .1) (j .0) (ranged before a p (j .1)) in
+      subst (λ (q : A × List Line). (l ∷ ls ≡ recordLine K (q .0) ∷ q .1) × K .Room (q .0) × (judge (own before (q .0)) p ≡ accepted tt))
+      (same-value (t .1))
+      (ap (λ (x : Line). x ∷ ls) (k .0 ∙ ap (lineOf F) (sym same)), K .room f (k .1), j .1)
+
+  -- ---- a run of lines
+  run-written : (before xs : List A) (p : ℕ) (ls : List Line) → Each (K .Room) xs
+      → readRun (K .frame) (K .make) whole before (length xs) p (map (recordLine K) xs ++ ls) ≡ (checkRun own before p xs andThen accepted (xs, ls))
+  unfolding readRun checkRun pure _andThen_
+  run-written before [] p ls h = refl
+  run-written before (a ∷ rest) p ls h =
+      let lines : List Line = map (recordLine K) rest ++ ls in
+      let v = judge (own before a) p in
+      let w = checkRun own (before ++ (a ∷ [])) (suc p) rest in
+      go-on v (a, lines) _ (one-written before p a (h .0) lines)
+      ∙ ap (λ b. v andThen b) (go-on w (rest, ls) _ (run-written (before ++ (a ∷ [])) rest (suc p) ls (h .1)))
+      ∙ then-then v w (accepted (a ∷ rest, ls))
+
+  record Kept (n : ℕ) (before : List A) (p : ℕ) (ls : List Line) (r : List A × List Line) : Type 0 where
+    lines : ls ≡ map (recordLine K) (r .0) ++ r .1
+    rooms : Each (K .Room) (r .0)
+    clear : checkRun own before p (r .0) ≡ accepted tt
+    many : length (r .0) ≡ n
+
+  run-kept : (n : ℕ) (before : List A) (p : ℕ) (ls : List Line) (r : List A × List Line) → readRun (K .frame) (K .make) whole before n p ls ≡ accepted r → Kept n before p ls r
+  unfolding readRun checkRun pure _andThen_
+  run-kept zero before p ls r e = subst (Kept zero before p ls) (same-value e) (record { lines = refl; rooms = tt; clear = refl; many = refl })
+  run-kept (suc n) before p ls r e =
+      follow-accepted (readOne (K .frame) (K .make) (whole before) p ls) (λ a. readRun (K .frame) (K .make) whole (before ++ (a ∷ [])) n (suc p) >>= λ rest. pure (a ∷ rest)) e λ q e₁ k₁.
+      follow-accepted (readRun (K .frame) (K .make) whole (before ++ (q .0 ∷ [])) n (suc p) (q .1)) (λ rest. pure (q .0 ∷ rest)) k₁ λ t e₂ k₂.
+      let one = one-kept before p ls q e₁ in
+      let more = run-kept n (before ++ (q .0 ∷ [])) (suc p) (q .1) t e₂ in
+      subst (Kept (suc n) before p ls) (same-value k₂)
+      (record {
+        lines = one .0 ∙ ap (λ (x : List Line). recordLine K (q .0) ∷ x) (more .lines);
+        rooms = (one .1, more .rooms);
+        clear = rw (one .2) (more .clear);
+        many = ap suc (more .many);
+      })
+
+-- ---- a record that meets no condition has its float in its range
+head-ranged : (before : List Head) (h : Head) (p : ℕ) → judge (headFaults h) p ≡ accepted tt → headKind .Ranged h
+head-ranged before h p e = head-iff h .0 (judge-iff (headFaults h) p .0 e) .base
+
+bus-ranged : (before : List Bus) (b : Bus) (p : ℕ) → judge (busFaults before b) p ≡ accepted tt → busKind .Ranged b
+unfolding busFaults
+bus-ranged before b p e = not-false _ (judge-passed 5 (not (okLoad (b .pd .0))) _ p e .0)
+
+branch-ranged : (buses : List Bus) (before : List Branch) (b : Branch) (p : ℕ) → judge (branchFaults buses b) p ≡ accepted tt → branchKind .Ranged b
+unfolding branchFaults
+branch-ranged buses before b p e = not-false _ (judge-passed 5 (not (okR (b .r))) _ p e .0)
+
+switch-ranged : (h : Head) (before : List Switch) (s : Switch) (p : ℕ) → judge (switchFaults h before s) p ≡ accepted tt → switchKind .Ranged s
+switch-ranged h before s p e = tt
+
+-- a head that the reader accepts is inside the limits
+pub head-passed : (ls : List Line) (r : Head × List Line) → readOne head headOf headLineFaults 1 ls ≡ accepted r → HeadInside (r .0)
+head-passed ls r e = head-iff (r .0) .0 (judge-iff (headFaults (r .0)) 1 .0 (one-kept headKind (λ before. headFaults) head-ranged [] 1 ls r e .2))
+
+-- ---- the lines of a network
+linesOf : Network → List Line
+linesOf N =
+    recordLine headKind (check.headOf N)
+    ∷ (map (recordLine busKind) (N .buses) ++ (map (recordLine branchKind) (N .branches) ++ map (recordLine switchKind) (N .switches)))
+
+lines-written : (N : Network) → Writable N → readLines (linesOf N) ≡ (checkRecords N andThen accepted (N, []))
+unfolding linesOf checkRecords check.headOf behindHead behindBuses behindBranches behindSwitches readEnd follow pure
+lines-written N w =
+    let h : Head = check.headOf N in
+    let s-lines : List Line = map (recordLine switchKind) (N .switches) in
+    let r-lines : List Line = map (recordLine branchKind) (N .branches) ++ s-lines in
+    let b-lines : List Line = map (recordLine busKind) (N .buses) ++ r-lines in
+    let p₂ : ℕ = 2 + h .buses in
+    let p₃ : ℕ = p₂ + h .branches in
+    let v₀ : Verdict = judge (headFaults h) 1 in
+    let v₁ : Verdict = checkRun busFaults [] 2 (N .buses) in
+    let v₂ : Verdict = checkRun (λ before. branchFaults (N .buses)) [] p₂ (N .branches) in
+    let v₃ : Verdict = checkRun (switchFaults h) [] p₃ (N .switches) in
+    let end : Answer (Network × List Line) = accepted (N, []) in
+    let switches-read = ap (readRun switch switchOf (switchLineFaults h) [] (h .switches) p₃) (sym (append-nil s-lines)) ∙ run-written switchKind (switchFaults h) (switch-ranged h) [] (N .switches) p₃ [] (w .switch-room) in
+    lines-read (linesOf N)
+    ∙ go-on v₀ (h, b-lines) behindHead (one-written headKind (λ before. headFaults) head-ranged [] 1 h (w .head-room) b-lines)
+    ∙ ap (λ x. v₀ andThen x) (go-on v₁ (N .buses, r-lines) (behindBuses h) (run-written busKind busFaults bus-ranged [] (N .buses) 2 r-lines (w .bus-room))
+    ∙ ap (λ x. v₁ andThen x) (go-on v₂ (N .branches, s-lines) (behindBranches h (N .buses)) (run-written branchKind (λ before. branchFaults (N .buses)) (branch-ranged (N .buses)) [] (N .branches) p₂ s-lines (w .branch-room))
+    ∙ ap (λ x. v₂ andThen x) (go-on v₃ (N .switches, []) (behindSwitches h (N .buses) (N .branches)) switches-read)
+    ∙ then-then v₂ v₃ end)
+    ∙ then-then v₁ (v₂ andThen v₃) end)
+    ∙ then-then v₀ (v₁ andThen (v₂ andThen v₃)) end
+
+-- what the reader has found once it accepts: a head and a network whose lines are all there are
+record Found (h : Head) (N : Network) (ls : List Line) : Type 0 where
+  lines : ls ≡ recordLine headKind h ∷ (map (recordLine busKind) (N .buses) ++ (map (recordLine branchKind) (N .branches) ++ map (recordLine switchKind) (N .switches)))
+  head-room : headKind .Room h
+  bus-room : Each (busKind .Room) (N .buses)
+  branch-room : Each (branchKind .Room) (N .branches)
+  switch-room : Each (switchKind .Room) (N .switches)
+  head-clear : judge (headFaults h) 1 ≡ accepted tt
+  buses-clear : checkRun busFaults [] 2 (N .buses) ≡ accepted tt
+  branches-clear : checkRun (λ before. branchFaults (N .buses)) [] (2 + h .buses) (N .branches) ≡ accepted tt
+  switches-clear : checkRun (switchFaults h) [] (2 + h .buses + h .branches) (N .switches) ≡ accepted tt
+
+end-kept : (p : ℕ) (ls : List Line) (r : Unit {0} × List Line) → readEnd p ls ≡ accepted r → ls ≡ []
+unfolding readEnd lineFaults
+end-kept p [] r e = refl
+end-kept p (l ∷ ls) r e =
+    let t = then-accepted (judge (lineFaults false l) p) (accepted (tt, ls)) e in
+    let s₁ = judge-passed 2 _ _ p (t .0) in
+    let s₂ = judge-passed 1 _ _ p (s₁ .1) in
+    absurd (true≢false (judge-passed 2 _ _ p (s₂ .1) .0))
+
+found : (h : Head) (N : Network) (l₀ l₁ l₂ l₃ l₄ : List Line)
+    → (l₀ ≡ recordLine headKind h ∷ l₁) × headKind .Room h × (judge (headFaults h) 1 ≡ accepted tt)
+    → Kept busKind busFaults bus-ranged (h .buses) [] 2 l₁ (N .buses, l₂)
+    → Kept branchKind (λ before. branchFaults (N .buses)) (branch-ranged (N .buses)) (h .branches) [] (2 + h .buses) l₂ (N .branches, l₃)
+    → Kept switchKind (switchFaults h) (switch-ranged h) (h .switches) [] (2 + h .buses + h .branches) l₃ (N .switches, l₄)
+    → l₄ ≡ [] → Found h N l₀
+found h N l₀ l₁ l₂ l₃ l₄ one buses branches switches left =
+    let s-lines : l₃ ≡ map (recordLine switchKind) (N .switches) = switches .lines ∙ ap (λ (x : List Line). map (recordLine switchKind) (N .switches) ++ x) left ∙ append-nil _ in
+    let r-lines : l₂ ≡ map (recordLine branchKind) (N .branches) ++ map (recordLine switchKind) (N .switches) = branches .lines ∙ ap (λ (x : List Line). map (recordLine branchKind) (N .branches) ++ x) s-lines in
+    record {
+      lines = one .0 ∙ ap (λ (x : List Line). recordLine headKind h ∷ x) (buses .lines ∙ ap (λ (x : List Line). map (recordLine busKind) (N .buses) ++ x) r-lines);
+      head-room = one .1;
+      bus-room = buses .rooms;
+      branch-room = branches .rooms;
+      switch-room = switches .rooms;
+      head-clear = one .2;
+      buses-clear = buses .clear;
+      branches-clear = branches .clear;
+      switches-clear = switches .clear;
+    }
+
+lines-found : (ls : List Line) (r : Network × List Line) → readLines ls ≡ accepted r → (h : Head) × (h ≡ check.headOf (r .0)) × Found h (r .0) ls
+unfolding behindHead behindBuses behindBranches behindSwitches check.headOf pure
+lines-found ls r e =
+    follow-accepted (readOne head headOf headLineFaults 1 ls) behindHead (sym (lines-read ls) ∙ e) λ a e₀ k₀.
+    follow-accepted _ (behindBuses (a .0)) k₀ λ b e₁ k₁.
+    follow-accepted _ (behindBranches (a .0) (b .0)) k₁ λ c e₂ k₂.
+    follow-accepted _ (behindSwitches (a .0) (b .0) (c .0)) k₂ λ d e₃ k₃.
+    follow-accepted _ _ k₃ λ f e₄ k₄.
+    let h : Head = a .0 in
+    let N : Network = network h (b .0) (c .0) (d .0) in
+    let one = one-kept headKind (λ before. headFaults) head-ranged [] 1 ls a e₀ in
+    let buses = run-kept busKind busFaults bus-ranged (h .buses) [] 2 (a .1) b e₁ in
+    let branches = run-kept branchKind (λ before. branchFaults (b .0)) (branch-ranged (b .0)) (h .branches) [] (2 + h .buses) (b .1) c e₂ in
+    let switches = run-kept switchKind (switchFaults h) (switch-ranged h) (h .switches) [] (2 + h .buses + h .branches) (c .1) d e₃ in
+    let left = end-kept (2 + h .buses + h .branches + h .switches) (d .1) f e₄ in
+    let counts : check.headOf N ≡ h = λ i. record { buses = buses .many i; branches = branches .many i; switches = switches .many i; base = h .base; algorithm = h .algorithm; iterations = h .iterations } in
+    subst (λ (q : Network × List Line). (k : Head) × (k ≡ check.headOf (q .0)) × Found k (q .0) ls) (same-value k₄)
+    (h, sym counts, found h N ls (a .1) (b .1) (c .1) (d .1) one buses branches switches left)
+
+lines-kept : (ls : List Line) (r : Network × List Line) → readLines ls ≡ accepted r → (ls ≡ linesOf (r .0)) × Writable (r .0) × (checkRecords (r .0) ≡ accepted tt)
+unfolding linesOf checkRecords _andThen_
+lines-kept ls r e =
+    let t = lines-found ls r e in
+    let f : Found (check.headOf (r .0)) (r .0) ls = subst (λ h. Found h (r .0) ls) (t .1) (t .2) in (
+      f .lines,
+      record { head-room = f .head-room; bus-room = f .bus-room; branch-room = f .branch-room; switch-room = f .switch-room },
+      rw (f .head-clear, f .buses-clear, f .branches-clear, f .switches-clear),
+    )
+
+-- ---- the text of a network is that of its lines
+joined-append : (ls ms : List Line) → joined (ls ++ ms) ≡ joined ls ++ joined ms
+unfolding joined
+joined-append [] ms = refl
+joined-append (l ∷ ls) ms = rw (joined-append ls ms) (simp append-assoc)
+
+joined-records : {A : Type 0} (K : Kind A) (xs : List A) → joined (map (recordLine K) xs) ≡ flatMap (λ a. frameText (K .frame) (K .fields a)) xs
+unfolding joined recordLine lineOf frameText flatMap
+joined-records K [] = refl
+joined-records K (a ∷ rest) = rw (joined-records K rest) (simp append-assoc)
+
+joined-lines : (N : Network) → joined (linesOf N) ≡ textOf N
+unfolding linesOf textOf joined recordLine lineOf frameText
+joined-lines N =
+    let b-lines : List Line = map (recordLine busKind) (N .buses) in
+    let r-lines : List Line = map (recordLine branchKind) (N .branches) in
+    let s-lines : List Line = map (recordLine switchKind) (N .switches) in
+    rw (joined-append b-lines (r-lines ++ s-lines), joined-append r-lines s-lines, joined-records busKind (N .buses), joined-records branchKind (N .branches), joined-records switchKind (N .switches))
+    (sym (append-assoc (lineOf head (headKind .fields (check.headOf N)) .chars) (10 ∷ []) _))
+
+each-append : {A : Type 0} (P : A → Type 0) (xs ys : List A) → Each P xs → Each P ys → Each P (xs ++ ys)
+each-append P [] ys h k = k
+each-append P (x ∷ xs) ys h k = (h .0, each-append P xs ys (h .1) k)
+
+lines-plain : {A : Type 0} (K : Kind A) (xs : List A) → Each (K .Room) xs → Each Plain (map (recordLine K) xs)
+unfolding recordLine
+lines-plain K [] h = tt
+lines-plain K (x ∷ xs) h = (line-plain (K .frame) (K .sound) (K .fields x) (K .fit x (h .0)), lines-plain K xs (h .1))
+
+all-plain : (N : Network) → Writable N → Each Plain (linesOf N)
+unfolding linesOf recordLine
+all-plain N w =
+    let s-plain = lines-plain switchKind (N .switches) (w .switch-room) in
+    let r-plain = each-append Plain (map (recordLine branchKind) (N .branches)) _ (lines-plain branchKind (N .branches) (w .branch-room)) s-plain in
+    let b-plain = each-append Plain (map (recordLine busKind) (N .buses)) _ (lines-plain busKind (N .buses) (w .bus-room)) r-plain in
+    (line-plain head (headKind .sound) _ (headKind .fit (check.headOf N) (w .head-room)), b-plain)
+
+-- ---- the laws
+-- what is written is judged as the records are
+pub read-written : (N : Network) → Writable N → readText (textOf N) ≡ (checkRecords N andThen accepted N)
+unfolding readText
+read-written N w =
+    ap (λ t. without (readLines (cut t))) (sym (joined-lines N))
+    ∙ ap (λ x. without (readLines x)) (cut-joined (linesOf N) (all-plain N w))
+    ∙ ap without (lines-written N w)
+    ∙ without-then (checkRecords N) N []
+
+-- what is accepted was written so
+pub accepted-written : (t : List ℕ) (N : Network) → readText t ≡ accepted N → (t ≡ textOf N) × Writable N × (checkRecords N ≡ accepted tt)
+unfolding readText
+accepted-written t N e =
+    without-accepted (readLines (cut t)) e λ r e₁ same.
+    let k = lines-kept (cut t) r e₁ in
+    subst (λ (M : Network). (t ≡ textOf M) × Writable M × (checkRecords M ≡ accepted tt)) same
+    (sym (joined-cut t) ∙ ap joined (k .0) ∙ joined-lines (r .0), k .1, k .2)

@@ -1,0 +1,106 @@
+-- Laws of answers and readers: the first condition met, one verdict after another, a reader that goes on.
+use mathlib.Core.Path.{_≡_, refl, ap, _∙_}
+use mathlib.Core.Bool.{Bool, true, false, _&&_, false≢true}
+use mathlib.Core.List.{List, [], _∷_, _++_}
+use Prim.Native.Nat.{ℕ, _+_}
+use Rattle.network.specs.Answers.{Answer, accepted, refused, _andThen_, Fault, _if_, judge}
+use Rattle.network.specs.declared.bus.Bus.{Bus}
+use Rattle.network.specs.declared.branch.Branch.{Branch}
+use Rattle.network.specs.declared.switch.Switch.{Switch}
+pub use Rattle.network.specs.AnswerLaws.{no-refusal, neither}
+use Rattle.network.specs.Records.{Network}
+use Rattle.network.specs.Faults.{Head}
+use Rattle.frames.specs.Text.{Line, head, bus, branch, switch, headOf, busOf, branchOf, switchOf, headLineFaults, busLineFaults, branchLineFaults, switchLineFaults, Reader, follow, _>>=_, pure, readOne, readRun, readEnd, readLines, without}
+
+abbrev pub Verdict : Type 0
+Verdict = Answer (Unit {0})
+
+-- ---- two tests
+pub both : (a b : Bool) → (a && b) ≡ true → (a ≡ true) × (b ≡ true)
+both true b e = (refl, e)
+both false b e = absurd (false≢true e)
+
+-- ---- accepted or refused
+abbrev value-of : {A : Type 0} → A → Answer A → A
+value-of d (accepted a) = a
+value-of d (refused n p) = d
+
+pub same-value : {A : Type 0} {a b : A} → accepted a ≡ accepted b → a ≡ b
+same-value {A} {a} {b} e = ap (value-of a) e
+
+-- ---- the first condition met
+pub judge-past : (n : ℕ) (b : Bool) (fs : List Fault) (p : ℕ) → b ≡ false → judge ((n if b) ∷ fs) p ≡ judge fs p
+unfolding judge
+judge-past n b fs p e = rw e
+
+pub judge-passed : (n : ℕ) (b : Bool) (fs : List Fault) (p : ℕ) → judge ((n if b) ∷ fs) p ≡ accepted tt → (b ≡ false) × (judge fs p ≡ accepted tt)
+unfolding judge
+judge-passed n true fs p e = no-refusal e
+judge-passed n false fs p e = (refl, e)
+
+pub judge-append : (fs gs : List Fault) (p : ℕ) → judge (fs ++ gs) p ≡ (judge fs p andThen judge gs p)
+unfolding judge _andThen_
+judge-append [] gs p = refl
+judge-append ((n if true) ∷ fs) gs p = refl
+judge-append ((n if false) ∷ fs) gs p = judge-append fs gs p
+
+-- ---- one verdict after another
+pub then-then : {A : Type 0} (v w : Verdict) (b : Answer A) → (v andThen (w andThen b)) ≡ ((v andThen w) andThen b)
+unfolding _andThen_
+then-then (accepted u) w b = refl
+then-then (refused n p) w b = refl
+
+pub then-accepted : {A : Type 0} (v : Verdict) (b : Answer A) {a : A} → (v andThen b) ≡ accepted a → (v ≡ accepted tt) × (b ≡ accepted a)
+unfolding _andThen_
+then-accepted (accepted u) b e = (refl, e)
+then-accepted (refused n p) b e = no-refusal e
+
+-- ---- a reader that goes on after a verdict
+follow-then : {A B : Type 0} (v : Verdict) (r : A × List Line) (f : A → Reader B) → follow (v andThen accepted r) f ≡ (v andThen f (r .0) (r .1))
+unfolding follow _andThen_
+follow-then (accepted u) r f = refl
+follow-then (refused n p) r f = refl
+
+pub go-on : {A B : Type 0} {x : Answer (A × List Line)} (v : Verdict) (r : A × List Line) (f : A → Reader B)
+    → x ≡ (v andThen accepted r) → follow x f ≡ (v andThen f (r .0) (r .1))
+go-on v r f e = ap (λ y. follow y f) e ∙ follow-then v r f
+
+-- a reader that accepts went on from what its first part accepts
+pub follow-accepted : {A B C : Type 0} (x : Answer (A × List Line)) (f : A → Reader B) {r : B × List Line}
+    → follow x f ≡ accepted r → ((q : A × List Line) → x ≡ accepted q → f (q .0) (q .1) ≡ accepted r → C) → C
+unfolding follow
+follow-accepted (accepted q) f e k = k q refl e
+follow-accepted (refused n p) f e k = no-refusal e
+
+pub without-then : {A : Type 0} (v : Verdict) (a : A) (ls : List Line) → without (v andThen accepted (a, ls)) ≡ (v andThen accepted a)
+unfolding without _andThen_
+without-then (accepted u) a ls = refl
+without-then (refused n p) a ls = refl
+
+pub without-accepted : {A C : Type 0} (x : Answer (A × List Line)) {a : A} → without x ≡ accepted a → ((r : A × List Line) → x ≡ accepted r → r .0 ≡ a → C) → C
+unfolding without
+without-accepted (accepted r) e k = k r refl (same-value e)
+without-accepted (refused n p) e k = no-refusal e
+
+-- ---- the lines behind the head
+abbrev pub network : Head → List Bus → List Branch → List Switch → Network
+network h buses branches switches = record { base = h .base; algorithm = h .algorithm; iterations = h .iterations; buses = buses; branches = branches; switches = switches }
+
+unfoldable pub behindSwitches : Head → List Bus → List Branch → List Switch → Reader Network
+behindSwitches h buses branches switches =
+    do
+      _ ← readEnd (2 + h .buses + h .branches + h .switches)
+      pure (network h buses branches switches)
+
+unfoldable pub behindBranches : Head → List Bus → List Branch → Reader Network
+behindBranches h buses branches = readRun switch switchOf (switchLineFaults h) [] (h .switches) (2 + h .buses + h .branches) >>= behindSwitches h buses branches
+
+unfoldable pub behindBuses : Head → List Bus → Reader Network
+behindBuses h buses = readRun branch branchOf (λ before. branchLineFaults buses) [] (h .branches) (2 + h .buses) >>= behindBranches h buses
+
+unfoldable pub behindHead : Head → Reader Network
+behindHead h = readRun bus busOf busLineFaults [] (h .buses) 2 >>= behindBuses h
+
+pub lines-read : (ls : List Line) → readLines ls ≡ follow (readOne head headOf headLineFaults 1 ls) behindHead
+unfolding readLines behindHead behindBuses behindBranches behindSwitches
+lines-read ls = refl

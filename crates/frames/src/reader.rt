@@ -1,0 +1,106 @@
+// The frame reader: a text becomes records, or the first refusal with its place.
+ghost use mathlib.Core.Path.{_≡_};
+ghost use Prim.Native.Nat.{_≤_};
+ghost use lib.ListN.{length, drop};
+ghost use Rattle.network.specs.Answers.{accepted, refused, answerOf, _andThen_};
+ghost use Rattle.network.specs.Check.{checkRecords};
+ghost use Rattle.network.specs.Records.{networkOf, recordsOf};
+ghost use Rattle.frames.specs.Text.{cut, readText};
+ghost use Rattle.frames.specs.Passes.{collect};
+ghost use Rattle.frames.specs.FrameReads.{headOfCode, IsCollected};
+ghost use Rattle.frames.specs.Reading.{readingOf};
+use crate::branch;
+use crate::bus;
+use crate::head;
+use crate::head::Head;
+use crate::head::HeadRead;
+use crate::line;
+use crate::pass::Pass;
+use crate::switch;
+use network::check;
+use network::error::Verdict;
+use network::switch::ReconfigAlgorithm;
+use network::topology::PowerNetwork;
+
+// A text's network, or its refusal beside a network in which nothing is listed.
+pub struct Reading {
+    pub verdict: Verdict,
+    pub network: PowerNetwork,
+}
+
+// The records of the lines behind the head line, up to the first line that is refused for its text or a byte without a meaning.
+fn read_body(text: &[u8], head: Head) -> Pass
+    requires { ⌜ (37 ≤ length (now text)) × (head .buses ≤ 256) × (head .branches ≤ 512) × (head .switches ≤ 512) ⌝ }
+    ensures { λ r. ⌜ IsCollected (collect (headOfCode head) (cut (drop 37 (now (text .entry))))) r ⌝ }
+{
+    let algorithm = head.algorithm;
+    let empty = PowerNetwork::new(head.base_mva, algorithm, head.max_iterations);
+    let buses = bus::read_buses(text, empty, head::SIZE + 1, 2, head.buses);
+    let stopped = buses.stopped;
+    let Verdict::Accepted = stopped else {
+        return buses;
+    };
+    let listed = buses.network;
+    let place = 2 + head.buses;
+    let branches = branch::read_branches(text, listed, buses.at, place, head.branches);
+    let stopped = branches.stopped;
+    let Verdict::Accepted = stopped else {
+        return branches;
+    };
+    let listed = branches.network;
+    let place = place + head.branches;
+    let switches = switch::read_switches(text, listed, branches.at, place, head.switches);
+    let stopped = switches.stopped;
+    let Verdict::Accepted = stopped else {
+        return switches;
+    };
+    let network = switches.network;
+    let at = switches.at;
+    let stopped = line::judge_end(text, at, place + head.switches);
+    Pass {
+        network,
+        at,
+        stopped,
+    }
+}
+
+// What stands beside a refusal is always the same.
+fn refusal(number: u8, place: u16) -> Reading
+    ensures { λ r. ⌜ r ≡ readingOf (refused number place) ⌝ }
+{
+    let network = PowerNetwork::new(0.0, ReconfigAlgorithm::BranchExchange, 0);
+    Reading {
+        verdict: Verdict::Refused { number, place },
+        network,
+    }
+}
+
+// The records decide first: their lines stand before the line at which reading stopped.
+fn settle(pass: Pass) -> Reading
+    requires { ⌜ pass .network ≡ networkOf (recordsOf (pass .network)) ⌝ }
+    ensures { λ r. ⌜ r ≡ readingOf (checkRecords (recordsOf (pass .network)) andThen answerOf (pass .stopped) andThen accepted (recordsOf (pass .network))) ⌝ }
+{
+    let network = pass.network;
+    let v = check::check(network);
+    if let Verdict::Refused { number, place } = v {
+        return refusal(number, place);
+    }
+    let stopped = pass.stopped;
+    if let Verdict::Refused { number, place } = stopped {
+        return refusal(number, place);
+    }
+    Reading {
+        verdict: Verdict::Accepted,
+        network,
+    }
+}
+
+// What a text means: its records, or the first refusal with its place.
+pub fn read_text(text: &[u8]) -> Reading
+    ensures { λ r. ⌜ r ≡ readingOf (readText (now (text .entry))) ⌝ }
+{
+    match head::head_line(text) {
+        HeadRead::Refused { number, place } => refusal(number, place),
+        HeadRead::Made(head) => settle(read_body(text, head)),
+    }
+}
