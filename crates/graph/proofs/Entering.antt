@@ -74,6 +74,7 @@ module _ {o : List Visit} {seen : List Bool} {bus by : List ℕ} {n : ℕ} (w : 
       where
         column : (f : Visit → ℕ) (v : Visit) → set (filled (map f o)) n (f v) ≡ filled (map f o ++ (f v ∷ []))
         column f v = filled-more (map f o) (f v) n (w .counted ∙ sym (length-map o f)) one-fits
+
         mark : (y : ℕ) → y < 256 → (b : Bool) → eqb y x ≡ b → getD (set seen x true) y false ≡ (reached y o || eqb y x)
         mark y h true e =
             let q : y ≡ x = eqb-true y x e in

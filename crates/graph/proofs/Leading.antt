@@ -21,7 +21,7 @@ use Rattle.graph.proofs.Entering.{filled-more, filled-first}
 -- the other end
 module _ (far : List ℕ) (k u : ℕ) where
   pub across-none : length far ≡ 1024 → 512 ≤ k → 0 ≡ acrossFar far k u
-  unfolding acrossFar
+  unfolding acrossFar across
   across-none l h =
       let a : getD far (2 * k) 0 ≡ 0 = List·getD-eq-default far 0 (omega arith) in
       let b : getD far (2 * k + 1) 0 ≡ 0 = List·getD-eq-default far 0 (omega arith) in
@@ -33,11 +33,11 @@ module _ (far : List ℕ) (k u : ℕ) where
 
   module _ (at after : ℕ) (e₀ : at ≡ 2 * k) (e₁ : after ≡ 2 * k + 1) where
     pub across-from : getD far after 0 ≡ u → getD far at 0 ≡ acrossFar far k u
-    unfolding acrossFar
+    unfolding acrossFar across
     across-from e = rw (eq-eqb (getD far (2 * k + 1) 0) u (rw e₁ at e), e₀)
 
     pub across-to : (getD far after 0 ≡ u → ⊥) → getD far after 0 ≡ acrossFar far k u
-    unfolding acrossFar
+    unfolding acrossFar across
     across-to n = rw (ne-eqb (getD far (2 * k + 1) 0) u (λ e. n (rw e₁ e)), e₁)
 
 -- the way back

@@ -4,4 +4,5 @@ pub mod Entering
 pub mod Expanding
 pub mod Leading
 pub mod Noting
+pub mod Resolving
 pub mod Turning

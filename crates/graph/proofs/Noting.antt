@@ -27,6 +27,7 @@ one-way v o reach by lr lb small w =
         let l : v .bus < length reach = omega arith in
         rw (e, eqb-true y (v .bus) e) (getD-set-same reach (v .bus) true false l)
     reach-at y h false e = rw (e, getD-set-other reach (v .bus) y true false (eqb-false y (v .bus) e)) (w .reaches y h)
+
     way-at : (y : ℕ) → y < 256 → (b : Bool) → eqb y (v .bus) ≡ b → getD (set by (v .bus) (v .by)) y 0 ≡ cond (eqb y (v .bus)) (v .by) (byOf y o)
     way-at y h true e =
         let l : v .bus < length by = omega arith in

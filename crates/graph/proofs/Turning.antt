@@ -67,5 +67,5 @@ module _ (far first next : List ℕ) (live : List Bool) (start barred : ℕ) whe
     all-turned l =
         let w = t .walking in
         let e = upTo-idle (turn (rowLeads far first next live) barred) (startAt start ∷ []) h 256 (t .within)
-            (λ i a b. rw (le-ltb i (length (visits h)) (omega (arith, w .counted)))) in
+        (λ i a b. rw (le-ltb i (length (visits h)) (omega (arith, w .counted)))) in
         rw (e, w .counted, w .buses, w .branches)

@@ -2,6 +2,7 @@ pub mod Graph
 pub mod Walk
 pub mod Radial
 pub mod Feeder
+pub mod Answers
 pub mod Rows
 pub mod FeederRows
 pub mod Chains
@@ -19,8 +20,11 @@ pub mod Barred
 pub mod WalkLaws
 pub mod RadialLaws
 pub mod FeederLaws
+pub mod SameEnds
+pub mod FeederRowLaws
 pub mod RowsHold
 pub mod RowsNeighbours
 pub mod RowsWalk
+pub mod RowsTriangle
 pub mod Walking
 pub mod Examples

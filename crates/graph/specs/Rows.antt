@@ -1,4 +1,5 @@
--- The branches of a feeder by their buses, as the code has them, and what is read off them: neighbours, walk, radiality, path.
+-- The branches of a feeder by their buses, as the code has them, and what it reads off them: neighbours, radiality, path.
+-- RowsNeighbours and RowsWalk show that these are document 01's.
 -- Half-branch 2k is branch k at its from bus, half-branch 2k + 1 is branch k at its to bus. 1024 is none.
 use mathlib.Core.Bool.{Bool, true, false, cond, _&&_, _||_}
 use mathlib.Core.List.{List, [], _∷_, _++_, map, reverse}
@@ -11,7 +12,7 @@ use Rattle.graph.specs.declared.rows.Graph.{Graph}
 use Rattle.graph.specs.declared.walks.Walk.{Walk}
 use Rattle.graph.specs.declared.walks.Path.{Path}
 use Rattle.graph.specs.Graph.{Net}
-use Rattle.graph.specs.Walk.{Visit, walkBy, reached, back}
+use Rattle.graph.specs.Walk.{Visit, walkBy, reached, across, back}
 
 -- the flags of an array, false behind its end
 abbrev pub flag : List Bool → ℕ → Bool
@@ -20,6 +21,18 @@ flag live k = getD live k false
 -- n buses, and m branches with these ends
 abbrev pub netOf : ℕ → ℕ → List ℕ → List ℕ → Net
 netOf n m from to = record { buses = n; branches = m; from = λ k. getD from k 0; to = λ k. getD to k 0 }
+
+-- an array of 256 that begins with the list and is 0 behind it
+unfoldable pub filled : List ℕ → List ℕ
+filled l = l ++ replicate (256 - length l) 0
+
+-- the answer that holds these visits
+unfoldable pub walked : List Visit → Walk
+walked o = record { count = length o; bus = filled (map (λ (v : Visit). v .bus) o); by = filled (map (λ (v : Visit). v .by) o) }
+
+-- the answer that holds these branches
+unfoldable pub pathOf : List ℕ → Path
+pathOf l = record { count = length l; branch = filled l }
 
 -- far: the bus at the other end of each half-branch. first: the lowest half-branch at each bus. next: the next higher one at the same bus
 pub record Rows : Type 0 where
@@ -34,34 +47,37 @@ rows far first next = record { far = far; first = first; next = next }
 unfoldable pub putHalf : ℕ → ℕ → Rows → Rows
 putHalf u h r = rows (r .far) (set (r .first) u h) (set (r .next) h (getD (r .first) u 0))
 
--- branch k goes into the rows of its buses. With equal ends it stands there once
+-- branch k, from bus f to bus t, goes into the rows of its buses. With equal ends it stands there once
 unfoldable pub putBranch : ℕ → ℕ → ℕ → Rows → Rows
-putBranch f t k r = putHalf f (2 * k) (cond (eqb f t) r (putHalf t (2 * k + 1) r))
+putBranch k f t r = putHalf f (2 * k) (cond (eqb f t) r (putHalf t (2 * k + 1) r))
 
--- the ends of branch k are noted; it goes into the rows if it is one of m branches
+-- the ends of branch k
+abbrev pub noteEnds : ℕ → ℕ → ℕ → Rows → Rows
+noteEnds k f t r = rows (set (set (r .far) (2 * k) t) (2 * k + 1) f) (r .first) (r .next)
+
+-- the ends of branch k are noted, and it goes into the rows if it is one of m branches
 unfoldable pub addBranch : ℕ → ℕ → ℕ → ℕ → Rows → Rows
-addBranch m k f t r =
-    let noted = rows (set (set (r .far) (2 * k) t) (2 * k + 1) f) (r .first) (r .next) in
-    cond (ltb k m) (putBranch f t k noted) noted
+addBranch m k f t r = cond (ltb k m) (putBranch k f t (noteEnds k f t r)) (noteEnds k f t r)
 
--- from the last branch to the first
+-- the rows with the last n of 512 branches, put in from the last on
 unfoldable pub rowsOf : ℕ → List ℕ → List ℕ → ℕ → Rows
 rowsOf m from to n =
     upTo (λ r i. addBranch m (511 - i) (getD from (511 - i) 0) (getD to (511 - i) 0) r)
     (rows (replicate 1024 0) (replicate 256 1024) (replicate 1024 1024))
     n
 
+-- the graph of n buses, and m branches with these ends
 unfoldable pub graphOf : ℕ → ℕ → List ℕ → List ℕ → Graph
 graphOf n m from to =
     let r = rowsOf m from to 512 in
     record { «bus_count» = n; «branch_count» = m; far = r .far; first = r .first; next = r .next }
 
--- a row from half-branch h on, at most n
+-- a row from half-branch h on, at most n: any arrays have rows that end
 unfoldable pub rowFrom : List ℕ → ℕ → ℕ → List ℕ
 rowFrom next zero h = []
 rowFrom next (suc n) h = elim (ltb h 1024) [ true ↦ h ∷ rowFrom next n (getD next h 0) | false ↦ [] ]
 
--- what half-branches lead to, where they are live
+-- what half-branches lead to, where their branches are live
 unfoldable pub leads : List ℕ → List Bool → List ℕ → List Visit
 leads far live [] = []
 leads far live (h ∷ l) = cond (getD live (h / 2) false) (record { bus = getD far h 0; by = h / 2 } ∷ leads far live l) (leads far live l)
@@ -73,13 +89,6 @@ rowLeads far first next live u = leads far live (rowFrom next 1024 (getD first u
 abbrev pub rowNeighbours : Graph → List Bool → ℕ → List Visit
 rowNeighbours g live = rowLeads (g .far) (g .first) (g .next) live
 
--- an array of 256 that begins with the list and is 0 behind it
-unfoldable pub filled : List ℕ → List ℕ
-filled l = l ++ replicate (256 - length l) 0
-
-unfoldable pub walked : List Visit → Walk
-walked o = record { count = length o; bus = filled (map (λ (v : Visit). v .bus) o); by = filled (map (λ (v : Visit). v .by) o) }
-
 -- the ends of the branches, read off the far ends of their halves
 abbrev pub farNet : ℕ → ℕ → List ℕ → Net
 farNet n m far = record { buses = n; branches = m; from = λ k. getD far (2 * k + 1) 0; to = λ k. getD far (2 * k) 0 }
@@ -89,7 +98,7 @@ rowNet g = farNet (g .«bus_count») (g .«branch_count») (g .far)
 
 -- the other end of branch k, seen from bus u
 unfoldable pub acrossFar : List ℕ → ℕ → ℕ → ℕ
-acrossFar far k u = cond (eqb (getD far (2 * k + 1) 0) u) (getD far (2 * k) 0) (getD far (2 * k + 1) 0)
+acrossFar far k u = across (farNet 0 0 far) k u
 
 -- document 01's radiality, by the rows
 unfoldable pub rowRadial : Graph → List Bool → Bool
@@ -102,6 +111,3 @@ unfoldable pub rowPath : Graph → List Bool → ℕ → ℕ → List ℕ
 rowPath g live a b =
     let o = walkBy (rowNeighbours g live) a a in
     cond (reached b o) (reverse (back (rowNet g) o a 256 b)) []
-
-unfoldable pub pathOf : List ℕ → Path
-pathOf l = record { count = length l; branch = filled l }

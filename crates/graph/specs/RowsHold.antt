@@ -11,7 +11,7 @@ use lib.ListN.{length, getD, set, length-set, length-replicate, getD-replicate}
 use lib.Seq.{getD-set-same, getD-set-other}
 use borrow.Author.Tests.{lt-ltb, le-ltb, eq-eqb, ne-eqb, ltb-true, ltb-false}
 use Rattle.numbers.specs.UpTo.{upTo}
-use Rattle.graph.specs.Rows.{Rows, rows, putHalf, putBranch, addBranch, rowsOf, rowFrom}
+use Rattle.graph.specs.Rows.{Rows, putHalf, putBranch, noteEnds, addBranch, rowsOf, rowFrom}
 
 -- the arrays keep their lengths
 pub record Long (r : Rows) : Type 0 where
@@ -23,20 +23,17 @@ half-long : (u h : ℕ) (r : Rows) → Long r → Long (putHalf u h r)
 unfolding putHalf
 half-long u h r l = record { far = l .far; first = simp length-set (l .first); next = simp length-set (l .next) }
 
--- the ends of branch k noted
-abbrev noted : ℕ → ℕ → ℕ → Rows → Rows
-noted k f t r = rows (set (set (r .far) (2 * k) t) (2 * k + 1) f) (r .first) (r .next)
-
-noted-long : (k f t : ℕ) (r : Rows) → Long r → Long (noted k f t r)
+noted-long : (k f t : ℕ) (r : Rows) → Long r → Long (noteEnds k f t r)
 noted-long k f t r l = record { far = simp length-set (l .far); first = l .first; next = l .next }
 
 branch-long : (m k f t : ℕ) (r : Rows) → Long r → Long (addBranch m k f t r)
 unfolding addBranch putBranch
 branch-long m k f t r l = go (ltb k m) (eqb f t)
   where
-    n : Long (noted k f t r)
+    n : Long (noteEnds k f t r)
     n = noted-long k f t r l
-    go : (a b : Bool) → Long (cond a (putHalf f (2 * k) (cond b (noted k f t r) (putHalf t (2 * k + 1) (noted k f t r)))) (noted k f t r))
+
+    go : (a b : Bool) → Long (cond a (putHalf f (2 * k) (cond b (noteEnds k f t r) (putHalf t (2 * k + 1) (noteEnds k f t r)))) (noteEnds k f t r))
     go false b = n
     go true true = half-long f (2 * k) _ n
     go true false = half-long f (2 * k) _ (half-long t (2 * k + 1) _ n)
@@ -108,13 +105,14 @@ module _ (r : Rows) (long : Long r) (u h : ℕ) (small : h < 1024) (l : List ℕ
 abbrev pub halfAt : ℕ → ℕ → ℕ → ℕ → List ℕ
 halfAt f t u k = cond (eqb f u) ((2 * k) ∷ []) (cond (eqb t u) ((2 * k + 1) ∷ []) [])
 
-put-row : (r : Rows) → Long r → (f t k x : ℕ) → x < 256 → k < 512 → (l : List ℕ) (i : ℕ) → Above (2 * k + 1) l → RowIs r x l i
-    → RowIs (putBranch f t k r) x (halfAt f t x k ++ l) (suc i)
+put-row : (r : Rows) → Long r → (k f t x : ℕ) → x < 256 → k < 512 → (l : List ℕ) (i : ℕ) → Above (2 * k + 1) l → RowIs r x l i
+    → RowIs (putBranch k f t r) x (halfAt f t x k ++ l) (suc i)
 unfolding putBranch
-put-row r long f t k x small kl l i above e = go (ℕ-discrete f t) (ℕ-discrete x f) (ℕ-discrete x t)
+put-row r long k f t x small kl l i above e = go (ℕ-discrete f t) (ℕ-discrete x f) (ℕ-discrete x t)
   where
     low : Above (2 * k) l
     low = above-less (2 * k) (2 * k + 1) l (omega arith) above
+
     go : Dec (f ≡ t) → Dec (x ≡ f) → Dec (x ≡ t) → RowIs (putHalf f (2 * k) (cond (eqb f t) r (putHalf t (2 * k + 1) r))) x (halfAt f t x k ++ l) (suc i)
     go (yes a) (yes b) c = rw (eq-eqb f t a, eq-eqb f x (sym b), ← b) (put-there r long x (2 * k) (omega arith) l i low small e)
     go (yes a) (no b) c =
@@ -132,13 +130,13 @@ put-row r long f t k x small kl l i above e = go (ℕ-discrete f t) (ℕ-discret
         rw (ne-eqb f t a, ne-eqb f x (λ q. b (sym q)), ne-eqb t x (λ q. c (sym q)))
         (λ n g. put-elsewhere _ (half-long t (2 * k + 1) r long) f (2 * k) (omega arith) l i low x b w n (omega arith))
 
-add-row : (r : Rows) → Long r → (m f t k x : ℕ) → x < 256 → k < 512 → (l : List ℕ) (i : ℕ) → Above (2 * k + 1) l → RowIs r x l i
+add-row : (r : Rows) → Long r → (m k f t x : ℕ) → x < 256 → k < 512 → (l : List ℕ) (i : ℕ) → Above (2 * k + 1) l → RowIs r x l i
     → RowIs (addBranch m k f t r) x (cond (ltb k m) (halfAt f t x k) [] ++ l) (suc i)
 unfolding addBranch
-add-row r long m f t k x small kl l i above e = go (ltb k m)
+add-row r long m k f t x small kl l i above e = go (ltb k m)
   where
-    go : (b : Bool) → RowIs (cond b (putBranch f t k (noted k f t r)) (noted k f t r)) x (cond b (halfAt f t x k) [] ++ l) (suc i)
-    go true = put-row (noted k f t r) (noted-long k f t r long) f t k x small kl l i above e
+    go : (b : Bool) → RowIs (cond b (putBranch k f t (noteEnds k f t r)) (noteEnds k f t r)) x (cond b (halfAt f t x k) [] ++ l) (suc i)
+    go true = put-row (noteEnds k f t r) (noted-long k f t r long) k f t x small kl l i above e
     go false = λ n g. e n (omega arith)
 
 -- the other ends of branch k's halves
@@ -162,7 +160,7 @@ unfolding addBranch putBranch putHalf
 add-far m k f t r = go (ltb k m) (eqb f t)
   where
     go : (a b : Bool)
-        → cond a (putHalf f (2 * k) (cond b (noted k f t r) (putHalf t (2 * k + 1) (noted k f t r)))) (noted k f t r) .far
+        → cond a (putHalf f (2 * k) (cond b (noteEnds k f t r) (putHalf t (2 * k + 1) (noteEnds k f t r)))) (noteEnds k f t r) .far
         ≡ set (set (r .far) (2 * k) t) (2 * k + 1) f
     go false b = refl
     go true true = refl
@@ -195,7 +193,7 @@ module _ (m : ℕ) (from to : List ℕ) where
       let s : 512 - i ≡ suc (511 - i) = omega arith in
       let a : Above (2 * (511 - i) + 1) (halvesFrom u i (suc (511 - i))) = halves-above _ u i (suc (511 - i)) (omega arith) in
       rw d
-      (add-row (rowsOf m from to i) (rows-long m from to i) m (getD from (511 - i) 0) (getD to (511 - i) 0) (511 - i) u small (omega arith)
+      (add-row (rowsOf m from to i) (rows-long m from to i) m (511 - i) (getD from (511 - i) 0) (getD to (511 - i) 0) u small (omega arith)
       (halvesFrom u i (suc (511 - i)))
       i
       a

@@ -48,6 +48,7 @@ module _ (n m : ℕ) (from to : List ℕ) (live : List Bool) (u : ℕ) where
           either : (b : Bool) → cond b (record { bus = x; by = k } ∷ leads others live l) (leads others live l) ≡ cond b (record { bus = x; by = k } ∷ []) [] ++ leads others live l
           either true = refl
           either false = refl
+
       go : (a b c : Bool)
           → leads others live (cond a (cond b ((2 * k) ∷ []) (cond c ((2 * k + 1) ∷ []) [])) [] ++ l)
           ≡ cond a (cond (getD live k false) (cond b (record { bus = getD to k 0; by = k } ∷ []) (cond c (record { bus = getD from k 0; by = k } ∷ []) [])) []) [] ++ leads others live l

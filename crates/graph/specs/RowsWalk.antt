@@ -48,6 +48,7 @@ module _ (next next′ : ℕ → List Visit) (same : (u : ℕ) → u < 256 → n
     where
       o : List Visit
       o = upTo (turn next′ barred) (startAt start ∷ []) h
+
       go : (b : Bool) → Small o → Small (cond b (enterAll barred o (next′ (getD o h (startAt 0) .bus))) o)
       go true s = small-enterAll barred o _ s (small _ (small-at o h s))
       go false s = s

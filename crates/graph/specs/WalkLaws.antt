@@ -86,7 +86,7 @@ module _ (N : Net) (E : ℕ → Bool) (start barred : ℕ) where
   stage zero = record { walked = begun; done = λ i a. absurd (omega arith) }
   stage (suc n) = stage-next n _ (stage n)
 
-  walk-walked : Walked N S start (walk N E start barred)
+  pub walk-walked : Walked N S start (walk N E start barred)
   unfolding walk walkBy
   walk-walked = stage 256 .walked
 

@@ -48,6 +48,15 @@ module _ {N : Net} {S : Branches} (start : ℕ) where
   follows-back o zero y (step s e c) w b = absurd (omega arith)
   follows-back o (suc n) y (step {a = z} s e c) (p, d, w) b = rw (eqb-false z start d, p, across-ends e, follows-back o n y c w (omega arith))
 
+  -- in any net in which the branches of S have the same ends
+  follows-same : (M : Net) → ((k : ℕ) → S k → (N .from k ≡ M .from k) × (N .to k ≡ M .to k)) → (o : List Visit) (n : ℕ) {z y : ℕ} {l : List ℕ}
+      → y ≡ start → (c : Chain N S z y l) → Follows o start c → back N o start n z ≡ back M o start n z
+  unfolding back Follows across
+  follows-same M same o zero y c w = refl
+  follows-same M same o (suc n) y (stay e) w = rw (eqb-true (e ∙ y))
+  follows-same M same o (suc n) y (step {a = z} {k = k} s e c) (p, d, w) =
+      rw (eqb-false z start d, p, ← same k s .0, ← same k s .1, across-ends e) (ap (_∷_ k) (follows-same M same o n y c w))
+
   follows-still : (o : List Visit) (v : Visit) {z y : ℕ} {l : List ℕ} (c : Chain N S z y l) → ((x : ℕ) → List·Memᴰ x (visited c) → reached x o ≡ true)
       → Follows o start c → Follows (o ++ (v ∷ [])) start c
   unfolding visited Follows
@@ -109,3 +118,8 @@ module _ {N : Net} {S : Branches} {start : ℕ} where
     where
       go : Way N S start o z → Path N S z start (back N o start n z)
       go g = rw (follows-back start o n refl (g .chain) (g .noted) (omega (arith, g .short))) (g .chain, g .distinct)
+
+  -- they lead there too in any net in which the branches of S have the same ends
+  pub back-same : (M : Net) → ((k : ℕ) → S k → (N .from k ≡ M .from k) × (N .to k ≡ M .to k)) → {o : List Visit} → Walked N S start o
+      → (n z : ℕ) → reached z o ≡ true → back N o start n z ≡ back M o start n z
+  back-same M same {o} w n z h = let g = way-of w z h in follows-same start M same o n refl (g .chain) (g .noted)

@@ -1,4 +1,5 @@
-// The path that a walk finds between two buses.
+// Translated and changed from src/network/reconfiguration.rs of oxigrid. Copyright 2024-2026 COOLJAPAN OU (Team Kitasan), Apache License 2.0.
+// The path that a walk finds between two buses: each bus has the branch by which it was reached, in place of the source's cloned paths.
 ghost use mathlib.Core.Path.{_≡_};
 ghost use mathlib.Core.List.{List, reverse};
 ghost use Prim.Native.Nat.{ℕ, _<_, _≤_};
@@ -10,8 +11,8 @@ use crate::rows::Graph;
 use crate::walk::walk;
 use crate::walks::Path;
 use crate::walks::Walk;
-use numbers::wide16;
 use numbers::wide8;
+use numbers::wide16;
 
 // For each bus whether a walk reached it, and by which branch.
 struct Ways {

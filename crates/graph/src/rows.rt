@@ -1,10 +1,11 @@
-// The branches of a feeder by their buses.
+// Translated and changed from src/network/reconfiguration.rs of oxigrid. Copyright 2024-2026 COOLJAPAN OU (Team Kitasan), Apache License 2.0.
+// The branches of a feeder by their buses, in place of the source's map of neighbours.
 ghost use mathlib.Core.Path.{_≡_};
-ghost use Prim.Native.Nat.{_*_, _+_, _<_};
+ghost use Prim.Native.Nat.{_<_};
 ghost use lib.ListN.{length, getD, set};
 ghost use Rattle.graph.specs.Rows.{rows, addBranch, graphOf};
-use numbers::wide16;
 use numbers::wide8;
+use numbers::wide16;
 
 // Half-branch 2k is branch k at its from bus, half-branch 2k + 1 is branch k at its to bus; far has the bus at its other end.
 // The row of a bus is its half-branches by rising position: first has the lowest, next the next higher one, 1024 is none.
@@ -16,7 +17,7 @@ pub struct Graph {
     pub next: [u16; 1024],
 }
 
-// Half-branch h in front of bus u's row.
+// Half-branch h goes in front of bus u's row.
 fn put_half(first: &mut [u16; 256], next: &mut [u16; 1024], u: u8, h: u16)
     requires { ⌜ (length (now first) ≡ 256) × (length (now next) ≡ 1024) × (h < 1024) ⌝ }
     ensures { λ _. ⌜ (now (first .exit) ≡ set (now (first .entry)) u h) × (now (next .exit) ≡ set (now (next .entry)) h (getD (now (first .entry)) u 0)) ⌝ }
@@ -27,7 +28,7 @@ fn put_half(first: &mut [u16; 256], next: &mut [u16; 1024], u: u8, h: u16)
     first[at] = h;
 }
 
-// The ends of branch k, and the branch in the rows of its buses if it is one of branch_count. With equal ends it stands there once.
+// The ends of branch k are noted, and it goes into the rows of its buses if it is one of branch_count. With equal ends it stands there once.
 fn add_branch(
     far: &mut [u8; 1024],
     first: &mut [u16; 256],
@@ -58,6 +59,7 @@ fn add_branch(
 }
 
 impl Graph {
+    // From the last branch to the first, each in front of its buses' rows. Branches from branch_count on are in no row.
     pub fn new(bus_count: u16, branch_count: u16, from: [u8; 512], to: [u8; 512]) -> Graph
         ensures { λ r. ⌜ r ≡ graphOf «bus_count» «branch_count» from to ⌝ }
     {
@@ -68,7 +70,15 @@ impl Graph {
         while i < 512 {
             let k = 511 - i;
             let at = wide16(k);
-            add_branch(&mut far, &mut first, &mut next, branch_count, k, from[at], to[at]);
+            add_branch(
+                &mut far,
+                &mut first,
+                &mut next,
+                branch_count,
+                k,
+                from[at],
+                to[at],
+            );
             i += 1;
         }
         Graph {

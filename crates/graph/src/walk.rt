@@ -1,15 +1,14 @@
-// The breadth-first walk, by the rows.
+// Translated and changed from src/network/reconfiguration.rs of oxigrid. Copyright 2024-2026 COOLJAPAN OU (Team Kitasan), Apache License 2.0.
+// The breadth-first walk, by the rows: its own order is its queue.
 ghost use mathlib.Core.Path.{_≡_};
 ghost use mathlib.Core.List.{List};
-ghost use Prim.Native.Nat.{_<_};
-ghost use lib.ListN.{length};
 ghost use Rattle.graph.specs.Walk.{Visit, walkBy, enterAll};
 ghost use Rattle.graph.specs.Rows.{rowNeighbours, rowFrom, leads, walked};
 ghost use Rattle.graph.specs.Walking.{Walking, enterLive};
 use crate::rows::Graph;
 use crate::walks::Walk;
-use numbers::wide16;
 use numbers::wide8;
+use numbers::wide16;
 
 // Bus x is put behind those reached, with branch k, unless the branch is not live or the bus is barred or reached already.
 fn enter(
@@ -43,7 +42,7 @@ fn enter(
     count + 1
 }
 
-// The row from half-branch first on, by rising branch position: 1,024 half-branches at most.
+// The far ends of the row that begins with half-branch first are entered, by rising branch position: 1,024 at most, so that any row ends.
 fn expand(
     far: &[u8; 1024],
     next: &[u16; 1024],
@@ -58,7 +57,7 @@ fn expand(
     requires { ⌜ ((o : List Visit) × Walking o (now seen) (now bus) (now by) count) ⌝ }
     ensures { λ r. ⌜ ((o : List Visit) → Walking o (now (seen .entry)) (now (bus .entry)) (now (by .entry)) count
         → Walking (enterAll barred o (leads (now (far .entry)) (now (live .entry)) (rowFrom (now (next .entry)) 1024 first)))
-            (now (seen .exit)) (now (bus .exit)) (now (by .exit)) r) ⌝ }
+        (now (seen .exit)) (now (bus .exit)) (now (by .exit)) r) ⌝ }
 {
     let mut end = count;
     let mut h = first;
@@ -95,7 +94,17 @@ pub fn walk(graph: Graph, live: [bool; 512], start: u8, barred: u8) -> Walk
     while head < count {
         let turn = wide16(head);
         let u = wide8(bus[turn]);
-        count = expand(&far, &next, &live, first[u], barred, &mut seen, &mut bus, &mut by, count);
+        count = expand(
+            &far,
+            &next,
+            &live,
+            first[u],
+            barred,
+            &mut seen,
+            &mut bus,
+            &mut by,
+            count,
+        );
         head += 1;
     }
     Walk { count, bus, by }

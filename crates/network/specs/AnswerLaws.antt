@@ -36,9 +36,14 @@ pub refused-then : (v : Verdict) (a b : Answer (Unit {0})) (n p : ℕ) → v ≡
 unfolding _andThen_
 refused-then v a b n p r e = rw (← e, r)
 
-pub accepted-then : (v : Verdict) (a b : Answer (Unit {0})) → v ≡ Accepted → answerOf v ≡ a → b ≡ (a andThen b)
+pub accepted-then : {A : Type 0} (v : Verdict) (a : Answer (Unit {0})) (b : Answer A) → v ≡ Accepted → answerOf v ≡ a → b ≡ (a andThen b)
 unfolding _andThen_
 accepted-then v a b r e = rw (← e, r)
+
+-- a refusal goes on, whatever the answer would have been
+pub refused-first : {A : Type 0} (v : Verdict) (a : Answer (Unit {0})) (b : Answer A) (n p : ℕ) → v ≡ Refused n p → answerOf v ≡ a → refused n p ≡ (a andThen b)
+unfolding _andThen_
+refused-first v a b n p r e = rw (← e, r)
 
 pub neither : (a b : Bool) → (a || b) ≡ false → (a ≡ false) × (b ≡ false)
 neither true b e = absurd (true≢false e)

@@ -1,12 +1,11 @@
 -- Document 01's triangle and its limits, computed: the check of records, the ranges, states and live branches.
-use mathlib.Core.Bool.{Bool, true, false}
+use mathlib.Core.Bool.{true, false}
 use mathlib.Core.List.{List, [], _∷_}
 use mathlib.Core.Path.{_≡_, refl}
 use Prim.Native.Nat.{ℕ, zero, suc}
 use lib.Ieee.{Float, binary64, ofBits, le, neg}
 use Rattle.numbers.specs.Choose.{indexOf}
 use Rattle.numbers.specs.UpTo.{table}
-use Rattle.network.specs.declared.bus.Power.{Power}
 use Rattle.network.specs.declared.bus.Bus.{Bus}
 use Rattle.network.specs.declared.branch.Branch.{Branch}
 use Rattle.network.specs.declared.switch.Switch.{Switch}

@@ -1,5 +1,5 @@
 -- A record's conditions where flags stand for the lists that they look at.
-use mathlib.Core.Path.{_≡_, refl, sym, ap, _∙_}
+use mathlib.Core.Path.{_≡_, refl}
 use mathlib.Core.Bool.{Bool, true, false, cond, not, _&&_, _||_}
 use mathlib.Core.List.{List, [], _∷_, _++_, map}
 use Prim.Native.Nat.{ℕ, suc, _+_, _≤_, _<_}
@@ -11,7 +11,7 @@ use Rattle.numbers.specs.TableLaws.{length-table, table-more, map-snoc}
 use Rattle.network.specs.declared.bus.Bus.{Bus}
 use Rattle.network.specs.declared.branch.Branch.{Branch}
 use Rattle.network.specs.declared.switch.Switch.{Switch}
-use Rattle.network.specs.Answers.{Fault, _if_, judge}
+use Rattle.network.specs.Answers.{_if_}
 use Rattle.network.specs.Faults.{Head, okLoad, okR, among, busId, switchId, on, ties, methodByte, busFaults, branchFaults, switchFaults}
 use Rattle.network.specs.Flags.{flags, flag-at, set-flag}
 

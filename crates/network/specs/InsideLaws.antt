@@ -6,7 +6,6 @@ use mathlib.Core.List.{List, [], _∷_, _++_, map, Memᴰ·append-left, Memᴰ·
 use Prim.Native.Nat.{ℕ, suc, _+_, _≤_, _<_}
 use native.Mathlib.Omega.{arith}
 use lib.Dec.{leb, ltb, eqb}
-use lib.ListN.{length}
 use borrow.Author.Tests.{ltb-false, le-ltb, leb-false, lt-leb, eqb-true, eq-eqb, not-false}
 use Rattle.numbers.specs.TableLaws.{map-snoc}
 use Rattle.network.specs.declared.bus.Bus.{Bus}
@@ -21,7 +20,7 @@ use Rattle.network.specs.Check.{headOf, checkRun, checkRecords}
 use Rattle.network.specs.Inside.{Each, Distinct, Listed, Inside}
 
 -- ---- Q holds of each of the list, with those before it
-abbrev pub Through : {A : Type 0} → (List A → A → Type 0) → List A → List A → Type 0
+abbrev Through : {A : Type 0} → (List A → A → Type 0) → List A → List A → Type 0
 Through Q before [] = Unit {0}
 Through Q before (a ∷ rest) = Q before a × Through Q (before ++ (a ∷ [])) rest
 
@@ -58,7 +57,7 @@ module _ {A : Type 0} where
   each-map P Q (a ∷ rest) f h = (f a (h .0), each-map P Q rest f (h .1))
 
 -- ---- membership
-among-mem : (x : ℕ) (ys : List ℕ) → among x ys ≡ true → List·Memᴰ x ys
+pub among-mem : (x : ℕ) (ys : List ℕ) → among x ys ≡ true → List·Memᴰ x ys
 unfolding among
 among-mem x [] e = absurd (false≢true e)
 among-mem x (y ∷ ys) e = go (eqb x y) refl e (among-mem x ys)
@@ -67,7 +66,7 @@ among-mem x (y ∷ ys) e = go (eqb x y) refl e (among-mem x ys)
     go true q e ih = List·Memᴰ·head (eqb-true x y q)
     go false q e ih = List·Memᴰ·tail (ih e)
 
-mem-among : (x : ℕ) (ys : List ℕ) → List·Memᴰ x ys → among x ys ≡ true
+pub mem-among : (x : ℕ) (ys : List ℕ) → List·Memᴰ x ys → among x ys ≡ true
 unfolding among
 mem-among x [] m = absurd (List·Memᴰ·not-nil m)
 mem-among x (y ∷ ys) m = go (List·Memᴰ·cases-cons m) (mem-among x ys)
@@ -92,7 +91,7 @@ not-among x ys n = go (among x ys) refl
 
 -- ---- none twice: each is new to those before it
 module _ {A : Type 0} (f : A → ℕ) where
-  abbrev pub New : List A → A → Type 0
+  abbrev New : List A → A → Type 0
   New before a = among (f a) (map f before) ≡ false
 
   -- no key of the list is a key of those before

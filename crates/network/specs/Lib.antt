@@ -11,6 +11,7 @@ pub mod AnswerLaws
 pub mod FaultLaws
 pub mod CheckLaws
 pub mod InsideLaws
+pub mod Positions
 pub mod InsidePositions
 pub mod LookupLaws
 pub mod RecordLaws
@@ -18,4 +19,3 @@ pub mod LiveLaws
 pub mod ReadLaws
 pub mod WholeCheck
 pub mod Examples
-pub mod Positions

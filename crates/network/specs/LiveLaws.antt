@@ -1,14 +1,14 @@
 -- Which branches have an open switch, counted switch by switch; a state with bytes beyond the switches; the base as a configuration.
 use mathlib.Core.Path.{_≡_, refl, sym, ap, _∙_}
 use mathlib.Core.Bool.{Bool, true, false, not, _&&_, _||_, and-false, or-true, or-false, or-assoc}
-use mathlib.Core.List.{List, [], _∷_, _++_, map}
+use mathlib.Core.List.{List, [], _∷_, _++_}
 use mathlib.Core.Logic.{_⊎_, inl, inr}
 use Prim.Native.Nat.{ℕ, zero, suc, _+_, _-_, _≤_, _<_, min}
 use native.Mathlib.Decide.{ℕ-discrete}
 use native.Mathlib.Numerals.{add-one}
 use native.Mathlib.Omega.{arith}
 use lib.Dec.{eqb, ltb}
-use lib.ListN.{length, getD, take, drop, set, drop-of-length-le, length-set, length-take, length-map, List·getD-map, List·getD-eq-default, List·getD-append, replicate, getD-replicate}
+use lib.ListN.{length, getD, take, drop, set, drop-of-length-le, length-set, length-take, length-map, List·getD-map, List·getD-eq-default, replicate}
 use lib.Seq.{getD-set-same, getD-set-other, take-suc, drop-cons}
 use borrow.Author.Tests.{eq-eqb, ne-eqb, ltb-true, ltb-false}
 use Rattle.numbers.specs.UpTo.{table}

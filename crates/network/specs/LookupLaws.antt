@@ -1,20 +1,16 @@
 -- A lookup by rising position: what is left to look at from position i on.
-use mathlib.Core.Path.{_≡_, refl, sym, ap, _∙_}
-use mathlib.Core.Bool.{cond}
+use mathlib.Core.Path.{_≡_, sym, ap, _∙_}
 use mathlib.Core.List.{List, map}
 use Prim.Native.Nat.{ℕ, suc, _+_, _≤_, _<_}
 use native.Mathlib.Nat.{add-zero, zero-add}
 use native.Mathlib.Numerals.{add-one}
 use native.Mathlib.Omega.{arith}
-use lib.Dec.{eqb, ltb}
-use lib.ListN.{length, getD, take, drop, length-take, length-map, drop-of-length-le, List·getD-map}
+use lib.ListN.{length, getD, take, drop, length-take, drop-of-length-le, List·getD-map}
 use lib.Seq.{drop-cons, getD-take}
 use borrow.Author.Tests.{eq-eqb, ne-eqb, lt-ltb, le-ltb}
 use Rattle.numbers.specs.Choose.{indexOf}
-use Rattle.numbers.specs.UpTo.{table}
 use Rattle.numbers.specs.TableLaws.{as-table}
 use Rattle.network.specs.declared.bus.Bus.{Bus}
-use Rattle.network.specs.declared.topology.BusIndex.{BusIndex}
 use Rattle.network.specs.declared.topology.BusIndex.the-variants.{At, NotFound}
 use Rattle.network.specs.declared.topology.PowerNetwork.{PowerNetwork}
 use Rattle.network.specs.Faults.{busId}

@@ -7,7 +7,6 @@ use native.Mathlib.Omega.{arith}
 use lib.ListN.{length, getD, length-map}
 use lib.Ieee.{nan}
 use Rattle.numbers.specs.TableLaws.{any-default}
-use Rattle.network.specs.declared.bus.Power.{Power}
 use Rattle.network.specs.declared.bus.Bus.{Bus}
 use Rattle.network.specs.declared.branch.Branch.{Branch}
 use Rattle.network.specs.Records.{noBus, noBranch}

@@ -6,7 +6,7 @@ ghost use Prim.Native.Nat.{suc, _+_, _≤_, _<_};
 ghost use lib.Dec.{eqb, leb, ltb};
 ghost use Rattle.network.specs.Answers.{answerOf, judge, _if_};
 ghost use Rattle.network.specs.Check.{headOf, checkRun, checkRecords};
-ghost use Rattle.network.specs.Faults.{okBase, okLoad, okR, busId, methodByte, headFaults, busFaults, branchFaults, switchFaults};
+ghost use Rattle.network.specs.Faults.{okBase, okLoad, okR, busId, methodByte, busFaults, branchFaults, switchFaults};
 ghost use Rattle.network.specs.Flags.{flags};
 ghost use Rattle.network.specs.Records.{recordsOf};
 use crate::branch::Branch;
@@ -52,41 +52,27 @@ pub fn judge_head(
         ∷ (5 if not (okBase «base_mva»))
         ∷ []) 1 ⌝ }
 {
+    let place: u16 = 1;
     if max_iterations > PowerNetwork::MAX_ITERATIONS {
-        return Verdict::Refused {
-            number: 3,
-            place: 1,
-        };
+        return Verdict::Refused { number: 3, place };
     }
     if bus_count > PowerNetwork::MAX_BUSES {
-        return Verdict::Refused {
-            number: 4,
-            place: 1,
-        };
+        return Verdict::Refused { number: 4, place };
     }
     if branch_count > PowerNetwork::MAX_BRANCHES {
-        return Verdict::Refused {
-            number: 4,
-            place: 1,
-        };
+        return Verdict::Refused { number: 4, place };
     }
     if switch_count > PowerNetwork::MAX_SWITCHES {
-        return Verdict::Refused {
-            number: 4,
-            place: 1,
-        };
+        return Verdict::Refused { number: 4, place };
     }
     if base_in_range(base_mva) {
         return Verdict::Accepted;
     }
-    Verdict::Refused {
-        number: 5,
-        place: 1,
-    }
+    Verdict::Refused { number: 5, place }
 }
 
 // A bus line's refusals; `twice` says that a bus before it has its id.
-pub fn judge_bus(bus: Bus, twice: bool, place: u16) -> Verdict
+fn judge_bus(bus: Bus, twice: bool, place: u16) -> Verdict
     ensures { λ r. ⌜ answerOf r ≡ judge
         ((5 if not (okLoad (bus .pd .0)))
         ∷ (7 if twice)
@@ -102,7 +88,7 @@ pub fn judge_bus(bus: Bus, twice: bool, place: u16) -> Verdict
 }
 
 // A branch line's refusals; the flags say whether a bus with the id of each end is listed.
-pub fn judge_branch(branch: Branch, from_listed: bool, to_listed: bool, place: u16) -> Verdict
+fn judge_branch(branch: Branch, from_listed: bool, to_listed: bool, place: u16) -> Verdict
     ensures { λ r. ⌜ answerOf r ≡ judge
         ((5 if not (okR (branch .r)))
         ∷ (6 if (not «from_listed» || not «to_listed»))
@@ -133,7 +119,7 @@ fn is_eleventh_tie(algorithm: ReconfigAlgorithm, normally_open: bool, ties: u16)
 
 // A switch line's refusals; of the switches before it, `twice` says that one has its id, `second` that one is on its
 // branch, and `ties` how many are normally open.
-pub fn judge_switch(
+fn judge_switch(
     switch: Switch,
     branch_count: u16,
     algorithm: ReconfigAlgorithm,
@@ -263,15 +249,9 @@ fn check_switches(network: PowerNetwork) -> Verdict
         let switch = network.switches[i];
         let id = wide16(switch.id);
         let on = wide16(switch.branch_idx);
-        let verdict = judge_switch(
-            switch,
-            branches,
-            algorithm,
-            seen[id],
-            taken[on],
-            ties,
-            place,
-        );
+        let twice = seen[id];
+        let second = taken[on];
+        let verdict = judge_switch(switch, branches, algorithm, twice, second, ties, place);
         let Verdict::Accepted = verdict else {
             return verdict;
         };

@@ -104,12 +104,13 @@ pub fn check_state(network: PowerNetwork, state: &[u8], place: u16) -> Verdict
 }
 
 // A branch is live when its status is 01 and no open switch is on it.
-pub fn is_live(branch: Branch, open: bool) -> bool
+fn is_live(branch: Branch, open: bool) -> bool
     ensures { λ r. ⌜ r ≡ (branch .status && not «open») ⌝ }
 {
     branch.status && !open
 }
 
+// A flag for each branch position: none is set.
 fn no_branches() -> [bool; 512]
     ensures { λ r. ⌜ r ≡ table (λ k. false) 512 ⌝ }
 {
@@ -142,7 +143,10 @@ fn open_branches(network: PowerNetwork, configuration: NetworkConfiguration) -> 
 pub fn live_branches(network: PowerNetwork, configuration: NetworkConfiguration) -> [bool; 512]
     ensures { λ r. ⌜ r ≡ table (live (recordsOf network) (configuration .switches)) 512 ⌝ }
 {
-    let count = at_most(network.branch_count as usize, 512);
+    let count = at_most(
+        network.branch_count as usize,
+        PowerNetwork::MAX_BRANCHES as usize,
+    );
     let opened = open_branches(network, configuration);
     let mut flags = no_branches();
     let mut k: usize = 0;

@@ -93,7 +93,7 @@ impl PowerNetwork {
     pub fn bus_index(self, bus_id: u16) -> BusIndex
         ensures { λ r. ⌜ r ≡ busIndex (take (self .«bus_count») (self .buses)) «bus_id» ⌝ }
     {
-        let count = at_most(self.bus_count as usize, 256);
+        let count = at_most(self.bus_count as usize, PowerNetwork::MAX_BUSES as usize);
         let mut i: usize = 0;
         while i < count {
             if self.buses[i].id == bus_id {

@@ -3,7 +3,6 @@ use mathlib.Core.Path.{_≡_, ap, _∙_}
 use Prim.Native.Nat.{_+_, _-_}
 use lib.ListN.{getD}
 use borrow.Author.Needs.{needs}
-use Rattle.numbers.specs.UpTo.{table}
 use Rattle.network.specs.Answers.{answerOf, judge}
 use Rattle.network.specs.CheckLaws.{Passed, passed-none, passed-more, passed-refused, passed-all}
 use Rattle.network.specs.Faults.{branchFaults}

@@ -57,11 +57,11 @@ wide16-requires c κs = search needs
 wide16-requires-2 : tie.Need-wide16-requires-2 Inv-loop μ-loop
 wide16-requires-2 c κs = search needs
 
-array-read-judge-switch : tie.Need-array-read-judge-switch Inv-loop μ-loop
-array-read-judge-switch c = search needs
+array-read-twice : tie.Need-array-read-twice Inv-loop μ-loop
+array-read-twice c = search needs
 
-array-read-judge-switch-2 : tie.Need-array-read-judge-switch-2 Inv-loop μ-loop
-array-read-judge-switch-2 c = search needs
+array-read-second : tie.Need-array-read-second Inv-loop μ-loop
+array-read-second c = search needs
 
 judge-switch-requires : tie.Need-judge-switch-requires Inv-loop μ-loop
 judge-switch-requires c κs = search needs
@@ -142,8 +142,8 @@ check-switches-spec =
     element-copy-out-switch
     wide16-requires
     wide16-requires-2
-    array-read-judge-switch
-    array-read-judge-switch-2
+    array-read-twice
+    array-read-second
     judge-switch-requires
     enum-told
     enum-told-2

@@ -1,5 +1,5 @@
 -- `listed_ids` meets its contract: the flags are those of the first i buses' ids.
-use mathlib.Core.Path.{_≡_, sym}
+use mathlib.Core.Path.{_≡_}
 use mathlib.Core.List.{map}
 use Prim.Native.Nat.{_-_, _≤_}
 use native.Mathlib.Omega.{arith}

@@ -21,6 +21,9 @@ abbrev μ-loop : tie.MeasureT-loop
 cast-at-most : tie.Need-cast-at-most Inv-loop μ-loop
 cast-at-most c = search needs
 
+cast-at-most-2 : tie.Need-cast-at-most-2 Inv-loop μ-loop
+cast-at-most-2 c = search needs
+
 at-most-requires : tie.Need-at-most-requires Inv-loop μ-loop
 at-most-requires c κs = search needs
 
@@ -86,6 +89,7 @@ live-branches-spec =
     Inv-loop
     μ-loop
     cast-at-most
+    cast-at-most-2
     at-most-requires
     open-branches-requires
     no-branches-requires

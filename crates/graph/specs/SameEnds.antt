@@ -1,0 +1,36 @@
+-- The walk, radiality and the path look at the listed branches only: nets whose listed branches have the same ends, and flags that agree on
+-- them, have the same.
+use mathlib.Core.Path.{_≡_, refl, ap, fun-ext}
+use mathlib.Core.Bool.{Bool, true, false, cond}
+use mathlib.Core.List.{[], reverse}
+use Prim.Native.Nat.{ℕ, _<_}
+use Rattle.numbers.specs.UpTo.{upTo-cong}
+use Rattle.numbers.specs.Counts.{count-cong}
+use Rattle.graph.specs.Graph.{Net}
+use Rattle.graph.specs.Walk.{far, neighbours, reached, walkBy, walk, back, bfsPath}
+use Rattle.graph.specs.Radial.{radial}
+use Rattle.graph.specs.WalkLaws.{walk-walked}
+use Rattle.graph.specs.WayBack.{back-same}
+
+module _ (N M : Net) (E F : ℕ → Bool) (buses : N .buses ≡ M .buses) (branches : N .branches ≡ M .branches) (live : (k : ℕ) → k < N .branches → E k ≡ F k)
+    (ends : (k : ℕ) → k < N .branches → (N .from k ≡ M .from k) × (N .to k ≡ M .to k)) where
+  neighbours-same : (u : ℕ) → neighbours N E u ≡ neighbours M F u
+  unfolding neighbours far
+  neighbours-same u = rw (← branches) (upTo-cong _ _ [] (N .branches) (λ l k h. rw (live k h, ends k h .0, ends k h .1)))
+
+  pub walk-same : (start barred : ℕ) → walk N E start barred ≡ walk M F start barred
+  unfolding walk
+  walk-same start barred = ap (λ next. walkBy next start barred) (fun-ext neighbours-same)
+
+  pub radial-same : radial N E ≡ radial M F
+  unfolding radial
+  radial-same = rw (walk-same 0 0, count-cong E F (N .branches) live, branches, buses)
+
+  pub path-same : (a b : ℕ) → bfsPath N E a b ≡ bfsPath M F a b
+  unfolding bfsPath
+  path-same a b = rw (← walk-same a a) (go (reached b (walk N E a a)) refl)
+    where
+      go : (t : Bool) → reached b (walk N E a a) ≡ t
+          → cond t (reverse (back N (walk N E a a) a 256 b)) [] ≡ cond t (reverse (back M (walk N E a a) a 256 b)) []
+      go true r = ap reverse (back-same M (λ k s. ends k (s .0 .0)) (walk-walked N E a a) 256 b r)
+      go false r = refl

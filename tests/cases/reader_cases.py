@@ -1,0 +1,237 @@
+#!/usr/bin/env python3
+"""Writes crates/reader_cases/stdin and stdout: frame texts and the verdict that document 01 gives each.
+
+usage: tests/cases/reader_cases.py
+
+Each case of stdin is a line 'LENGTH NAME', the text, and a line feed. Each line of stdout is 'NAME accepted' or
+'NAME NUMBER PLACE'. Every verdict is written here by hand from document 01, but for texts with two faults, where it is
+the rule: the first faulty line decides, inside a line the lower number.
+"""
+import itertools
+import os
+
+ROOT = os.path.join(os.path.dirname(os.path.abspath(__file__)), '..', '..', 'crates', 'reader_cases')
+OK = 'accepted'
+ONE, ZERO, MINUS_ZERO = 0x3FF0000000000000, 0, 0x8000000000000000
+INFINITY, MINUS_INFINITY = 0x7FF0000000000000, 0xFFF0000000000000
+NANS = [0x7FF8000000000000, 0x7FF0000000000001, 0xFFF8000000000000, 0xFFFFFFFFFFFFFFFF]
+cases = []
+
+
+def head(buses, branches, switches, base=ONE, method=0, iterations=100):
+    return '01%04X%04X%04X%016X%02X%04X' % (buses, branches, switches, base, method, iterations)
+
+
+def bus(number, pd=ZERO):
+    return '02%04X%016X' % (number, pd)
+
+
+def branch(from_bus, to_bus, r=ONE, status=1):
+    return '03%04X%04X%016X%02X' % (from_bus, to_bus, r, status)
+
+
+def switch(number, position, flags=2):
+    return '04%04X%04X%02X' % (number, position, flags)
+
+
+def text(lines):
+    return ''.join(line + '\n' for line in lines).encode('latin-1')
+
+
+def case(name, what, verdict):
+    data = what if isinstance(what, bytes) else text(what)
+    cases.append((name, data, verdict if isinstance(verdict, str) else '%d %d' % verdict))
+
+
+def small(**change):
+    """Two buses, one branch, one switch; lines 1, 2, 3, 4, 5."""
+    lines = dict(head=head(2, 1, 1), first=bus(1), second=bus(2), branch=branch(1, 2), switch=switch(10, 0))
+    lines.update(change)
+    return list(lines.values())
+
+
+TRIANGLE = [head(3, 3, 2), bus(1), bus(2, ONE), bus(3, 0x4000000000000000), branch(1, 2, 0x3FD0000000000000),
+            branch(2, 3, 0x3FDC000000000000), branch(1, 3, 0x3FC8000000000000), switch(10, 1, 2), switch(11, 2, 3)]
+
+
+def many(buses, branches, switches, method=0, iterations=100, ties=0):
+    """A chain of buses, then branches 1-2 again; a switch a branch, the last ones normally open."""
+    rows = [head(buses, branches, switches, ONE, method, iterations)]
+    rows += [bus(65535 - i) for i in range(buses)]
+    rows += [branch(65535 - min(i, max(buses - 2, 0)), 65535 - min(i + 1, max(buses - 1, 0))) for i in range(branches)]
+    rows += [switch(i, i, 2 | (1 if i >= switches - ties else 0)) for i in range(switches)]
+    return rows
+
+
+def examples():
+    case('triangle', TRIANGLE, OK)
+    case('row-1-0G', b'0G', (1, 1))
+    case('row-2-empty-text', b'', (2, 1))
+    case('row-3-status-02', small(branch=branch(1, 2, ONE, 2)), (3, 4))
+    case('row-3-method-03', small(head=head(2, 1, 1, ONE, 3)), (3, 1))
+    case('row-3-method-FF', small(head=head(2, 1, 1, ONE, 255)), (3, 1))
+    case('row-3-status-FF', small(branch=branch(1, 2, ONE, 255)), (3, 4))
+    case('row-3-flags-04', small(switch=switch(10, 0, 4)), (3, 5))
+    case('row-3-flags-80', small(switch=switch(10, 0, 0x80)), (3, 5))
+    case('row-4-0101-buses', small(head=head(0x101, 1, 1)), (4, 1))
+    case('row-5-pd-infinite', small(second=bus(2, INFINITY)), (5, 3))
+    case('row-6-end-0009', small(branch=branch(1, 9)), (6, 4))
+    case('row-6-from-0009', small(branch=branch(9, 1)), (6, 4))
+    case('row-6-position-1-of-1', small(switch=switch(10, 1)), (6, 5))
+    case('row-7-bus-0001-again', small(second=bus(1)), (7, 3))
+    two = [head(2, 2, 2), bus(1), bus(2), branch(1, 2), branch(1, 2)]
+    case('row-7-switch-again', two + [switch(10, 0), switch(10, 1)], (7, 7))
+    case('same-id-as-bus-and-switch', small(switch=switch(1, 0)), OK)
+    case('row-8-two-switches-on-0000', two + [switch(10, 0), switch(11, 0)], (8, 7))
+    case('row-8-on-an-out-of-service-branch', [head(2, 1, 2), bus(1), bus(2), branch(1, 2, ONE, 0), switch(1, 0), switch(2, 0)], (8, 6))
+    case('status-00-passes', small(branch=branch(1, 2, ONE, 0)), OK)
+    case('own-loop-passes', small(branch=branch(1, 1)), OK)
+    for flags in range(4):
+        case('flags-%02X-pass' % flags, small(switch=switch(10, 0, flags)), OK)
+
+
+def limits():
+    for method in range(3):
+        case('nothing-listed-method-%d' % method, [head(0, 0, 0, ONE, method, 0)], OK)
+        case('iterations-1000-method-%d' % method, small(head=head(2, 1, 1, ONE, method, 1000)), OK)
+        case('iterations-1001-method-%d' % method, small(head=head(2, 1, 1, ONE, method, 1001)), (3, 1))
+        case('ten-ties-method-%d' % method, many(11, 12, 12, method, 0, 10), OK)
+        eleven = many(11, 12, 12, method, 0, 11)
+        case('eleven-ties-method-%d' % method, eleven, (9, 36) if method == 2 else OK)
+    locked = [line[:-2] + '%02X' % (int(line[-2:], 16) & 1) if line.startswith('04') else line for line in many(11, 12, 12, 2, 0, 11)]
+    case('eleven-locked-ties', locked, (9, 36))
+    case('ids-65535-and-0', [head(2, 2, 2), bus(65535), bus(0), branch(0, 65535), branch(65535, 0), switch(65535, 0), switch(0, 1)], OK)
+    case('buses-256', many(256, 0, 0), OK)
+    case('buses-257', many(257, 0, 0), (4, 1))
+    case('buses-65535', [head(65535, 0, 0)], (4, 1))
+    case('branches-512', many(2, 512, 0), OK)
+    case('branches-513', many(2, 513, 0), (4, 1))
+    case('switches-512', many(2, 512, 512), OK)
+    case('switches-513', [head(2, 512, 513)] + many(2, 512, 512)[1:], (4, 1))
+    for method in range(3):
+        case('largest-method-%d' % method, many(256, 512, 512, method, 1000, 10), OK)
+    case('largest-and-a-line', text(many(256, 512, 512)) + b'00\n', (2, 1282))
+    case('largest-and-a-long-line', text(many(256, 512, 512)) + b'G' * 100, (2, 1282))
+    case('largest-last-line-missing', many(256, 512, 512)[:-1], (2, 1281))
+
+
+def ranges():
+    def each(kind, make, place, good, bad):
+        for bits in good:
+            case('%s-%016X' % (kind, bits), make(bits), OK)
+        for bits in bad + [INFINITY, MINUS_INFINITY] + NANS:
+            case('%s-%016X' % (kind, bits), make(bits), (5, place))
+    each('base', lambda bits: small(head=head(2, 1, 1, bits)), 1,
+         [0x3F50624DD2F1A9FC, 0x3F50624DD2F1A9FD, 0x412E847FFFFFFFFF, 0x412E848000000000],
+         [0x3F50624DD2F1A9FB, 0x412E848000000001, ZERO, MINUS_ZERO, 1, 0xBFF0000000000000])
+    each('pd', lambda bits: small(second=bus(2, bits)), 3,
+         [ZERO, MINUS_ZERO, 1, 0x8000000000000001, 0x412E848000000000, 0xC12E848000000000, 0x412E847FFFFFFFFF],
+         [0x412E848000000001, 0xC12E848000000001, 0x7FEFFFFFFFFFFFFF, 0xFFEFFFFFFFFFFFFF])
+    each('r', lambda bits: small(branch=branch(1, 2, bits)), 4,
+         [ZERO, MINUS_ZERO, 1, 0x408F400000000000, 0x408F3FFFFFFFFFFF],
+         [0x8000000000000001, 0x408F400000000001, 0xBFF0000000000000, 0x7FEFFFFFFFFFFFFF])
+
+
+def lines():
+    good = text(small())
+    case('good', good, OK)
+    case('no-line-feed-at-the-end', good[:-1], (1, 5))
+    case('a-line-feed-more', good + b'\n', (2, 6))
+    case('empty-line-first', b'\n' + good, (2, 1))
+    case('only-a-line-feed', b'\n', (2, 1))
+    case('head-only', good[:37], (2, 2))
+    case('head-with-CR-LF', good[:36] + b'\r' + good[36:], (2, 1))
+    case('bus-with-CR-LF', good[:59] + b'\r' + good[59:], (1, 2))
+    case('lower-case', small(switch='04000a000002'), (1, 5))
+    for name, byte in [('space', 32), ('tab', 9), ('NUL', 0), ('FF', 255), ('slash', 47), ('colon', 58), ('at', 64), ('G', 71), ('a', 97)]:
+        case('other-character-' + name, good[:40] + bytes([byte]) + good[41:], (1, 2))
+    case('odd-digits', small(switch='04000A00000'), (1, 5))
+    case('two-digits-short', small(switch='04000A0000'), (2, 5))
+    case('two-digits-long', small(switch='04000A00000200'), (2, 5))
+    case('kind-05', small(switch='05000A000002'), (2, 5))
+    case('kind-00', small(switch='00000A000002'), (2, 5))
+    case('head-again', small(first=head(2, 1, 1)), (2, 2))
+    case('bus-for-a-branch', small(branch=bus(3)), (2, 4))
+    case('switch-for-a-bus', small(first=switch(1, 0)), (2, 2))
+    for size, ending, verdict in [(36, '', (1, 1)), (36, '\n', (2, 1)), (37, '', (2, 1)), (37, '\n', (2, 1)), (1000, '', (2, 1))]:
+        for name, character in [('digits', '0'), ('others', 'G')]:
+            expected = (1, 1) if (size, name) == (36, 'others') else verdict
+            case('line-of-%d-%s-%s' % (size, name, 'ended' if ending else 'unended'), (character * size + ending).encode(), expected)
+    for i in range(1, 6):
+        case('line-%d-missing-to-the-end' % i, small()[:i - 1], (2, i))
+    case('switch-line-missing', small()[:4], (2, 5))
+    surplus = [('even', '00\n', 2), ('switch', switch(11, 0) + '\n', 2), ('odd', '000\n', 1), ('other', 'GG\n', 1), ('unended', '00', 1),
+               ('unended-odd', '0', 1), ('36-unended', '0' * 36, 1), ('37', '0' * 37, 2), ('37-others-ended', 'G' * 37 + '\n', 2), ('36-others', 'G' * 36 + '\n', 1)]
+    for name, more, number in surplus:
+        case('surplus-' + name, good + more.encode(), (number, 6))
+    case('surplus-two-lines-second-worse', good + b'00\nGG', (2, 6))
+
+
+# one fault of each number that a kind of line can have; a line is written from what the faults change
+FAULTS = {
+    'head': {2: dict(tail='00'), 3: dict(method=3), 4: dict(buses=257), 5: dict(base=ZERO)},
+    'bus': {2: dict(kind='05'), 5: dict(pd=INFINITY), 7: dict(number=1)},
+    'branch': {2: dict(kind='05'), 3: dict(status=2), 5: dict(r=MINUS_INFINITY), 6: dict(to_bus=9)},
+    'switch': {2: dict(kind='05'), 3: dict(flags=7), 6: dict(position=12), 7: dict(number=1), 8: dict(position=0), 9: dict(tie=1)},
+}
+PLACES = {'head': 1, 'bus': 3, 'branch': 4, 'switch': 25}
+
+
+def line_of(kind, faults):
+    """The line with these faults. 1 is a character that is no digit, put at its end."""
+    change = {}
+    for number in faults:
+        change.update(FAULTS[kind].get(number, {}))
+    if kind == 'head':
+        line = head(change.get('buses', 2), 11, 11, change.get('base', ONE), change.get('method', 2)) + change.get('tail', '')
+    elif kind == 'bus':
+        line = bus(change.get('number', 2), change.get('pd', ZERO))
+    elif kind == 'branch':
+        line = branch(1, change.get('to_bus', 2), change.get('r', ONE), change.get('status', 1))
+    else:
+        flags = change.get('flags', 2) | change.get('tie', 0)
+        line = switch(change.get('number', 11), change.get('position', 10), flags)
+    line = change.get('kind', line[:2]) + line[2:]
+    return line[:-1] + 'G' if 1 in faults else line
+
+
+def with_faults(by_kind):
+    """Two buses, eleven branches, eleven switches of which the first ten are ties, with faults in the second bus, first branch, last switch."""
+    rows = [line_of('head', by_kind.get('head', ())), bus(1), line_of('bus', by_kind.get('bus', ())), line_of('branch', by_kind.get('branch', ()))]
+    rows += [branch(1, 2)] * 10 + [switch(1 + i, i, 3) for i in range(10)]
+    return rows + [line_of('switch', by_kind.get('switch', ()))]
+
+
+def two_faults():
+    numbers = {kind: [1] + list(FAULTS[kind]) for kind in FAULTS}
+    for kind in FAULTS:
+        for number in numbers[kind]:
+            expected = (2, 1) if (kind, number) == ('head', 2) else (number, PLACES[kind])
+            case('%s-%d' % (kind, number), with_faults({kind: (number,)}), expected)
+        for a, b in itertools.combinations(numbers[kind], 2):
+            if (kind, a, b) == ('switch', 6, 8):
+                continue  # one position cannot be both beyond the branches and taken
+            least = 2 if kind == 'head' and 2 in (a, b) else a  # its line is over 36 characters
+            case('%s-%d-and-%d' % (kind, a, b), with_faults({kind: (a, b)}), (least, PLACES[kind]))
+    for first, second in itertools.combinations(FAULTS, 2):
+        for a in numbers[first]:
+            for b in numbers[second]:
+                case('%s-%d-then-%s-%d' % (first, a, second, b), with_faults({first: (a,), second: (b,)}), (a, PLACES[first]))
+
+
+def main():
+    for make in (examples, limits, ranges, lines, two_faults):
+        make()
+    names = [name for name, _, _ in cases]
+    assert len(names) == len(set(names)), 'a name stands twice'
+    os.makedirs(ROOT, exist_ok=True)
+    with open(os.path.join(ROOT, 'stdin'), 'wb') as out:
+        for name, data, _ in cases:
+            out.write(b'%d %s\n' % (len(data), name.encode()) + data + b'\n')
+    with open(os.path.join(ROOT, 'stdout'), 'w') as out:
+        for name, _, verdict in cases:
+            out.write('%s %s\n' % (name, verdict))
+    print('%d cases' % len(cases))
+
+
+main()

@@ -1,0 +1,98 @@
+//! The set of texts that a size and a seed give, in a fixed order.
+
+use crate::feeder::Feeder;
+use crate::random::Random;
+use crate::{damage, limits, shapes, short};
+
+pub struct Case {
+    pub kind: &'static str,
+    pub text: Vec<u8>,
+}
+
+pub type Cases = Box<dyn Iterator<Item = Case> + Send>;
+
+/// How many texts of each seeded kind; the fixed and the exhaustive ones are always there.
+#[derive(Clone, Copy)]
+pub struct Size {
+    pub each_shape: usize,
+    pub damaged: usize,
+    pub three_buses: usize,
+    pub full: usize,
+}
+
+impl Size {
+    pub fn named(name: &str) -> Option<Self> {
+        match name {
+            "small" => Some(Size { each_shape: 250, damaged: 4_000, three_buses: 2_000, full: 3 }),
+            "large" => Some(Size { each_shape: 10_000, damaged: 200_000, three_buses: 200_000, full: 30 }),
+            _ => None,
+        }
+    }
+}
+
+pub fn cases(size: Size, seed: u64) -> Cases {
+    let fixed = named("limits", limits::texts().into_iter())
+        .chain(named("strings of up to 3 bytes", short::strings()))
+        .chain(named("one byte away from the triangle", short::one_byte_away()))
+        .chain(named("all feeders of up to 2 buses and 2 branches", short::two_buses().map(|f| f.text())))
+        .chain(named("triangles with small loads", short::triangle_values().map(|f| f.text())));
+    let seeded = three_buses(size.three_buses, seed)
+        .chain(every_shape(size.each_shape, seed))
+        .chain(seeded("damaged copies", size.damaged, seed, damage::damaged))
+        .chain(full_size(size.full, seed));
+    Box::new(fixed.chain(seeded))
+}
+
+fn named(kind: &'static str, texts: impl Iterator<Item = Vec<u8>> + Send) -> impl Iterator<Item = Case> + Send {
+    texts.map(move |text| Case { kind, text })
+}
+
+fn seeded(
+    kind: &'static str,
+    count: usize,
+    seed: u64,
+    make: fn(&mut Random) -> Vec<u8>,
+) -> impl Iterator<Item = Case> + Send {
+    (0..count).map(move |number| Case { kind, text: make(&mut Random::new(seed, kind, number)) })
+}
+
+/// Feeders of three buses and up to three branches, drawn from the whole list of them.
+fn three_buses(count: usize, seed: u64) -> impl Iterator<Item = Case> + Send {
+    const KIND: &str = "feeders of 3 buses";
+    (0..count).map(move |number| {
+        let mut random = Random::new(seed, KIND, number);
+        let branches = random.pick(&[2, 3, 3, 3]);
+        let feeder = short::numbered(3, branches, random.below(short::how_many(3, branches)));
+        Case { kind: KIND, text: feeder.text() }
+    })
+}
+
+fn every_shape(count: usize, seed: u64) -> impl Iterator<Item = Case> + Send {
+    shapes::SHAPES.iter().flat_map(move |shape| {
+        (0..count).map(move |number| {
+            let feeder: Feeder = (shape.make)(&mut Random::new(seed, shape.name, number));
+            Case { kind: shape.name, text: feeder.text() }
+        })
+    })
+}
+
+/// Each method with ten operable ties; then exchanges with more, which take the original seconds.
+fn full_size(count: usize, seed: u64) -> impl Iterator<Item = Case> + Send {
+    const KIND: &str = "256 buses, 512 branches, 512 switches";
+    const SEARCHES: [(u8, usize, u16); 9] = [
+        (0, 10, 1_000),
+        (1, 10, 1_000),
+        (2, 10, 1_000),
+        (0, 40, 1_000),
+        (1, 10, 1),
+        (2, 3, 0),
+        (0, 257, 2),
+        (1, 10, 100),
+        (0, 20, 3),
+    ];
+    (0..count).map(move |number| {
+        let (method, operable, iterations) = SEARCHES[number % SEARCHES.len()];
+        let feeder = shapes::full_size(&mut Random::new(seed, KIND, number), method, operable, iterations);
+        Case { kind: KIND, text: feeder.text() }
+    })
+}

@@ -1,0 +1,222 @@
+//! Document 01's worked examples on the original, and document 01's steps against the original.
+
+use crate::cases::{Case, Cases};
+use crate::driver::Original;
+use crate::expected::{expected, Expected};
+use crate::feeder::{triangle, Feeder, OPERABLE, TIE};
+use crate::reckoning::searches::Searches;
+use crate::reckoning::{judge, plan, reader, Network, Refusal, CLOSED, OPEN};
+use crate::shapes::SHAPES;
+
+const TRIANGLE: &str = "810140100000000000003FF00000000000004052C00000000000000201\n82000A00\n82000B01\n83000B000A\n";
+
+/// The triangle's four lines, the section Triangle's marked cases and the refusal table's examples.
+pub fn worked_examples() -> bool {
+    let mut failed = 0;
+    let mut check = |name: &str, holds: bool| {
+        println!("{}  {name}", if holds { "ok    " } else { "FAILED" });
+        failed += !holds as usize;
+    };
+    check("triangle prints document 01's four lines", expected(&triangle().text()).output() == TRIANGLE);
+    for (name, feeder, state, radial, loss) in states() {
+        let network = network(&feeder);
+        let original = Original::new(&network);
+        check(name, original.radial(&state) == radial && loss.is_none_or(|loss| original.loss(&state) == loss));
+    }
+    for (name, feeder, line) in searches() {
+        check(name, expected(&feeder.text()).output().starts_with(&line));
+    }
+    for (name, text, line) in refusals() {
+        check(name, expected(&text).output() == line);
+    }
+    for (name, found, line) in plan_refusals() {
+        check(name, found.is_err_and(|refusal| refusal.line() == line));
+    }
+    failed == 0
+}
+
+fn network(feeder: &Feeder) -> Network {
+    reader::read(&feeder.text()).expect("a worked example is acceptable")
+}
+
+type StateCase = (&'static str, Feeder, Vec<u8>, bool, Option<f64>);
+
+/// The marked cases on states: radial or not, and the loss where document 01 gives one.
+fn states() -> Vec<StateCase> {
+    let buses = |count: u16, ends: &[(u16, u16)]| {
+        let mut feeder = Feeder { base_mva: 1.0, ..Feeder::default() };
+        (1..=count).for_each(|id| feeder.bus(id, 1.0));
+        ends.iter().for_each(|&(from, to)| feeder.branch(from, to, 0.5));
+        feeder
+    };
+    let mut turned = triangle();
+    (turned.branches[0].from, turned.branches[0].to) = (2, 1);
+    vec![
+        ("no buses: radial, loss 0", buses(0, &[]), vec![], true, Some(0.0)),
+        ("one bus: radial", buses(1, &[]), vec![], true, None),
+        ("one bus, own loop: not", buses(1, &[(1, 1)]), vec![], false, None),
+        ("two buses, one branch: radial", buses(2, &[(1, 2)]), vec![], true, None),
+        ("two parallel: not", buses(2, &[(1, 2), (1, 2)]), vec![], false, None),
+        ("triangle base loss 4", triangle(), vec![0, 1], true, Some(4.0)),
+        ("exchanged 1", triangle(), vec![1, 0], true, Some(1.0)),
+        ("all closed: not radial, loss 5.6875", triangle(), vec![0, 0], false, Some(5.6875)),
+        ("branch 0 turned: base loss 1.75", turned, vec![0, 1], true, Some(1.75)),
+    ]
+}
+
+/// The marked cases on searches, with the beginning of the output.
+fn searches() -> Vec<(&'static str, Feeder, String)> {
+    let line = |best: f64, iterations: u16, converged: u8| {
+        let reduction: f64 = (4.0 - best) / 4.0 * 100.0;
+        let bits = [4.0f64.to_bits(), best.to_bits(), reduction.to_bits()];
+        format!("8101{:016X}{:016X}{:016X}{iterations:04X}{converged:02X}\n", bits[0], bits[1], bits[2])
+    };
+    let with = |method, iterations| Feeder { method, iterations, ..triangle() };
+    vec![
+        ("exchange with 0 rounds: base, 0, not converged", with(0, 0), line(4.0, 0, 0)),
+        ("exchange with 1: loss 1, 1, not", with(0, 1), line(1.0, 1, 0)),
+        ("exchange with 2: 2, not", with(0, 2), line(1.0, 2, 0)),
+        ("exchange with 3: 2, converged", with(0, 3), line(1.0, 2, 1)),
+        ("exhaustive: base, count 1", with(2, 100), line(4.0, 1, 1)),
+        ("tabu with 100: base, 100, converged", with(1, 100), line(4.0, 100, 1)),
+    ]
+}
+
+/// The examples of rows 1 to 9, and the passing side of the two limits that document 01 spells out.
+fn refusals() -> Vec<(&'static str, Vec<u8>, &'static str)> {
+    let changed = |change: fn(&mut Feeder)| {
+        let mut feeder = triangle();
+        change(&mut feeder);
+        feeder.text()
+    };
+    let none_lost = "8101000000000000000000000000000000000000000000000000000101\n";
+    let not_radial = "8100000000000000000000000000000000000000000000000000000000\n";
+    vec![
+        ("1: 0G", b"0G\n".to_vec(), "8F010001\n"),
+        ("2: empty text, line 1", vec![], "8F020001\n"),
+        ("3: status 02", changed(|f| f.branches[0].status = 2), "8F030005\n"),
+        ("4: 0101 buses", buses(0x101), "8F040001\n"),
+        ("256 buses pass", buses(0x100), not_radial),
+        ("5: pd 7FF0000000000000", changed(|f| f.buses[0].pd = f64::INFINITY), "8F050002\n"),
+        ("6: end 0009 of buses 1 to 3", changed(|f| f.branches[1].to = 9), "8F060006\n"),
+        ("7: bus 0001 again", changed(|f| f.buses[1].id = 1), "8F070003\n"),
+        ("8: two switches on 0000", changed(|f| f.switches.iter_mut().for_each(|s| s.branch = 0)), "8F080009\n"),
+        ("9: eleven ties", ties(11), "8F090018\n"),
+        ("ten ties pass", ties(10), none_lost),
+    ]
+}
+
+fn buses(count: u16) -> Vec<u8> {
+    let mut feeder = Feeder { base_mva: 1.0, method: 0, iterations: 0, ..Feeder::default() };
+    (0..count).for_each(|id| feeder.bus(id, 0.0));
+    feeder.text()
+}
+
+/// One bus with that many normally open branches to itself, exhaustive.
+fn ties(count: u16) -> Vec<u8> {
+    let mut feeder = Feeder { base_mva: 1.0, method: 2, iterations: 0, ..Feeder::default() };
+    feeder.bus(1, 0.0);
+    (0..count).for_each(|_| feeder.branch(1, 1, 0.0));
+    (0..count).for_each(|k| feeder.switch(k, k.into(), TIE));
+    feeder.text()
+}
+
+type PlanCase = (&'static str, Result<Vec<plan::Pair>, Refusal>, &'static str);
+
+/// The examples of rows 10 to 13 with both places, and their order.
+fn plan_refusals() -> Vec<PlanCase> {
+    let open = network(&triangle());
+    let mut with_lock = triangle();
+    with_lock.switches[0].flags = 0;
+    let locked = network(&with_lock);
+    let (base, exchanged, closed, bad) = ([0, 1], [1, 0], [0, 0], [2, 0]);
+    vec![
+        ("10: present state 02", plan::plan(&open, &bad, &base, 9), "8F0A0000\n"),
+        ("10: wanted state 02, present not radial", plan::plan(&open, &closed, &bad, 9), "8F0A0001\n"),
+        ("11: present, triangle all closed", plan::plan(&open, &closed, &base, 9), "8F0B0000\n"),
+        ("11: wanted, triangle all closed", plan::plan(&locked, &base, &closed, 0), "8F0B0001\n"),
+        ("12: switch 10 locked", plan::plan(&locked, &base, &exchanged, 0), "8F0C000A\n"),
+        ("13: no room for a pair", plan::plan(&open, &base, &exchanged, 0), "8F0D0000\n"),
+    ]
+}
+
+/// The reckoned steps, loss and radiality (two ways) against the original on every accepted text of a set; the reader's
+/// verdict against what it must be whatever the text.
+pub fn agree(cases: Cases) -> bool {
+    let (mut agreed, mut refused) = (0, 0);
+    for case in cases {
+        let right = expected(&case.text);
+        if !verdict_holds(&case, &right) {
+            println!("{}: the reader contradicts itself on\n{}", case.kind, String::from_utf8_lossy(&case.text));
+            return false;
+        }
+        let Expected::Answered(answered) = right else {
+            refused += 1;
+            continue;
+        };
+        let network = &answered.network;
+        let steps = Searches::new(network, None);
+        let lines = steps.lines(&steps.solve());
+        let count = network.switches.len();
+        let states = [network.base(), answered.best.clone(), vec![CLOSED; count], vec![OPEN; count]];
+        if lines != answered.search || !states_agree(network, &states) {
+            println!(
+                "{}: document 01's steps differ from the original on\n{}",
+                case.kind,
+                String::from_utf8_lossy(&case.text)
+            );
+            println!("original:\n{}reckoned:\n{lines}", answered.search);
+            return false;
+        }
+        agreed += 1;
+    }
+    println!("{refused} refused texts; {agreed} accepted texts: document 01's steps and the original agree");
+    true
+}
+
+/// A feeder of a shape is accepted; an accepted text is the one text of its records; a refused one is refused alike when it
+/// is cut behind the faulty line, and cut before that line it lacks it or, where the line is surplus, is accepted.
+fn verdict_holds(case: &Case, right: &Expected) -> bool {
+    let refusal = match right {
+        Expected::Answered(answered) => return written(&answered.network) == case.text,
+        Expected::Refused(refusal) => *refusal,
+    };
+    let lines: Vec<&[u8]> = case.text.split_inclusive(|&c| c == b'\n').collect();
+    let before = usize::from(refusal.place) - 1;
+    let missing = Refusal { number: 2, ..refusal };
+    let cut_before = reader::read(&lines[..before].concat()).err();
+    let behind = lines[..lines.len().min(before + 1)].concat();
+    SHAPES.iter().all(|shape| shape.name != case.kind)
+        && reader::read(&behind).err() == Some(refusal)
+        && cut_before.is_none_or(|refusal| refusal == missing)
+}
+
+/// The records as document 01's text.
+fn written(network: &Network) -> Vec<u8> {
+    let id = |position: usize| network.buses[position].id;
+    let mut feeder = Feeder {
+        base_mva: network.base_mva,
+        method: network.method,
+        iterations: network.max_iterations,
+        ..Feeder::default()
+    };
+    network.buses.iter().for_each(|b| feeder.bus(b.id, b.pd));
+    for branch in &network.branches {
+        feeder.branch(id(branch.from), id(branch.to), branch.r);
+        feeder.branches.last_mut().expect("just listed").status = branch.in_service as u8;
+    }
+    for switch in &network.switches {
+        let operable = if switch.can_operate { OPERABLE } else { 0 };
+        feeder.switch(switch.id, switch.branch, operable | if switch.normally_open { TIE } else { 0 });
+    }
+    feeder.text()
+}
+
+fn states_agree(network: &Network, states: &[Vec<u8>]) -> bool {
+    let (original, steps) = (Original::new(network), Searches::new(network, None));
+    states.iter().all(|state| {
+        let live = network.live(state);
+        let radial = [original.radial(state), plan::radial(network, &live), judge::tree(network, &live)];
+        radial.iter().all(|&one| one == radial[0]) && original.loss(state).to_bits() == steps.loss(state).to_bits()
+    })
+}

@@ -1,0 +1,95 @@
+//! What `feeder` is to print: the original's 81 and 82 lines, the reckoning's 83 lines or its one 8F line.
+
+use crate::driver::Original;
+use crate::reckoning::plan::{self, Pair};
+use crate::reckoning::{judge, reader, Network, Refusal};
+
+/// The expected output, in the parts that come from different sources.
+pub enum Expected {
+    Refused(Refusal),
+    Answered(Box<Answered>),
+}
+
+pub struct Answered {
+    pub network: Network,
+    /// The original's 81 line and 82 lines.
+    pub search: String,
+    pub best: Vec<u8>,
+    /// The plan from the base to the best state; none when the base isn't radial.
+    pub pairs: Option<Vec<Pair>>,
+}
+
+pub fn expected(text: &[u8]) -> Expected {
+    let network = match reader::read(text) {
+        Err(refusal) => return Expected::Refused(refusal),
+        Ok(network) => network,
+    };
+    let original = Original::new(&network);
+    let answer = original.solve();
+    let base = network.base();
+    let radial_base = judge::tree(&network, &network.live(&base));
+    assert_eq!(radial_base, original.radial(&base), "the original and the judge disagree on the base");
+    let pairs = radial_base.then(|| {
+        plan::plan(&network, &base, &answer.best, usize::MAX).expect("from a radial base only refusal 13 can come")
+    });
+    Expected::Answered(Box::new(Answered { network, search: answer.lines, best: answer.best, pairs }))
+}
+
+impl Expected {
+    pub fn output(&self) -> String {
+        match self {
+            Expected::Refused(refusal) => refusal.line(),
+            Expected::Answered(answered) => answered.output(),
+        }
+    }
+
+    /// What is wrong with an output; none if nothing is.
+    pub fn fault(&self, output: &[u8]) -> Option<String> {
+        match self {
+            Expected::Refused(refusal) => {
+                (output != refusal.line().as_bytes()).then(|| "the reckoning refuses this text otherwise".to_string())
+            }
+            Expected::Answered(answered) => answered.fault(output),
+        }
+    }
+}
+
+impl Answered {
+    pub fn output(&self) -> String {
+        format!("{}{}", self.search, self.plan_lines())
+    }
+
+    fn plan_lines(&self) -> String {
+        self.pairs.as_ref().map_or(String::new(), |pairs| plan::lines(&self.network, pairs))
+    }
+
+    fn fault(&self, output: &[u8]) -> Option<String> {
+        let Some(rest) = output.strip_prefix(self.search.as_bytes()) else {
+            return Some("the 81 and 82 lines are not the original's".to_string());
+        };
+        if self.pairs.is_some() {
+            let Some(printed) = self.printed_pairs(rest) else {
+                return Some("what follows the 82 lines is no list of 83 lines with listed ids".to_string());
+            };
+            if let Some(fault) = judge::fault(&self.network, &self.network.base(), &self.best, &printed) {
+                return Some(format!("the judge of plans: {fault}"));
+            }
+        }
+        (rest != self.plan_lines().as_bytes()).then(|| "the 83 lines are not the reckoning's".to_string())
+    }
+
+    /// The pairs of the printed 83 lines, by the ids of the list.
+    fn printed_pairs(&self, rest: &[u8]) -> Option<Vec<Pair>> {
+        let text = std::str::from_utf8(rest).ok()?;
+        let position = |line: &str, at: usize| {
+            let id = u16::from_str_radix(line.get(at..at + 4)?, 16).ok()?;
+            self.network.switches.iter().position(|s| s.id == id)
+        };
+        text.lines()
+            .map(|line| {
+                line.strip_prefix("83").filter(|ids| ids.len() == 8)?;
+                Some(Pair { closed: position(line, 2)?, opened: position(line, 6)? })
+            })
+            .collect()
+    }
+}

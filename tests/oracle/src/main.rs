@@ -1,0 +1,105 @@
+//! The oracle: the original Rust and an independent reckoning of document 01, against a program under test.
+
+mod calls;
+mod cases;
+mod check;
+mod compare;
+mod damage;
+mod driver;
+mod expected;
+mod feeder;
+mod findings;
+mod flat;
+mod limits;
+mod list;
+mod program;
+mod random;
+mod reckoning;
+mod records;
+mod shapes;
+mod short;
+mod values;
+mod wrong;
+
+use cases::Size;
+use std::io::{Read, Write};
+use std::process::ExitCode;
+
+const USAGE: &str = "usage:
+  oracle expected                          text on standard input: what feeder is to print
+  oracle solve                             records on standard input: the expected output of each, as records
+  oracle compare SIZE SEED PROGRAM [ARG]   runs the program on the set of that size (small, large) and seed
+  oracle check                             document 01's worked examples, on the original
+  oracle agree SIZE SEED                   document 01's steps, as reckoned, against the original
+  oracle flat                              the original's sensitivities at flat voltage
+  oracle findings                          where the original's comments are not what its code does
+  oracle wrong NAME                        text on standard input: the output of a program with that mistake
+  oracle wrong-programs SIZE SEED          for each mistake, the first text of the set that shows it
+  oracle smallest NAME                     the smallest feeder that shows a mistake
+  oracle list SEED                         the fixed list of texts and expected outputs
+  oracle entry FILE NUMBER                 one entry of such a list
+  oracle questions COUNT SEED              calls on states, slices and plans
+  oracle answers                           questions on standard input: their answers
+  oracle compare-answers QUESTIONS ANSWERS holds a program's answers against the oracle's";
+
+fn main() -> ExitCode {
+    let arguments: Vec<String> = std::env::args().skip(1).collect();
+    let words: Vec<&str> = arguments.iter().map(String::as_str).collect();
+    let good = match words[..] {
+        ["expected"] => print(expected::expected(&input()).output().as_bytes()),
+        ["solve"] => print(&records::solve(&input())),
+        ["compare", size, seed, _, ..] => compare::compare(set(size, seed), &arguments[3..], workers()),
+        ["check"] => check::worked_examples(),
+        ["agree", size, seed] => check::agree(set(size, seed)),
+        ["flat"] => flat::all_equal(),
+        ["findings"] => findings::print(),
+        ["wrong", name] => print(wrong::named(name).output(&input()).as_bytes()),
+        ["wrong-programs", size, seed] => wrong::all_caught(set(size, seed)),
+        ["smallest", name] => print(&wrong::smallest(wrong::named(name))),
+        ["list", seed] => print(&list::list(number(seed))),
+        ["entry", file, entry] => list::print_entry(&read_file(file), number(entry) as usize),
+        ["questions", count, seed] => print(&calls::questions(number(count) as usize, number(seed))),
+        ["answers"] => print(calls::answers(&input()).join("").as_bytes()),
+        ["compare-answers", questions, answers] => calls::compare(&read_file(questions), &read_file(answers)),
+        _ => {
+            eprintln!("{USAGE}");
+            false
+        }
+    };
+    if good {
+        ExitCode::SUCCESS
+    } else {
+        ExitCode::FAILURE
+    }
+}
+
+fn set(size: &str, seed: &str) -> cases::Cases {
+    cases::cases(Size::named(size).unwrap_or_else(|| fail("the size is small or large")), number(seed))
+}
+
+fn number(word: &str) -> u64 {
+    word.parse().unwrap_or_else(|_| fail("a number is wanted"))
+}
+
+fn input() -> Vec<u8> {
+    let mut bytes = Vec::new();
+    std::io::stdin().read_to_end(&mut bytes).unwrap_or_else(|error| fail(&error.to_string()));
+    bytes
+}
+
+fn read_file(name: &str) -> Vec<u8> {
+    std::fs::read(name).unwrap_or_else(|error| fail(&format!("{name}: {error}")))
+}
+
+fn print(bytes: &[u8]) -> bool {
+    std::io::stdout().write_all(bytes).is_ok()
+}
+
+fn workers() -> usize {
+    std::thread::available_parallelism().map_or(2, |count| count.get())
+}
+
+fn fail(message: &str) -> ! {
+    eprintln!("oracle: {message}");
+    std::process::exit(2)
+}

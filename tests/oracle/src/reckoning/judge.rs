@@ -1,0 +1,84 @@
+//! A judge of plans that makes none: it carries the pairs out on the state's bytes and looks at every stopping point.
+//! Trees are told by union-find; a branch lies on the loop of a closing when the buses stay joined without it.
+
+use super::plan::Pair;
+use super::{Network, CLOSED, OPEN};
+
+/// What is wrong with the plan from `present` to `wanted`, two radial states; none if nothing is.
+pub fn fault(network: &Network, present: &[u8], wanted: &[u8], pairs: &[Pair]) -> Option<String> {
+    let goal = network.live(wanted);
+    let missing = (0..goal.len()).filter(|&k| goal[k] && !network.live(present)[k]).count();
+    if pairs.len() != missing {
+        return Some(format!("{} pairs, {missing} branches are live in the wanted state only", pairs.len()));
+    }
+    let mut state = present.to_vec();
+    for (number, &pair) in pairs.iter().enumerate() {
+        if let Err(fault) = carry_out(network, &mut state, pair) {
+            return Some(format!("pair {}: {fault}", number + 1));
+        }
+    }
+    if network.live(&state) != goal {
+        return Some("the last point's live branches are not the wanted ones".to_string());
+    }
+    None
+}
+
+fn carry_out(network: &Network, state: &mut [u8], pair: Pair) -> Result<(), &'static str> {
+    let (tie, section) = (&network.switches[pair.closed], &network.switches[pair.opened]);
+    let before = network.live(state);
+    check(tie.can_operate && section.can_operate, "a locked switch is moved")?;
+    check(state[pair.closed] == OPEN && state[pair.opened] == CLOSED, "a switch is moved to where it stands")?;
+    check(!before[tie.branch] && network.branches[tie.branch].in_service, "the closing makes no branch live")?;
+    check(before[section.branch], "the opened branch was not live")?;
+    state[pair.closed] = CLOSED;
+    let closed = network.live(state);
+    check(joined_without(network, &closed, section.branch), "the opening is not on the loop of its closing")?;
+    state[pair.opened] = OPEN;
+    check(tree(network, &network.live(state)), "the stopping point is not radial")
+}
+
+fn check(holds: bool, fault: &'static str) -> Result<(), &'static str> {
+    if holds {
+        Ok(())
+    } else {
+        Err(fault)
+    }
+}
+
+/// With one branch too many for a tree, just the branches of its loop can be missed.
+fn joined_without(network: &Network, live: &[bool], branch: usize) -> bool {
+    let mut rest = live.to_vec();
+    rest[branch] = false;
+    pieces(network, &rest).0 <= 1
+}
+
+/// Connected, and no branch has both ends in one piece when it is added.
+pub fn tree(network: &Network, live: &[bool]) -> bool {
+    let (pieces, closes_loop) = pieces(network, live);
+    pieces <= 1 && !closes_loop
+}
+
+/// The number of connected pieces, and whether some branch closes a loop.
+fn pieces(network: &Network, live: &[bool]) -> (usize, bool) {
+    let mut parent: Vec<usize> = (0..network.buses.len()).collect();
+    let (mut pieces, mut closes_loop) = (parent.len(), false);
+    for (branch, _) in network.branches.iter().zip(live).filter(|(_, &live)| live) {
+        let a = root(&mut parent, branch.from);
+        let b = root(&mut parent, branch.to);
+        if a == b {
+            closes_loop = true;
+        } else {
+            parent[a] = b;
+            pieces -= 1;
+        }
+    }
+    (pieces, closes_loop)
+}
+
+fn root(parent: &mut [usize], mut at: usize) -> usize {
+    while parent[at] != at {
+        parent[at] = parent[parent[at]];
+        at = parent[at];
+    }
+    at
+}
