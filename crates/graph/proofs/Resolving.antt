@@ -75,7 +75,7 @@ module _ (n : PowerNetwork) (m : ℕ) (sized : length (n .buses) ≡ 256) (e : m
         let a : m - i ≡ suc (m - 1 - i) = omega arith in
         let b : m - (i + 1) ≡ m - 1 - i = omega arith in
         let r : x ≡ getD (listedIds n) (m - 1 - i) 0 =
-            q ∙ ap busId (bus-read (n .buses) (m - 1 - i) sized (omega arith)) ∙ sym (id-at (n .«bus_count») (n .buses) (m - 1 - i) (omega arith)) in
+        q ∙ ap busId (bus-read (n .buses) (m - 1 - i) sized (omega arith)) ∙ sym (id-at (n .«bus_count») (n .buses) (m - 1 - i) (omega arith)) in
         rw (inv, a, b) (one-resolved (listedIds n) (m - 1 - i) x (omega (arith, ids-count)) r l)
 
     pub table-ends : m ≤ i → t ≡ table (endAt (listedIds n)) 65536
@@ -100,7 +100,7 @@ module _ (n : PowerNetwork) (end : Branch → ℕ) where
   unfolding endsFilled
   end-resolved sized positions t k x p inv h (q, l) =
       let v : getD positions x 0 ≡ endOf k =
-          ap (λ ps. getD ps x 0) p ∙ getD-table (endAt (listedIds n)) 65536 x 0 l ∙ ap (endAt (listedIds n)) (q ∙ ap end (branch-read (n .branches) k sized h)) in
+      ap (λ ps. getD ps x 0) p ∙ getD-table (endAt (listedIds n)) 65536 x 0 l ∙ ap (endAt (listedIds n)) (q ∙ ap end (branch-read (n .branches) k sized h)) in
       rw (v, inv) (filled-more endOf 0 512 k h)
 
   pub ends-end : (k : ℕ) → 512 ≤ k → endsFilled k ≡ table endOf 512
