@@ -107,11 +107,11 @@ module _ (n : PowerNetwork) (sized : length (n .buses) ≡ 256) where
     inside : Inside (recordsOf n)
     inside = check-inside (recordsOf n) .0 ok
 
-    same-buses : feeder (recordsOf n) .buses ≡ n .«bus_count»
+    pub same-buses : feeder (recordsOf n) .buses ≡ n .«bus_count»
     unfolding feeder recordsOf
     same-buses = length-table _ (n .«bus_count»)
 
-    same-branches : feeder (recordsOf n) .branches ≡ n .«branch_count»
+    pub same-branches : feeder (recordsOf n) .branches ≡ n .«branch_count»
     unfolding feeder recordsOf
     same-branches = length-table _ (n .«branch_count»)
 

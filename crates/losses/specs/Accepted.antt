@@ -1,4 +1,5 @@
 -- Every loss of an accepted network is finite and not below zero: a network inside document 01's limits meets `Limits`.
+use mathlib.Core.Path.{_≡_}
 use mathlib.Core.Bool.{not}
 use mathlib.Core.List.{List}
 use Prim.Native.Nat.{ℕ, _^_}
@@ -8,7 +9,10 @@ use lib.Ieee.Scale.{finite}
 use lib.ListN.{getD}
 use Rattle.numbers.specs.Bounds.{Within, within-finite, within-no-nan}
 use Rattle.numbers.specs.Constants.{zero64}
+use Rattle.network.specs.Answers.{accepted}
+use Rattle.network.specs.Check.{checkRecords}
 use Rattle.network.specs.Inside.{Inside}
+use Rattle.network.specs.InsideLaws.{check-inside}
 use Rattle.network.specs.Live.{live}
 use Rattle.network.specs.Positions.{each-at}
 use Rattle.network.specs.Records.{Network, noBus, noBranch}
@@ -30,18 +34,18 @@ module _ (N : Network) (inside : Inside N) where
         resistances = λ k l. each-at _ (N .branches) (inside .resistances) k noBranch l;
       }
 
-  module _ (s : List ℕ) where
-    pub accepted-loss-within : Within (2 ^ 115) (lossIn N s)
-    unfolding lossIn
-    accepted-loss-within = loss-within (feeder N) (live N s) _ _ (N .base) limits
+  pub accepted-loss-within : (s : List ℕ) → Within (2 ^ 115) (lossIn N s)
+  unfolding lossIn
+  accepted-loss-within s = loss-within (feeder N) (live N s) _ _ (N .base) limits
 
-    pub accepted-loss-finite : T (finite (lossIn N s))
-    accepted-loss-finite = within-finite accepted-loss-within
+  accepted-loss-above-zero : (s : List ℕ) → T (le zero64 (lossIn N s))
+  unfolding lossIn
+  accepted-loss-above-zero s = loss-above-zero (feeder N) (live N s) _ _ (N .base) limits
 
-    -- so its bits can be written
-    pub accepted-loss-no-nan : T (not (isNan (lossIn N s)))
-    accepted-loss-no-nan = within-no-nan accepted-loss-within
-
-    pub accepted-loss-above-zero : T (le zero64 (lossIn N s))
-    unfolding lossIn
-    accepted-loss-above-zero = loss-above-zero (feeder N) (live N s) _ _ (N .base) limits
+-- in every state of the switches; and so it is no NaN, and its bits can be written
+pub loss-finite : (N : Network) → checkRecords N ≡ accepted tt → (s : List ℕ)
+    → T (finite (lossIn N s)) × T (le zero64 (lossIn N s)) × T (not (isNan (lossIn N s)))
+loss-finite N ok s =
+    let inside = check-inside N .0 ok in
+    let size = accepted-loss-within N inside s in
+    (within-finite size, accepted-loss-above-zero N inside s, within-no-nan size)

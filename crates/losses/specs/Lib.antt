@@ -1,4 +1,5 @@
 pub mod Loss
+pub mod Answers
 pub mod Examples
 pub mod InRange
 pub mod TermLaws
@@ -8,3 +9,4 @@ pub mod Accepted
 pub mod RowLoss
 pub mod LossSame
 pub mod RowLossLaws
+pub mod FeederLoss

@@ -7,7 +7,6 @@ use lib.Dec.{T, eqb, lit≤}
 use lib.Ieee.{Float, binary64, add, le, fits}
 use lib.Ieee.Bits.{ofBits-fits}
 use lib.Ieee.Fits.{add-fits}
-use lib.Ieee.Scale.{finite}
 use Rattle.numbers.specs.Bounds.{Within, within-more, within-finite, holds64, add-within}
 use Rattle.numbers.specs.Constants.{zero64}
 use Rattle.numbers.specs.Signs.{HasSign, NonNeg}
@@ -101,9 +100,6 @@ module _ (N : Net) (E : ℕ → Bool) (pd r : ℕ → Float) (base : Float) (lim
   loss-sign =
       zero-or (HasSign false) (eqb (N .buses) 0) _ zero-sign
       (total-sign E r _ base (N .branches) (limits .branches) (limits .base-ok) (limits .resistances) branch-load-within)
-
-  pub loss-finite : T (finite (loss N E pd r base))
-  loss-finite = within-finite loss-within
 
   pub loss-above-zero : T (le zero64 (loss N E pd r base))
   loss-above-zero = plus-above-zero loss-sign

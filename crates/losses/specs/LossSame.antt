@@ -1,7 +1,7 @@
 -- The loss looks at listed buses and live branches only: nets, flags, loads and resistances that agree there have the same loss.
-use mathlib.Core.Path.{_≡_, refl, ap, ap₂, _∙_, fun-ext}
+use mathlib.Core.Path.{_≡_, refl, ap, ap₂, _∙_}
 use mathlib.Core.Bool.{Bool, true, false, cond}
-use mathlib.Core.List.{List, []}
+use mathlib.Core.List.{List}
 use Prim.Native.Nat.{ℕ, _<_}
 use lib.Dec.{eqb}
 use lib.Ieee.{Float, binary64, add}
@@ -9,8 +9,9 @@ use lib.ListN.{length, getD}
 use Rattle.numbers.specs.Constants.{zero64}
 use Rattle.numbers.specs.UpTo.{upTo-cong}
 use Rattle.graph.specs.Graph.{Net, Sound}
+use Rattle.graph.specs.SameEnds.{walk-same}
 use Rattle.graph.specs.Visits.{reached-at}
-use Rattle.graph.specs.Walk.{Visit, startAt, far, neighbours, walkBy, walk}
+use Rattle.graph.specs.Walk.{Visit, startAt, walk}
 use Rattle.graph.specs.WalkLaws.{walk-below}
 use Rattle.losses.specs.Loss.{walkLoad, downstream, termOf, totalOf, loss}
 
@@ -32,14 +33,6 @@ module _
     (N M : Net) (E F : ℕ → Bool) (buses : N .buses ≡ M .buses) (branches : N .branches ≡ M .branches) (live : (k : ℕ) → k < N .branches → E k ≡ F k)
     (ends : (k : ℕ) → k < N .branches → (N .from k ≡ M .from k) × (N .to k ≡ M .to k))
   where
-    neighbours-same : (u : ℕ) → neighbours N E u ≡ neighbours M F u
-    unfolding neighbours far
-    neighbours-same u = rw (← branches) (upTo-cong _ _ [] (N .branches) (λ l k h. rw (live k h, ends k h .0, ends k h .1)))
-
-    pub walk-same : (start barred : ℕ) → walk N E start barred ≡ walk M F start barred
-    unfolding walk
-    walk-same start barred = ap (λ next. walkBy next start barred) (fun-ext neighbours-same)
-
     pub loss-same : (pd qd r s : ℕ → Float) (base : Float) → Sound N → ((i : ℕ) → i < N .buses → pd i ≡ qd i) → ((k : ℕ) → k < N .branches → r k ≡ s k)
         → loss N E pd r base ≡ loss M F qd s base
     unfolding loss downstream
@@ -48,5 +41,5 @@ module _
       where
         loads : (k : ℕ) → k < N .branches → walkLoad pd (walk N E (N .to k) (N .from k)) ≡ walkLoad qd (walk M F (M .to k) (M .from k))
         loads k l =
-            rw (← ends k l .0, ← ends k l .1, ← walk-same (N .to k) (N .from k))
+            rw (← ends k l .0, ← ends k l .1, ← walk-same N M E F buses branches live ends (N .to k) (N .from k))
             (walk-load-same pd qd _ (λ i m. p _ (walk-below N E (N .to k) (N .from k) sound (sound k l .1) _ (reached-at _ i (startAt 0) m))))

@@ -6,10 +6,11 @@ use lib.Dec.{eqb}
 use lib.ListN.{getD}
 use lib.Ieee.{Float, binary64, add}
 use Rattle.numbers.specs.Constants.{zero64}
-use Rattle.numbers.specs.UpTo.{upTo}
+use Rattle.numbers.specs.UpTo.{upTo, table}
 use Rattle.network.specs.declared.branch.Branch.{Branch}
 use Rattle.network.specs.declared.bus.Power.{Power}
-use Rattle.network.specs.Records.{noBranch}
+use Rattle.network.specs.declared.topology.PowerNetwork.{PowerNetwork}
+use Rattle.network.specs.Records.{noBus, noBranch}
 use Rattle.graph.specs.declared.rows.Graph.{Graph}
 use Rattle.graph.specs.Walk.{walkBy}
 use Rattle.graph.specs.Rows.{flag, rowNet, rowNeighbours}
@@ -36,3 +37,7 @@ rowTotal g loads branches base live n = totalOf (flag live) (λ k. getD branches
 
 unfoldable pub rowLoss : Graph → List Power → List Branch → Float → List Bool → Float
 rowLoss g loads branches base live = cond (eqb (g .«bus_count») 0) zero64 (rowTotal g loads branches base live (g .«branch_count»))
+
+-- the loads of a feeder by bus position, as the code has them
+abbrev pub loadsOf : PowerNetwork → List Power
+loadsOf n = table (λ i. getD (n .buses) i noBus .pd) 256

@@ -1,5 +1,5 @@
 -- The loss by the rows is document 01's loss: a walk by the rows is a walk by scan, and only flags inside the array are set.
-use mathlib.Core.Path.{_≡_, refl, sym, ap, _∙_}
+use mathlib.Core.Path.{_≡_, refl, sym, ap}
 use mathlib.Core.Bool.{Bool, true, cond, true≢false}
 use mathlib.Core.List.{List, [], _∷_}
 use Prim.Native.Nat.{ℕ, zero, suc, _<_, _≤_}
@@ -10,16 +10,12 @@ use lib.ListN.{length, getD}
 use Rattle.numbers.specs.Constants.{zero64}
 use Rattle.network.specs.declared.branch.Branch.{Branch}
 use Rattle.network.specs.declared.bus.Power.{Power}
-use Rattle.network.specs.Inside.{Inside}
-use Rattle.network.specs.Live as state
-use Rattle.network.specs.Records.{Network, noBus, noBranch}
-use Rattle.graph.specs.Feeder.{feeder}
-use Rattle.graph.specs.FeederLaws.{feeder-sound}
+use Rattle.network.specs.Records.{noBranch}
 use Rattle.graph.specs.Rows.{flag, netOf, graphOf}
 use Rattle.graph.specs.RowsHold.{far-hold}
 use Rattle.graph.specs.RowsWalk.{Positions, row-walk-is-walk}
-use Rattle.losses.specs.Loss.{walkLoad, downstream, loss, lossIn}
-use Rattle.losses.specs.LossSame.{total-same, loss-same}
+use Rattle.losses.specs.Loss.{walkLoad, downstream, loss}
+use Rattle.losses.specs.LossSame.{total-same}
 use Rattle.losses.specs.RowLoss.{loadAt, rowLoad, rowTotal, rowLoss}
 
 -- a flag that is set stands in its array
@@ -40,21 +36,3 @@ module _ (n m : ℕ) (from to : List ℕ) (live : List Bool) (p : Positions from
   unfolding rowLoss rowTotal loss graphOf
   row-loss loads list base =
       ap (λ t. cond (eqb n 0) zero64 t) (total-same (flag live) (flag live) _ _ _ _ base m (λ k h. refl) (λ k h. refl) (λ k h e. load-behind loads k e))
-
--- the arrays hold what a network and a state of its switches say
-pub record Arrays (N : Network) (s : List ℕ) (from to : List ℕ) (live : List Bool) (loads : List Power) (list : List Branch) : Type 0 where
-  pub positions : Positions from to
-  pub flags : length live ≤ 512
-  pub ends : (k : ℕ) → k < length (N .branches) → (feeder N .from k ≡ getD from k 0) × (feeder N .to k ≡ getD to k 0)
-  pub states : (k : ℕ) → k < length (N .branches) → state.live N s k ≡ flag live k
-  pub at-buses : (i : ℕ) → i < length (N .buses) → getD (N .buses) i noBus .pd .0 ≡ loadAt loads i
-  pub resistances : (k : ℕ) → k < length (N .branches) → getD (N .branches) k noBranch .r ≡ getD list k noBranch .r
-
-module _ (N : Network) (inside : Inside N) (s : List ℕ) (from to : List ℕ) (live : List Bool) (loads : List Power) (list : List Branch) (h : Arrays N s from to live loads list) where
-  pub row-loss-in : rowLoss (graphOf (length (N .buses)) (length (N .branches)) from to) loads list (N .base) live ≡ lossIn N s
-  unfolding lossIn feeder
-  row-loss-in =
-      row-loss (length (N .buses)) (length (N .branches)) from to live (h .positions) (h .flags) loads list (N .base)
-      ∙ sym
-      (loss-same (feeder N) (netOf (length (N .buses)) (length (N .branches)) from to) (state.live N s) (flag live) refl refl (h .states) (h .ends) _ _ _ _ (N .base)
-      (feeder-sound N inside) (h .at-buses) (h .resistances))

@@ -1,2 +1,3 @@
 // The loss of a state.
+pub mod evaluation;
 pub mod reconfiguration;

@@ -1,1 +1,3 @@
 // The searches, their answer, and the list of operations.
+mod exchange;
+mod states;

@@ -1,0 +1,57 @@
+// Translated and changed from src/network/reconfiguration.rs of oxigrid. Copyright 2024-2026 COOLJAPAN OU (Team Kitasan), Apache License 2.0.
+ghost use mathlib.Core.Path.{_≡_};
+ghost use Rattle.network.specs.Answers.{accepted, _andThen_};
+ghost use Rattle.network.specs.Check.{checkRecords};
+ghost use Rattle.network.specs.Live.{checkState};
+ghost use Rattle.network.specs.Records.{recordsOf};
+ghost use Rattle.losses.specs.Answers.{lossAnswerOf};
+ghost use Rattle.losses.specs.Loss.{lossIn};
+ghost use Rattle.losses.specs.RowLoss.{loadsOf};
+use crate::reconfiguration::compute_losses_estimate;
+use graph::feeder::graph_of;
+use network::bus::Power;
+use network::check::check;
+use network::configuration::NetworkConfiguration;
+use network::configuration::check_state;
+use network::configuration::live_branches;
+use network::error::Verdict;
+use network::topology::PowerNetwork;
+
+// The loss of a state in MW, or document 01's refusal number and place.
+pub enum LossAnswer {
+    Loss(f64),
+    Refused { number: u8, place: u16 },
+}
+
+// The loads by bus position.
+pub fn loads_of(network: PowerNetwork) -> [Power; 256]
+    ensures { λ r. ⌜ r ≡ loadsOf network ⌝ }
+{
+    let mut loads = [Power(0.0); 256];
+    let mut i: usize = 0;
+    while i < 256 {
+        let bus = network.buses[i];
+        let pd = bus.pd;
+        loads[i] = pd;
+        i += 1;
+    }
+    loads
+}
+
+// The loss of a state. It need not be radial.
+pub fn evaluate_config(network: PowerNetwork, state: &[u8]) -> LossAnswer
+    ensures { λ r. ⌜ lossAnswerOf r ≡ (checkRecords (recordsOf network) andThen checkState (recordsOf network) (now (state .entry)) 0
+        andThen accepted (lossIn (recordsOf network) (now (state .entry)))) ⌝ }
+{
+    if let Verdict::Refused { number, place } = check(network) {
+        return LossAnswer::Refused { number, place };
+    }
+    if let Verdict::Refused { number, place } = check_state(network, state, 0) {
+        return LossAnswer::Refused { number, place };
+    }
+    let live = live_branches(network, NetworkConfiguration::of(state));
+    let loads = loads_of(network);
+    let branches = network.branches;
+    let graph = graph_of(network);
+    LossAnswer::Loss(compute_losses_estimate(graph, loads, branches, network.base_mva, live))
+}

@@ -1,0 +1,95 @@
+-- Configurations and the states that they hold: the bytes behind the listed switches do not matter, and a moved byte is a moved byte of the state.
+use mathlib.Core.Path.{_≡_, refl, sym, ap, _∙_}
+use mathlib.Core.Logic.{inl}
+use mathlib.Core.Bool.{not, _&&_}
+use mathlib.Core.List.{List}
+use Prim.Native.Nat.{ℕ, _≤_, _<_}
+use native.Mathlib.Decide.{ℕ-discrete}
+use native.Mathlib.Omega.{arith}
+use lib.ListN.{length, getD, take, set, length-take, length-set}
+use lib.Seq.{take-all, take-set-lt, getD-take, getD-set-same, getD-set-other}
+use Rattle.numbers.specs.UpTo.{table}
+use Rattle.numbers.specs.TableLaws.{length-table, getD-table, as-table, take-table, table-cong}
+use Rattle.network.specs.declared.configuration.NetworkConfiguration.{NetworkConfiguration}
+use Rattle.network.specs.declared.topology.PowerNetwork.{PowerNetwork}
+use Rattle.network.specs.Records.{noBranch, noSwitch, recordsOf}
+use Rattle.network.specs.Answers.{accepted}
+use Rattle.network.specs.Check.{checkRecords}
+use Rattle.network.specs.InsideLaws.{check-inside}
+use Rattle.network.specs.Configuration.{configurationOf}
+use Rattle.network.specs.Live.{openOn, live}
+use Rattle.network.specs.LiveLaws.{open-take}
+use Rattle.graph.specs.FeederRows.{liveFlags}
+use Rattle.reconfiguration.specs.States.{stateOf}
+use Rattle.reconfiguration.specs.Given.{Held}
+use Rattle.reconfiguration.specs.Switches.{byte, switch, swapped}
+
+module _ (n : PowerNetwork) where
+  pub switches-listed : length (recordsOf n .switches) ≡ n .«switch_count»
+  unfolding recordsOf
+  switches-listed = length-table _ (n .«switch_count»)
+
+  pub few-switches : checkRecords (recordsOf n) ≡ accepted tt → n .«switch_count» ≤ 512
+  few-switches ok = omega (arith, check-inside (recordsOf n) .0 ok .counts .2, switches-listed)
+
+  pub switch-at : (i : ℕ) → i < n .«switch_count» → switch (recordsOf n) i ≡ getD (n .switches) i noSwitch
+  unfolding recordsOf
+  switch-at i h = getD-table (λ j. getD (n .switches) j noSwitch) (n .«switch_count») i noSwitch h
+
+  module _ (c : NetworkConfiguration) where
+    pub byte-at : (i : ℕ) → i < n .«switch_count» → byte (stateOf n c) i ≡ getD (c .switches) i 0
+    unfolding stateOf
+    byte-at i h = getD-take (n .«switch_count») (c .switches) i 0 h
+
+    live-listed : (k : ℕ) → live (recordsOf n) (c .switches) k ≡ live (recordsOf n) (stateOf n c) k
+    unfolding live stateOf
+    live-listed k =
+        ap (λ b. getD (recordsOf n .branches) k noBranch .status && not b)
+        (sym (open-take (n .«switch_count») (recordsOf n .switches) (c .switches) k (inl (omega (arith, switches-listed))))
+        ∙ ap (λ ws. openOn ws (take (n .«switch_count») (c .switches)) k) (take-all (n .«switch_count») (recordsOf n .switches) (omega (arith, switches-listed))))
+
+    -- what `live_branches` answers are the flags of the state
+    pub flags-listed : table (live (recordsOf n) (c .switches)) 512 ≡ liveFlags (recordsOf n) (stateOf n c)
+    flags-listed = table-cong _ _ 512 (λ k h. live-listed k)
+
+    pub held-long : Held n c → n .«switch_count» ≤ 512 → length (stateOf n c) ≡ n .«switch_count»
+    unfolding stateOf
+    held-long h l =
+        let long : length (c .switches) ≡ 512 = ap (λ d. length (d .switches)) h ∙ length-table _ 512 in
+        simp length-take (omega arith)
+
+  -- a configuration holds its state
+  pub state-held : (s : List ℕ) → length s ≡ n .«switch_count» → n .«switch_count» ≤ 512 → stateOf n (configurationOf s) ≡ s
+  unfolding stateOf
+  state-held s e l = take-table (λ i. getD s i 0) 512 (n .«switch_count») l ∙ sym (as-table (λ i. getD s i 0) (n .«switch_count») 0 s e (λ i h. refl))
+
+  pub held : (s : List ℕ) → length s ≡ n .«switch_count» → n .«switch_count» ≤ 512 → Held n (configurationOf s)
+  held s e l = ap configurationOf (sym (state-held s e l))
+
+-- one byte moved
+set-held : (s : List ℕ) (i b : ℕ) → i < length s → length s ≤ 512 → set (configurationOf s .switches) i b ≡ configurationOf (set s i b) .switches
+set-held s i b l m =
+    as-table (λ j. getD (set s i b) j 0) 512 0 (set (table (λ j. getD s j 0) 512) i b) (length-set (table (λ j. getD s j 0) 512) i b ∙ length-table _ 512) (λ j k. go j k (ℕ-discrete j i))
+  where
+    go : (j : ℕ) → j < 512 → Dec (j ≡ i) → getD (set (table (λ j. getD s j 0) 512) i b) j 0 ≡ getD (set s i b) j 0
+    go j k (yes e) =
+        let h : i < length (table (λ j. getD s j 0) 512) = rw (length-table (λ j. getD s j 0) 512) (omega arith) in
+        rw (e, getD-set-same s i b 0 l) (getD-set-same (table (λ j. getD s j 0) 512) i b 0 h)
+    go j k (no d) = getD-set-other (table (λ j. getD s j 0) 512) i j b 0 d ∙ getD-table _ 512 j 0 k ∙ sym (getD-set-other s i j b 0 d)
+
+module _ (n : PowerNetwork) (c : NetworkConfiguration) (tie section : ℕ) (a : tie < n .«switch_count») (b : section < n .«switch_count») where
+  -- a tie closed and a section opened
+  pub swapped-state : stateOf n (record { switches = set (set (c .switches) tie 0) section 1 }) ≡ swapped (stateOf n c) tie section
+  unfolding stateOf swapped
+  swapped-state = take-set-lt (n .«switch_count») (set (c .switches) tie 0) section 1 b ∙ ap (λ l. set l section 1) (take-set-lt (n .«switch_count») (c .switches) tie 0 a)
+
+  pub swapped-held : Held n c → n .«switch_count» ≤ 512 → record { switches = set (set (c .switches) tie 0) section 1 } ≡ configurationOf (swapped (stateOf n c) tie section)
+  unfolding swapped
+  swapped-held h l =
+      let long = held-long n c h l in
+      let s = stateOf n c in
+      let long′ : length (set s tie 0) ≡ n .«switch_count» = length-set s tie 0 ∙ long in
+      ap (λ bytes. record { switches = bytes })
+      (ap (λ d. set (set (d .switches) tie 0) section 1) h
+      ∙ ap (λ bytes. set bytes section 1) (set-held s tie 0 (omega arith) (omega arith))
+      ∙ set-held (set s tie 0) section 1 (omega arith) (omega arith))
