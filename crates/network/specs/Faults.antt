@@ -1,9 +1,8 @@
 -- Document 01's table of refusals, rows 3 to 9: the conditions that a record meets or not, each kind's in the order in which they win.
-use mathlib.Core.Bool.{Bool, true, false, cond, not, _&&_, _||_}
+use mathlib.Core.Bool.{Bool, false, cond, not, _&&_, _||_}
 use mathlib.Core.List.{List, [], _∷_, map}
 use Prim.Native.Nat.{ℕ, suc}
 use lib.Dec.{leb, ltb, eqb}
-use lib.ListN.{length}
 use lib.Ieee.{Float, le}
 use Rattle.numbers.specs.Constants.{zero64, thousandth, thousand, million, minusMillion}
 use Rattle.network.specs.declared.bus.Bus.{Bus}

@@ -1,12 +1,12 @@
 -- States of the switches, the live branches, and the base state.
 use mathlib.Core.Bool.{Bool, true, false, cond, not, _&&_, _||_}
 use mathlib.Core.List.{List, [], _∷_, map}
-use Prim.Native.Nat.{ℕ, zero, suc, _+_}
+use Prim.Native.Nat.{ℕ}
 use lib.Dec.{leb, eqb}
 use lib.ListN.{length, getD}
 use Rattle.network.specs.declared.switch.Switch.{Switch}
 use Rattle.network.specs.Records.{Network, noBranch}
-use Rattle.network.specs.Answers.{Answer, Fault, _if_, judge}
+use Rattle.network.specs.Answers.{Answer, _if_, judge}
 
 -- a state's bytes: "00 (closed) or 01 (open)"
 abbrev pub stateByte : Bool → ℕ
