@@ -1,5 +1,5 @@
 -- The lines behind the head line, kind after kind: a pass that stops ends it; where all stop nowhere, what follows the last line decides.
-use mathlib.Core.Path.{_≡_, refl, sym, ap, _∙_}
+use mathlib.Core.Path.{_≡_, sym, ap, _∙_}
 use mathlib.Core.List.{List, []}
 use Prim.Native.Nat.{ℕ, _+_}
 use lib.ListN.{drop}

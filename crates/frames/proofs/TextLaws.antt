@@ -1,5 +1,5 @@
 -- A text is what its head line and the lines behind it make: a head that is refused, or the records collected, which decide before the line at which reading stopped.
-use mathlib.Core.Path.{_≡_, refl, sym, ap, _∙_}
+use mathlib.Core.Path.{_≡_, sym, ap, _∙_}
 use Prim.Native.Nat.{ℕ, _≤_}
 use mathlib.Core.List.{List}
 use lib.ListN.{length, drop}

@@ -1,5 +1,5 @@
 -- A verdict of the code in the place of the first answer: a refusal stays, and after an acceptance the next one decides.
-use mathlib.Core.Path.{_≡_, sym, ap, _∙_}
+use mathlib.Core.Path.{_≡_}
 use Prim.Native.Nat.{ℕ}
 use Rattle.network.specs.declared.error.Verdict.{Verdict}
 use Rattle.network.specs.declared.error.Verdict.the-variants.{Accepted, Refused}

@@ -1,13 +1,13 @@
 -- The first line of what is left of a text: where it ends, and its refusals 1 and 2.
 use mathlib.Core.Path.{_≡_}
-use mathlib.Core.Bool.{Bool, true, not, _&&_, _||_}
+use mathlib.Core.Bool.{Bool, true, _&&_}
 use mathlib.Core.List.{List, [], _∷_}
 use mathlib.Core.Logic.{_⊎_}
-use Prim.Native.Nat.{ℕ, _%_, _≤_, _<_}
-use lib.Dec.{ltb, eqb}
+use Prim.Native.Nat.{ℕ, _≤_, _<_}
+use lib.Dec.{eqb}
 use lib.ListN.{length, take, getD}
-use Rattle.network.specs.Answers.{Answer, refused, Fault, _if_, judge}
-use Rattle.frames.specs.Hex.{isDigit, number}
+use Rattle.network.specs.Answers.{Answer, refused, Fault, judge}
+use Rattle.frames.specs.Hex.{number}
 use Rattle.frames.specs.Text.{Line, every, lineFaults}
 use Rattle.frames.specs.LineLaws.{plain}
 
@@ -22,12 +22,9 @@ unfoldable pub judgeFirst : (Line → List Fault) → ℕ → List Line → Answ
 judgeFirst faults place [] = refused 2 place
 judgeFirst faults place (l ∷ ls) = judge (faults l) place
 
--- what a line's characters are refused for, whatever kind is wanted
+-- what a line's characters are refused for, whatever kind is wanted: all but the last of its faults
 abbrev pub characterFaults : Line → List Fault
-characterFaults l =
-    (2 if ltb 36 (length (l .chars)))
-    ∷ (1 if (not (l .ended) || eqb (length (l .chars) % 2) 1 || not (every isDigit (l .chars))))
-    ∷ []
+characterFaults l = take 2 (lineFaults true l)
 
 -- has a line this kind byte and this length?
 abbrev pub wanted : ℕ → ℕ → Line → Bool

@@ -1,16 +1,16 @@
 -- The first line of a text, by where it ends: what its characters are refused for, and that a line without a fault of its characters stands whole at the front.
 use mathlib.Core.Path.{_≡_, refl, sym, ap, _∙_, subst}
-use mathlib.Core.Bool.{Bool, true, false, cond, not, _&&_, _||_, true≢false, false≢true, or-true, and-false}
+use mathlib.Core.Bool.{Bool, true, false, not, _&&_, _||_, or-true, and-false}
 use mathlib.Core.List.{List, [], _∷_, _++_}
 use mathlib.Core.Logic.{_⊎_, inl, inr}
-use Prim.Native.Nat.{ℕ, zero, suc, _+_, _%_, _≤_, _<_}
+use Prim.Native.Nat.{ℕ, suc, _%_, _≤_, _<_}
 use native.Mathlib.Decide.{ℕ-discrete}
 use native.Mathlib.Omega.{arith}
 use lib.Dec.{ltb, eqb}
 use lib.ListN.{length, take, drop, getD, take-append-drop, length-drop}
 use lib.Seq.{take-all, drop-length, drop-cons, length-take-le}
 use borrow.Author.Tests.{lt-ltb, le-ltb, ltb-true, ltb-false, eq-eqb, ne-eqb, not-true, not-false}
-use Rattle.network.specs.Answers.{Answer, accepted, refused, _andThen_, Fault, _if_, judge}
+use Rattle.network.specs.Answers.{accepted, refused, _andThen_, _if_, judge}
 use Rattle.frames.specs.Hex.{isDigit, number}
 use Rattle.frames.specs.Text.{Line, put, cut, every, lineFaults, readEnd, without}
 use Rattle.frames.specs.ReaderLaws.{Verdict, both, neither, no-refusal, judge-append, judge-passed, without-then}
@@ -35,13 +35,13 @@ cut-longer (c ∷ cs) t e =
     rw (not-true (eqb c 10) (h .0), put-longer c (cut (cs ++ t))) (omega (arith, cut-longer cs t (h .1)))
 
 first-long : (p : ℕ) (ls : List Line) → 36 < firstLength ls → refused 2 p ≡ judgeFirst characterFaults p ls
-unfolding judgeFirst judge
+unfolding judgeFirst judge lineFaults
 first-long p [] h = absurd (omega arith)
 first-long p (l ∷ ls) h = rw (lt-ltb 36 (length (l .chars)) h)
 
 -- ---- an unended line
 unended : (p : ℕ) (t : List ℕ) → 0 < length t → length t ≤ 36 → every plain t ≡ true → refused 1 p ≡ judgeFirst characterFaults p (cut t)
-unfolding judgeFirst judge
+unfolding judgeFirst judge lineFaults
 unended p [] k h e = absurd (omega arith)
 unended p (c ∷ cs) k h e = rw (cut-unended c cs e, le-ltb 36 (length (c ∷ cs)) h)
 
@@ -60,7 +60,7 @@ module _ (t : List ℕ) (n : ℕ) (w : LineEnd t n) where
 
   -- ---- an ended line
   module _ (few : n ≤ 36) (more : n ≡ length t → ⊥) where
-    pub room : n < length t
+    room : n < length t
     room = omega (arith, w .within, more)
 
     feed : getD t n 0 ≡ 10
@@ -71,14 +71,14 @@ module _ (t : List ℕ) (n : ℕ) (w : LineEnd t n) where
         go (inr (inl e)) = absurd (more e)
         go (inr (inr e)) = e
 
-    pub ended-line : cut t ≡ record { chars = take n t; ended = true } ∷ cut (drop (suc n) t)
+    ended-line : cut t ≡ record { chars = take n t; ended = true } ∷ cut (drop (suc n) t)
     ended-line =
         let rest : drop n t ≡ 10 ∷ drop (suc n) t = drop-cons t n 0 room ∙ ap (λ (c : ℕ). c ∷ drop (suc n) t) feed in
         ap cut (sym (take-append-drop n t) ∙ ap (λ (x : List ℕ). take n t ++ x) rest) ∙ cut-ended (take n t) (drop (suc n) t) (w .no-feed)
 
     module _ (p : ℕ) where
       ended-judged : judgeFirst characterFaults p (cut t) ≡ judge ((1 if (eqb (n % 2) 1 || not (every isDigit (take n t)))) ∷ []) p
-      unfolding judgeFirst judge
+      unfolding judgeFirst judge lineFaults
       ended-judged = rw (ended-line, length-take-le n t (w .within), le-ltb 36 n few)
 
       pub odd-refused : n % 2 ≡ 1 → refused 1 p ≡ judgeFirst characterFaults p (cut t)
@@ -99,7 +99,7 @@ module _ (t : List ℕ) (n : ℕ) (w : LineEnd t n) where
     pub more : n ≡ length t → ⊥
     pub digits : every isDigit (take n t) ≡ true
 
-  pub characters-clear : (p : ℕ) → 0 < length t → judgeFirst characterFaults p (cut t) ≡ accepted tt → Clear
+  characters-clear : (p : ℕ) → 0 < length t → judgeFirst characterFaults p (cut t) ≡ accepted tt → Clear
   unfolding judge
   characters-clear p k e = go (ltb 36 n) refl (ℕ-discrete n (length t))
     where

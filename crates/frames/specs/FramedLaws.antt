@@ -1,13 +1,13 @@
 -- A line that passes rows 1 and 2 of a kind stands whole at the front of the text: its characters, and the lines behind it; and reading it is reading its fields.
 use mathlib.Core.Path.{_≡_, refl, sym, ap, _∙_, subst}
-use mathlib.Core.Bool.{Bool, true, false, cond, not, _||_, _&&_, false≢true}
-use mathlib.Core.List.{List, [], _∷_, _++_}
-use Prim.Native.Nat.{ℕ, suc, _%_, _≤_, _<_}
+use mathlib.Core.Bool.{Bool, true, false, cond, not, _||_, false≢true}
+use mathlib.Core.List.{List, [], _∷_}
+use Prim.Native.Nat.{ℕ, suc, _%_, _<_}
 use native.Mathlib.Omega.{arith}
-use lib.Dec.{ltb, eqb}
+use lib.Dec.{eqb}
 use lib.ListN.{length, take, drop}
 use borrow.Author.Tests.{eqb-true, not-false}
-use Rattle.network.specs.Answers.{Answer, accepted, refused, _andThen_, Fault, _if_, judge}
+use Rattle.network.specs.Answers.{Answer, accepted, refused, _andThen_, Fault, judge}
 use Rattle.frames.specs.Hex.{isDigit, number, Fields, readFields, total}
 use Rattle.frames.specs.Text.{Line, put, cut, every, lineFaults, Frame, layout, looks, fieldsOf, readOne, without}
 use Rattle.frames.specs.ReaderLaws.{Verdict, both, neither, no-refusal, judge-append, judge-passed, then-accepted, same-value, without-then}

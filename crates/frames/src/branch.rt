@@ -21,7 +21,7 @@ const KIND: u8 = 3;
 
 const SIZE: usize = 28;
 
-pub enum BranchRead {
+enum BranchRead {
     Made(Branch),
     Refused { number: u8, place: u16 },
 }

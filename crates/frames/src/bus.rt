@@ -21,7 +21,7 @@ const KIND: u8 = 2;
 
 const SIZE: usize = 22;
 
-pub enum BusRead {
+enum BusRead {
     Made(Bus),
     Refused { number: u8, place: u16 },
 }

@@ -20,16 +20,16 @@ const KIND: u8 = 1;
 
 pub(crate) const SIZE: usize = 36;
 
-pub struct Head {
-    pub buses: u16,
-    pub branches: u16,
-    pub switches: u16,
-    pub base_mva: f64,
-    pub algorithm: ReconfigAlgorithm,
-    pub max_iterations: u16,
+pub(crate) struct Head {
+    pub(crate) buses: u16,
+    pub(crate) branches: u16,
+    pub(crate) switches: u16,
+    pub(crate) base_mva: f64,
+    pub(crate) algorithm: ReconfigAlgorithm,
+    pub(crate) max_iterations: u16,
 }
 
-pub enum HeadRead {
+pub(crate) enum HeadRead {
     Made(Head),
     Refused { number: u8, place: u16 },
 }

@@ -21,7 +21,7 @@ const KIND: u8 = 4;
 
 const SIZE: usize = 12;
 
-pub enum SwitchRead {
+enum SwitchRead {
     Made(Switch),
     Refused { number: u8, place: u16 },
 }

@@ -1,4 +1,5 @@
--- The table of the positions of ids while it is filled, from the last bus to the first: it holds the positions from p on.
+-- The table of the positions of ids while it is filled, from the last bus to the first: it holds the positions from p on. And the ends of the
+-- branches while they are looked up in it.
 use mathlib.Core.Path.{_≡_, sym, ap, _∙_}
 use mathlib.Core.Bool.{cond}
 use mathlib.Core.List.{List}
@@ -28,15 +29,15 @@ pub resolved : List ℕ → ℕ → List ℕ
 resolved ids p = table (endFrom ids p) 65536
 
 module _ (ids : List ℕ) where
-  pub length-resolved : (p : ℕ) → length (resolved ids p) ≡ 65536
+  length-resolved : (p : ℕ) → length (resolved ids p) ≡ 65536
   unfolding resolved
   length-resolved p = length-table (endFrom ids p) 65536
 
-  pub none-resolved : (p : ℕ) → length ids ≤ p → replicate 65536 0 ≡ resolved ids p
+  none-resolved : (p : ℕ) → length ids ≤ p → replicate 65536 0 ≡ resolved ids p
   unfolding resolved endFrom among
   none-resolved p h = replicate-table 0 65536 ∙ table-cong _ _ 65536 (λ x l. rw (drop-of-length-le ids {i = p} h))
 
-  pub all-resolved : resolved ids 0 ≡ table (endAt ids) 65536
+  all-resolved : resolved ids 0 ≡ table (endAt ids) 65536
   unfolding resolved endFrom endAt
   all-resolved = table-cong _ _ 65536 (λ x l. rw (zero-add (indexOf x ids)))
 
@@ -52,7 +53,7 @@ module _ (ids : List ℕ) where
         let s : p + suc (indexOf y (drop (suc p) ids)) ≡ suc p + indexOf y (drop (suc p) ids) = omega arith in
         rw (drop-cons ids p 0 h, ne-eqb y (getD ids p 0) (λ q. n (q ∙ sym e)), s)
 
-    pub one-resolved : x < 65536 → set (resolved ids (suc p)) x p ≡ resolved ids p
+    one-resolved : x < 65536 → set (resolved ids (suc p)) x p ≡ resolved ids p
     unfolding resolved
     one-resolved l =
         as-table (endFrom ids p) 65536 0 (set (resolved ids (suc p)) x p) (length-set (resolved ids (suc p)) x p ∙ length-resolved (suc p)) (λ y k. go y k (ℕ-discrete y x))
