@@ -2,9 +2,10 @@
 -- walked from its other end, would give another plan.
 use mathlib.Core.Path.{_≡_, refl}
 use mathlib.Core.Bool.{Bool, true, false}
-use mathlib.Core.List.{[], _∷_}
+use mathlib.Core.List.{List, [], _∷_, flatMap}
 use Prim.Native.Nat.{ℕ}
 use lib.Ieee.{binary64, ofBits, le, neg}
+use lib.ListN.{drop, replicate}
 use Rattle.numbers.specs.UpTo.{upTo}
 use Rattle.numbers.specs.Counts.{count}
 use Rattle.numbers.specs.Choose.{those, firstOf, indexOf}
@@ -13,15 +14,18 @@ use Rattle.network.specs.declared.branch.Branch.{Branch}
 use Rattle.network.specs.declared.switch.Switch.{Switch}
 use Rattle.network.specs.declared.switch.ReconfigAlgorithm.the-variants.{BranchExchange}
 use Rattle.network.specs.Records.{Network}
-use Rattle.network.specs.Answers.{accepted, _andThen_, judge}
+use Rattle.network.specs.Answers.{accepted, refused, _andThen_, judge}
 use Rattle.network.specs.Faults.{okBase, okLoad, okR, among, ties, headFaults, busFaults, branchFaults, switchFaults}
 use Rattle.network.specs.Check.{headOf, checkRun, checkRecords}
 use Rattle.network.specs.Live.{live, openOn, each, checkState, baseState}
+use Rattle.frames.specs.Hex.{digit, digits, writeFields}
+use Rattle.frames.specs.Acceptable.{frameText}
+use Rattle.frames.specs.Printed.{written, pairText}
 use Rattle.graph.specs.Walk.{far, neighbours, reached, enter, enterAll, turn, walkBy, walk, byOf, across, bfsPath}
 use Rattle.graph.specs.Walk as Walk
 use Rattle.graph.specs.Radial.{radial}
 use Rattle.graph.specs.Feeder.{position, feeder, radialIn}
-use Rattle.plan.specs.Plan.{State, closings, pathBefore, opening, exchanged, pairsFrom, pairs, switchOn, plan, checkRadial, differing, lockedDifferences, checkLocked, checkPlan}
+use Rattle.plan.specs.Plan.{State, closings, pathBefore, opening, exchanged, pairsFrom, pairs, switchOn, plan, checkRadial, differing, lockedDifferences, checkLocked, checkRoom, checkPlan, planText, planned}
 use Rattle.plan.specs.Proof.{demand3}
 use Rattle.plan.specs.Claim.{closed, carriedOut, forward, back, found, taken, run, after, SwitchingPlan}
 
@@ -93,3 +97,26 @@ triangle-steps = rw (computed .2)
 -- so the hypothesis of demand 3 can be met
 triangle-holds : SwitchingPlan triangle present wanted
 triangle-holds = demand3 triangle present wanted (computed .1)
+
+-- ---- the call
+-- the triangle with switch 10 locked
+locked : Network
+locked = record { base = triangle .base; algorithm = triangle .algorithm; iterations = triangle .iterations; buses = triangle .buses; branches = triangle .branches; switches = switch 10 1 false false ∷ switch 11 2 true true ∷ [] }
+
+-- eleven sevens
+full : List ℕ
+full = replicate 11 7
+
+-- A slice of 11 bytes is full with the line 83000B000A, one of 12 keeps its last byte, one of 10 keeps them all. From a state to itself there is no pair, and nothing is written.
+-- Refusals as document 01's table has them: state 02; the triangle, all closed; switch 10 locked. 10 of the wanted state comes before 11 of the present one
+calls :
+    (planned triangle present wanted full ≡ record { answer = accepted 1; out = 56 ∷ 51 ∷ 48 ∷ 48 ∷ 48 ∷ 66 ∷ 48 ∷ 48 ∷ 48 ∷ 65 ∷ 10 ∷ [] })
+    × (planned triangle present wanted (7 ∷ full) ≡ record { answer = accepted 1; out = 56 ∷ 51 ∷ 48 ∷ 48 ∷ 48 ∷ 66 ∷ 48 ∷ 48 ∷ 48 ∷ 65 ∷ 10 ∷ 7 ∷ [] })
+    × (planned triangle present wanted (drop 1 full) ≡ record { answer = refused 13 0; out = drop 1 full })
+    × (planned triangle present present full ≡ record { answer = accepted 0; out = full })
+    × (planned triangle (0 ∷ 2 ∷ []) wanted full ≡ record { answer = refused 10 0; out = full })
+    × (planned triangle (0 ∷ 0 ∷ []) (1 ∷ []) full ≡ record { answer = refused 10 1; out = full })
+    × (planned triangle present (0 ∷ 0 ∷ []) full ≡ record { answer = refused 11 1; out = full })
+    × (planned locked present wanted full ≡ record { answer = refused 12 10; out = full })
+unfolding locked full triangle present wanted bus branch switch le ofBits neg upTo those firstOf indexOf count _andThen_ judge okBase okLoad okR among ties headFaults busFaults branchFaults switchFaults headOf checkRun checkRecords live openOn each checkState baseState far neighbours reached enter enterAll turn walkBy walk byOf across Walk.back bfsPath radial position feeder radialIn closings pathBefore opening exchanged pairsFrom pairs switchOn plan checkRadial differing lockedDifferences checkLocked checkPlan flatMap written pairText frameText writeFields digits digit planText checkRoom planned
+calls = (refl, refl, refl, refl, refl, refl, refl, refl)

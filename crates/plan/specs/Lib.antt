@@ -1,4 +1,6 @@
 pub mod Plan
+pub mod Stored
+pub mod Onward
 pub mod Claim
 pub mod LiveLaws
 pub mod Exchanges
@@ -9,4 +11,5 @@ pub mod Stages
 pub mod Planner
 pub mod Accepted
 pub mod Proof
+pub mod Empty
 pub mod Examples

@@ -1,6 +1,6 @@
 -- Document 01's planner: pairs of branches, the switches that a pair moves, the refusals, and the lines that are written.
 use mathlib.Core.Bool.{Bool, true, false, cond, not, _&&_, _||_}
-use mathlib.Core.List.{List, [], _∷_, map}
+use mathlib.Core.List.{List, [], _∷_, map, flatMap}
 use Prim.Native.Nat.{ℕ}
 use lib.Dec.{eqb, ltb}
 use lib.ListN.{length, getD}
@@ -10,8 +10,11 @@ use Rattle.network.specs.Answers.{Answer, accepted, refused, _andThen_, _if_, j
 use Rattle.network.specs.Faults.{on}
 use Rattle.network.specs.Check.{checkRecords}
 use Rattle.network.specs.Live.{live, checkState}
+use Rattle.frames.specs.Printed.{pairText, written}
 use Rattle.graph.specs.Walk.{bfsPath}
 use Rattle.graph.specs.Feeder.{feeder, radialIn}
+use Rattle.plan.specs.declared.planner.PlanAnswer.{PlanAnswer}
+use Rattle.plan.specs.declared.planner.PlanAnswer.the-variants.{Pairs, Refused}
 
 -- a byte for each switch: 00 closed, 01 open
 abbrev pub State : Type 0
@@ -110,3 +113,29 @@ checkPlan N present wanted =
     andThen checkRadial N present 0
     andThen checkRadial N wanted 1
     andThen checkLocked N present wanted
+
+-- ---- the call
+-- "83: id closed, id opened", a line for each pair
+unfoldable pub planText : List Moves → List ℕ
+planText moves = flatMap (λ m. pairText (m .closes) (m .opens)) moves
+
+-- what the call answers, the number of pairs or a refusal, and what the lent slice holds then
+pub record Planned : Type 0 where
+  pub answer : Answer ℕ
+  pub out : List ℕ
+
+-- "A refusal returns a number and a place and writes no lent byte", "a longer slice keeps its tail"
+abbrev pub answered : Answer (Unit {0}) → List Moves → List ℕ → Planned
+answered (accepted u) moves out = record { answer = accepted (length moves); out = written (planText moves) out }
+answered (refused number place) moves out = record { answer = refused number place; out = out }
+
+-- "Calls test the network, then 10 (present first), 11 (likewise), 12, 13"
+unfoldable pub planned : Network → State → State → List ℕ → Planned
+planned N present wanted out =
+    let moves = plan N present wanted in
+    answered (checkPlan N present wanted andThen checkRoom (length (planText moves)) (length out)) moves out
+
+-- document 01's number and place for each case of the code's answer
+abbrev pub planAnswerOf : PlanAnswer → Answer ℕ
+planAnswerOf (Pairs count) = accepted count
+planAnswerOf (Refused number place) = refused number place

@@ -1,0 +1,70 @@
+-- The planner's answer, case by case: the first refusal decides, and without one the lines are written.
+use mathlib.Core.Path.{_≡_, sym, ap, _∙_}
+use mathlib.Core.Bool.{Bool, true, false}
+use mathlib.Core.List.{List}
+use Prim.Native.Nat.{ℕ, _*_, _≤_, _<_}
+use lib.ListN.{length}
+use borrow.Author.Tests.{lt-ltb, le-ltb}
+use Rattle.network.specs.declared.error.Verdict.{Verdict}
+use Rattle.network.specs.declared.error.Verdict.the-variants.{Accepted, Refused}
+use Rattle.network.specs.declared.topology.PowerNetwork.{PowerNetwork}
+use Rattle.network.specs.Records.{Network, recordsOf}
+use Rattle.network.specs.Answers.{Answer, accepted, refused, answerOf, _andThen_, judge}
+use Rattle.network.specs.Check.{checkRecords}
+use Rattle.graph.specs.declared.rows.Graph.{Graph}
+use Rattle.graph.specs.Feeder.{radialIn}
+use Rattle.graph.specs.Rows.{rowRadial}
+use Rattle.graph.specs.FeederRows.{feederGraph, liveFlags}
+use Rattle.graph.specs.FeederRowLaws.{live-row-radial}
+use Rattle.frames.specs.Printed.{written}
+use Rattle.plan.specs.declared.pairs.PairList.{PairList}
+use Rattle.plan.specs.Plan.{State, plan, planText, checkRadial, checkRoom, checkPlan, planned}
+use Rattle.plan.specs.Stored.{movesIn}
+use Rattle.plan.proofs.PairLists.{length-moves}
+use Rattle.plan.proofs.Lines.{length-text}
+
+-- ---- answers one behind the other
+pub decides : {a : Answer (Unit {0})} (b : Answer (Unit {0})) {number place : ℕ} → a ≡ refused number place → refused number place ≡ (a andThen b)
+unfolding _andThen_
+decides b e = rw e
+
+pub gives-way : {a b : Answer (Unit {0})} → a ≡ accepted tt → b ≡ (a andThen b)
+unfolding _andThen_
+gives-way e = rw e
+
+pub accepted-so : {v : Verdict} {a : Answer (Unit {0})} → v ≡ Accepted → answerOf v ≡ a → a ≡ accepted tt
+accepted-so r e = sym e ∙ ap answerOf r
+
+-- ---- refusal 11
+module _ (n : PowerNetwork) (buses : length (n .buses) ≡ 256) (passed : checkRecords (recordsOf n) ≡ accepted tt) (s : State) (place : ℕ)
+    {graph : Graph} (g : graph ≡ feederGraph n) {live : List Bool} (l : live ≡ liveFlags (recordsOf n) s) {b : Bool} (e : b ≡ rowRadial graph live) where
+  as-radial : radialIn (recordsOf n) s ≡ b
+  as-radial = sym (e ∙ rw (g, l) (live-row-radial n buses passed s))
+
+  pub not-radial : b ≡ false → checkRadial (recordsOf n) s place ≡ refused 11 place
+  unfolding checkRadial judge
+  not-radial f = rw (as-radial, f)
+
+  pub is-radial : b ≡ true → checkRadial (recordsOf n) s place ≡ accepted tt
+  unfolding checkRadial judge
+  is-radial t = rw (as-radial, t)
+
+-- ---- the call
+module _ (N : Network) (present wanted : State) (out : List ℕ) where
+  pub not-accepted : {v : Verdict} {number place : ℕ} → v ≡ Refused number place → answerOf v ≡ checkPlan N present wanted
+      → record { answer = refused number place; out = out } ≡ planned N present wanted out
+  unfolding planned _andThen_
+  not-accepted r e = rw (← e, r)
+
+  module _ (ok : checkPlan N present wanted ≡ accepted tt) (pairs : PairList) (made : movesIn pairs ≡ plan N present wanted) where
+    needed : length (planText (plan N present wanted)) ≡ 11 * pairs .count
+    needed = length-text (plan N present wanted) ∙ ap (λ (k : ℕ). 11 * k) (ap length (sym made) ∙ length-moves pairs)
+
+    pub no-room : length out < 11 * pairs .count → record { answer = refused 13 0; out = out } ≡ planned N present wanted out
+    unfolding planned _andThen_ checkRoom judge
+    no-room h = rw (ok, needed, lt-ltb (length out) (11 * pairs .count) h)
+
+    pub lines-written : 11 * pairs .count ≤ length out → {after : List ℕ} → after ≡ written (planText (movesIn pairs)) out
+        → record { answer = accepted (pairs .count); out = after } ≡ planned N present wanted out
+    unfolding planned _andThen_ checkRoom judge
+    lines-written h e = rw (ok, needed, le-ltb (length out) (11 * pairs .count) h, ← made, length-moves, e)

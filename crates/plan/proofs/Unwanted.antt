@@ -1,0 +1,50 @@
+-- The first unwanted branch of a path, as a loop finds it: the first i branches of the path are wanted.
+use mathlib.Core.Path.{_≡_, refl, sym, ap, _∙_}
+use mathlib.Core.Bool.{Bool, true, false}
+use mathlib.Core.List.{List, _∷_}
+use Prim.Native.Nat.{ℕ, _+_, _≤_, _<_}
+use native.Mathlib.Numerals.{add-one}
+use native.Mathlib.Omega.{arith}
+use lib.ListN.{length, getD, drop, length-append, drop-of-length-le, List·getD-append}
+use lib.Seq.{drop-cons}
+use Rattle.numbers.specs.Choose.{firstOf}
+use Rattle.graph.specs.declared.walks.Path.{Path}
+use Rattle.graph.specs.Rows.{flag, filled, pathOf}
+use Rattle.plan.specs.Stored.{firstUnwanted}
+
+-- a path fits its array
+pub path-fits : (path : Path) (l : List ℕ) → path ≡ pathOf l → length (path .branch) ≡ 256 → path .count ≤ 256
+unfolding pathOf filled
+path-fits path l e h =
+    let c : path .count ≡ length l = ap (λ (p : Path). p .count) e in
+    let b = simp length-append at (ap (λ (p : Path). length (p .branch)) e) in
+    omega arith
+
+module _ (path : Path) (wanted : List Bool) where
+  pub record Wanted (i : ℕ) : Type 0 where
+    pub within : i ≤ path .count
+    rest : (l : List ℕ) → path ≡ pathOf l → firstUnwanted wanted l ≡ firstUnwanted wanted (drop i l)
+
+  pub none-wanted : Wanted 0
+  none-wanted = record { within = omega arith; rest = λ l e. refl }
+
+  module _ (i : ℕ) (w : Wanted i) where
+    pub all-wanted : path .count ≤ i → (l : List ℕ) → path ≡ pathOf l → 0 ≡ firstUnwanted wanted l
+    unfolding firstOf pathOf
+    all-wanted h l e = sym (w .rest l e ∙ rw (drop-of-length-le l {i = i} (omega (arith, ap (λ (p : Path). p .count) e))))
+
+    module _ (h : i < path .count) (at : ℕ) (here : at ≡ i) (b : Bool) (f : b ≡ flag wanted (getD (path .branch) at 0)) where
+      next-branch : (l : List ℕ) → path ≡ pathOf l → drop i l ≡ getD (path .branch) at 0 ∷ drop (i + 1) l
+      unfolding pathOf filled
+      next-branch l e =
+          let k : i < length l = omega (arith, ap (λ (p : Path). p .count) e) in
+          let r : getD (path .branch) i 0 ≡ getD l i 0 = ap (λ (p : Path). getD (p .branch) i 0) e ∙ List·getD-append l _ 0 i k in
+          rw (here, drop-cons l i 0 k, add-one, r)
+
+      pub one-wanted : b ≡ true → Wanted (i + 1)
+      unfolding firstOf
+      one-wanted t = record { within = omega arith; rest = λ l e. w .rest l e ∙ rw (next-branch l e, ← f, t) }
+
+      pub one-unwanted : b ≡ false → (l : List ℕ) → path ≡ pathOf l → getD (path .branch) at 0 ≡ firstUnwanted wanted l
+      unfolding firstOf
+      one-unwanted t l e = sym (w .rest l e ∙ rw (next-branch l e, ← f, t))

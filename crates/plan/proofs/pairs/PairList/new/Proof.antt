@@ -1,0 +1,10 @@
+-- `PairList::new` meets its contract.
+use Rattle.plan.proofs.PairLists.{no-pairs}
+use Rattle.plan.proofs.pairs.PairList.new.Statement.{statement}
+use Rattle.plan.proofs.pairs.PairList.new.Tie as tie
+
+returns : tie.Need-returns
+returns c = no-pairs _ _
+
+pub new-spec : {M : Type 1} → statement M
+new-spec = tie.close (tie.spec returns)

@@ -1,0 +1,96 @@
+-- `write_pairs` meets its contract. The invariant: the lines of the first i pairs have been written; the step is `lines-more`.
+use Prim.Native.Nat.{_-_}
+use native.Mathlib.Omega.{arith}
+use borrow.Author.Needs.{needs}
+use Rattle.plan.proofs.Lines.{Lines, lines-none, lines-more, lines-length, lines-all}
+use Rattle.plan.proofs.planner.write_pairs.Statement.{statement}
+use Rattle.plan.proofs.planner.write_pairs.Tie as tie
+
+abbrev Inv-loop : tie.InvT-loop
+Inv-loop out₀ pairs n i₀ out i = Lines pairs out₀ out i
+
+abbrev μ-loop : tie.MeasureT-loop
+μ-loop out₀ pairs n i₀ out i = n - i
+
+wide16-requires : tie.Need-wide16-requires Inv-loop μ-loop
+wide16-requires c κs = search needs
+
+loop-holds : tie.Need-loop-holds Inv-loop μ-loop
+loop-holds c = lines-none _ _
+
+mul-at : tie.Need-mul-at Inv-loop μ-loop
+mul-at c = search needs
+
+sub-write-pair : tie.Need-sub-write-pair Inv-loop μ-loop
+sub-write-pair c =
+    let s = c .before .before .before .before in
+    omega (arith, lines-length _ _ _ (c .before .loop .inv), s .pre .1, c .before .before .wide16 .ensures .0)
+
+part-write-pair-start : tie.Need-part-write-pair-start Inv-loop μ-loop
+part-write-pair-start c =
+    let s = c .before .before .before .before in
+    let e = lines-length _ _ _ (c .before .loop .inv) in
+    search needs
+
+part-write-pair-end : tie.Need-part-write-pair-end Inv-loop μ-loop
+part-write-pair-end c =
+    let s = c .before .before .before .before in
+    let e = lines-length _ _ _ (c .before .loop .inv) in
+    search needs
+
+mul-write-pair : tie.Need-mul-write-pair Inv-loop μ-loop
+mul-write-pair c = search needs
+
+element-copy-out-write-pair : tie.Need-element-copy-out-write-pair Inv-loop μ-loop
+element-copy-out-write-pair c = search needs
+
+mul-write-pair-2 : tie.Need-mul-write-pair-2 Inv-loop μ-loop
+mul-write-pair-2 c = search needs
+
+element-copy-out-write-pair-2 : tie.Need-element-copy-out-write-pair-2 Inv-loop μ-loop
+element-copy-out-write-pair-2 c = search needs
+
+write-pair-requires : tie.Need-write-pair-requires Inv-loop μ-loop
+write-pair-requires c κs = search needs
+
+add-i : tie.Need-add-i Inv-loop μ-loop
+add-i c = search needs
+
+loop-less : tie.Need-loop-less Inv-loop μ-loop
+loop-less c = search needs
+
+loop-again : tie.Need-loop-again Inv-loop μ-loop
+loop-again c =
+    let w = c .before .before in
+    let t = w .before .before .before .before in
+    let s = t .before .before .before .before in
+    lines-more _ _ _ (t .before .loop .inv) (s .pre .1) (omega arith) (w .write-pair .ensures)
+
+same-length : tie.Need-same-length Inv-loop μ-loop
+same-length c = lines-length _ _ _ (c .before .loop .inv)
+
+returns : tie.Need-returns Inv-loop μ-loop
+returns c = lines-all _ _ _ (c .before .loop .inv) (omega (arith, c .before .before .wide16 .ensures .0))
+
+pub write-pairs-spec : {M : Type 1} → statement M
+write-pairs-spec =
+    tie.close
+    (tie.spec
+    Inv-loop
+    μ-loop
+    wide16-requires
+    loop-holds
+    mul-at
+    sub-write-pair
+    part-write-pair-start
+    part-write-pair-end
+    mul-write-pair
+    element-copy-out-write-pair
+    mul-write-pair-2
+    element-copy-out-write-pair-2
+    write-pair-requires
+    add-i
+    loop-less
+    loop-again
+    same-length
+    returns)

@@ -1,0 +1,78 @@
+-- `check_change` meets its contract: the first of its tests that fails decides.
+use mathlib.Core.Path.{_≡_, _∙_}
+use lib.ListN.{length}
+use borrow.Author.Tests.{not-true, not-false}
+use Rattle.network.specs.ReadLaws.{length-of}
+use Rattle.network.proofs.bus.Bus.{the-type}
+use Rattle.plan.proofs.Passing.{checked-counts}
+use Rattle.plan.proofs.Answering.{decides, gives-way, not-radial, is-radial}
+use borrow.Author.Needs.{needs}
+use Rattle.plan.proofs.refusals.check_change.Statement.{statement}
+use Rattle.plan.proofs.refusals.check_change.Tie as tie
+
+graph-of-requires : tie.Need-graph-of-requires
+graph-of-requires c κs = search needs
+
+live-in-requires : tie.Need-live-in-requires
+live-in-requires c κs =
+    let h = checked-counts _ (c .before .before .before .pre) in
+    (h .0, h .2)
+
+live-in-requires-2 : tie.Need-live-in-requires-2
+live-in-requires-2 c κs =
+    let h = checked-counts _ (c .before .before .before .before .pre) in
+    (h .1, h .2)
+
+is-radial-requires : tie.Need-is-radial-requires
+is-radial-requires c κs = search needs
+
+-- the network has 256 entries for buses
+buses : (s : tie.Start) → length (s .args .network .buses) ≡ 256
+buses s = length-of (the-type .to) (s .args .network .buses) (s .good .0 .1 .1 .0 .1 .0 .1)
+
+returns : tie.Need-returns
+returns c =
+    let a = c .before .before .before in
+    let g = a .before in
+    let s = g .before .before .before in
+    decides _ (not-radial _ (buses s) (s .pre .network) _ _ (g .graph-of .ensures) (a .live-in .ensures) (c .before .is-radial .ensures) (not-true _ (c .if1 .taken)))
+
+is-radial-requires-2 : tie.Need-is-radial-requires-2
+is-radial-requires-2 c κs = search needs
+
+returns-2 : tie.Need-returns-2
+returns-2 c =
+    let r = c .before .before .before in
+    let w = r .before in
+    let g = w .before .before in
+    let s = g .before .before .before in
+    decides _ (not-radial _ (buses s) (s .pre .network) _ _ (g .graph-of .ensures) (w .live-in2 .ensures) (c .before .is-radial2 .ensures) (not-true _ (c .if2 .taken)))
+    ∙ gives-way (is-radial _ (buses s) (s .pre .network) _ _ (g .graph-of .ensures) (w .before .live-in .ensures) (r .is-radial .ensures) (not-false _ (c .before .before .if1 .left)))
+
+check-locked-requires : tie.Need-check-locked-requires
+check-locked-requires c κs = search needs
+
+returns-3 : tie.Need-returns-3
+returns-3 c =
+    let v = c .before .before in
+    let r = v .before .before in
+    let w = r .before in
+    let g = w .before .before in
+    let s = g .before .before .before in
+    c .check-locked .ensures
+    ∙ gives-way (is-radial _ (buses s) (s .pre .network) _ _ (g .graph-of .ensures) (w .live-in2 .ensures) (v .is-radial2 .ensures) (not-false _ (c .before .if2 .left)))
+    ∙ gives-way (is-radial _ (buses s) (s .pre .network) _ _ (g .graph-of .ensures) (w .before .live-in .ensures) (r .is-radial .ensures) (not-false _ (v .before .if1 .left)))
+
+pub check-change-spec : {M : Type 1} → statement M
+check-change-spec =
+    tie.close
+    (tie.spec
+    graph-of-requires
+    live-in-requires
+    live-in-requires-2
+    is-radial-requires
+    returns
+    is-radial-requires-2
+    returns-2
+    check-locked-requires
+    returns-3)

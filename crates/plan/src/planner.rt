@@ -1,0 +1,57 @@
+// The planner.
+ghost use mathlib.Core.Path.{_≡_};
+ghost use Prim.Native.Nat.{_*_, _≤_};
+ghost use lib.ListN.{length};
+ghost use Rattle.frames.specs.Printed.{written};
+ghost use Rattle.network.specs.Records.{recordsOf};
+ghost use Rattle.plan.specs.Plan.{planText, planned, planAnswerOf};
+ghost use Rattle.plan.specs.Stored.{movesIn};
+use crate::pairs::PairList;
+use crate::pairs::pairs_of;
+use crate::refusals::check_plan;
+use frames::writer::PAIR_LENGTH;
+use frames::writer::write_pair;
+use network::error::Verdict;
+use network::topology::PowerNetwork;
+use numbers::wide16;
+
+// How many pairs the plan has, or document 01's refusal number and place.
+pub enum PlanAnswer {
+    Pairs(u16),
+    Refused { number: u8, place: u16 },
+}
+
+// A line for each pair, one behind the other.
+fn write_pairs(out: &mut [u8], pairs: PairList)
+    requires { ⌜ (pairs .count ≤ 512) × (11 * pairs .count ≤ length (now out)) ⌝ }
+    ensures { λ _. ⌜ now (out .exit) ≡ written (planText (movesIn pairs)) (now (out .entry)) ⌝ }
+{
+    let n = wide16(pairs.count);
+    let mut i: usize = 0;
+    while i < n {
+        let at = PAIR_LENGTH * i;
+        write_pair(&mut out[at..], pairs.closes[i], pairs.opens[i]);
+        i += 1;
+    }
+}
+
+// The plan from the present state to the wanted one, as 83 lines at the front of the slice, and how many pairs it has.
+pub fn plan(network: PowerNetwork, present: &[u8], wanted: &[u8], out: &mut [u8]) -> PlanAnswer
+    ensures { λ r. ⌜ record { answer = planAnswerOf r; out = now (out .exit) }
+        ≡ planned (recordsOf network) (now (present .entry)) (now (wanted .entry)) (now (out .entry)) ⌝ }
+{
+    match check_plan(network, present, wanted) {
+        Verdict::Refused { number, place } => PlanAnswer::Refused { number, place },
+        Verdict::Accepted => {
+            let pairs = pairs_of(network, present, wanted);
+            if out.len() < PAIR_LENGTH * wide16(pairs.count) {
+                return PlanAnswer::Refused {
+                    number: 13,
+                    place: 0,
+                };
+            }
+            write_pairs(out, pairs);
+            PlanAnswer::Pairs(pairs.count)
+        }
+    }
+}
