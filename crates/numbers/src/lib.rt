@@ -13,7 +13,8 @@ pub fn wide8(x: u8) -> usize
 pub fn wide16(x: u16) -> usize
     ensures { λ r. ⌜ (r ≡ x) × (r < 65536) ⌝ }
 {
-    x as usize
+    let wide = x as usize;
+    wide
 }
 
 // A count, or the size of an array that has room for fewer.
