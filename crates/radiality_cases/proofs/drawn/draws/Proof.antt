@@ -1,0 +1,56 @@
+-- `draws` is safe and ends: the index stays within the numbers.
+use Prim.Native.Nat.{_≤_, _-_}
+use borrow.Author.Needs.{needs}
+use Rattle.radiality_cases.proofs.drawn.draws.Statement.{statement}
+use Rattle.radiality_cases.proofs.drawn.draws.Tie as tie
+use Rattle.radiality_cases.proofs.drawn.next.Reads as next-reads
+use Rattle.radiality_cases.proofs.drawn.upper.Reads as upper-reads
+
+abbrev Inv-loop : tie.InvT-loop
+Inv-loop seed out₀ x₀ i₀ out x i = i ≤ 128
+
+abbrev μ-loop : tie.MeasureT-loop
+μ-loop seed out₀ x₀ i₀ out x i = 128 - i
+
+loop-holds : tie.Need-loop-holds Inv-loop μ-loop
+loop-holds c = search needs
+
+next-requires : tie.Need-next-requires Inv-loop μ-loop
+next-requires c κs = search needs
+
+upper-requires : tie.Need-upper-requires Inv-loop μ-loop
+upper-requires c κs = search needs
+
+mul-out : tie.Need-mul-out Inv-loop μ-loop
+mul-out c = search needs
+
+array-write-out : tie.Need-array-write-out Inv-loop μ-loop
+array-write-out c = search needs
+
+add-i : tie.Need-add-i Inv-loop μ-loop
+add-i c = search needs
+
+loop-less : tie.Need-loop-less Inv-loop μ-loop
+loop-less c = search needs
+
+loop-again : tie.Need-loop-again Inv-loop μ-loop
+loop-again c = search needs
+
+returns : tie.Need-returns Inv-loop μ-loop
+returns c = search needs
+
+pub draws-spec : {M : Type 1} → statement M
+draws-spec =
+    tie.close
+    (tie.spec
+    Inv-loop
+    μ-loop
+    loop-holds
+    next-requires
+    upper-requires
+    mul-out
+    array-write-out
+    add-i
+    loop-less
+    loop-again
+    returns)
