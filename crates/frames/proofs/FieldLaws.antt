@@ -22,7 +22,7 @@ use Rattle.frames.specs.HexLaws.{every-drop}
 use Rattle.frames.specs.Text.{every, methodOf, head, bus, branch, switch, headOf, headLineFaults, busOf, branchOf, switchOf}
 use Rattle.frames.specs.Passes.{branchBytes, switchBytes}
 use Rattle.frames.specs.FrameReads.{headWith}
-use Rattle.frames.proofs.PartLaws.{part-rest}
+use Rattle.numbers.specs.Parts.{part-rest}
 
 -- what the readers of a field ask of the row from a on
 pub rest-digits : (f : List ℕ) (a k : ℕ) → a + k ≤ length f → every isDigit f ≡ true

@@ -13,7 +13,8 @@ use Rattle.frames.specs.Text.{cut, every, Frame, readOne, without}
 use Rattle.frames.specs.ReaderLaws.{without-then}
 use Rattle.frames.specs.FirstLine.{judgeFrame}
 use Rattle.frames.specs.FramedLaws.{Framed, framed, size, fieldsAt, one-refused, one-framed}
-use Rattle.frames.proofs.PartLaws.{part-is, part-rest}
+use Rattle.numbers.specs.Parts.{part-rest}
+use Rattle.frames.proofs.PartLaws.{part-is}
 
 module _ (text : List ℕ) (at : ℕ) where
   -- the part of the text that the code takes for a line of n characters, and the part behind its kind byte

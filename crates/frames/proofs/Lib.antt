@@ -9,4 +9,3 @@ pub mod StoreLaws
 pub mod BodyLaws
 pub mod VerdictLaws
 pub mod TextLaws
-pub mod WriterLaws

@@ -1,11 +1,11 @@
--- Parts of a text: a part that is lent is n characters from its start on, and a part to the end is all of the rest.
+-- Parts of a text: a part that is lent is n characters from its start on.
 use mathlib.Core.Bool.{true}
 use mathlib.Core.Path.{_≡_, ap}
 use mathlib.Core.List.{List}
 use Prim.Native.Nat.{ℕ, _+_, _-_, _≤_}
 use native.Mathlib.Omega.{arith}
 use lib.ListN.{length, take, drop, length-drop}
-use lib.Seq.{take-all, length-take-le}
+use lib.Seq.{length-take-le}
 use Rattle.frames.specs.Hex.{isDigit}
 use Rattle.frames.specs.Text.{every}
 
@@ -13,9 +13,6 @@ pub part-is : (t : List ℕ) (at n : ℕ) → take (at + n - at) (drop at t) ≡
 part-is t at n =
     let e : at + n - at ≡ n = omega arith in
     ap (λ (k : ℕ). take k (drop at t)) e
-
-pub part-rest : (l : List ℕ) (a : ℕ) → take (length l - a) (drop a l) ≡ drop a l
-part-rest l a = take-all (length l - a) (drop a l) (omega (arith, length-drop a l))
 
 -- a part of digits
 pub part-digits : (t : List ℕ) (at n k : ℕ) → at + n ≤ length t → k ≤ n → every isDigit (take n (drop at t)) ≡ true

@@ -20,6 +20,3 @@ pub mod FirstLine
 pub mod FirstLineLaws
 pub mod FramedLaws
 pub mod FrameReads
-pub mod Printed
-pub mod WrittenLaws
-pub mod PrintedExamples

@@ -1,4 +1,4 @@
-// The frame text: its reader, and the writers of the frames that are printed.
+// The reader of the frame text.
 mod branch;
 mod bus;
 mod head;
@@ -7,4 +7,3 @@ mod line;
 mod pass;
 pub mod reader;
 mod switch;
-pub mod writer;

@@ -4,7 +4,6 @@ use mathlib.Core.Bool.{Bool, true, false}
 use mathlib.Core.List.{List}
 use Prim.Native.Nat.{ℕ, _*_, _≤_, _<_}
 use lib.ListN.{length}
-use borrow.Author.Tests.{lt-ltb, le-ltb}
 use Rattle.network.specs.declared.error.Verdict.{Verdict}
 use Rattle.network.specs.declared.error.Verdict.the-variants.{Accepted, Refused}
 use Rattle.network.specs.declared.topology.PowerNetwork.{PowerNetwork}
@@ -16,9 +15,10 @@ use Rattle.graph.specs.Feeder.{radialIn}
 use Rattle.graph.specs.Rows.{rowRadial}
 use Rattle.graph.specs.FeederRows.{feederGraph, liveFlags}
 use Rattle.graph.specs.FeederRowLaws.{live-row-radial}
-use Rattle.frames.specs.Printed.{written}
+use Rattle.printing.specs.Printed.{written}
+use Rattle.printing.specs.LentLaws.{call-refused, call-short, call-done}
 use Rattle.plan.specs.declared.pairs.PairList.{PairList}
-use Rattle.plan.specs.Plan.{State, plan, planText, checkRadial, checkRoom, checkPlan, planned}
+use Rattle.plan.specs.Plan.{State, Moves, plan, planText, checkRadial, checkPlan, planned}
 use Rattle.plan.specs.Stored.{movesIn}
 use Rattle.plan.proofs.PairLists.{length-moves}
 use Rattle.plan.proofs.Lines.{length-text}
@@ -51,20 +51,23 @@ module _ (n : PowerNetwork) (buses : length (n .buses) ≡ 256) (passed : checkR
 
 -- ---- the call
 module _ (N : Network) (present wanted : State) (out : List ℕ) where
+  abbrev moves : List Moves
+  moves = plan N present wanted
+
   pub not-accepted : {v : Verdict} {number place : ℕ} → v ≡ Refused number place → answerOf v ≡ checkPlan N present wanted
       → record { answer = refused number place; out = out } ≡ planned N present wanted out
-  unfolding planned _andThen_
-  not-accepted r e = rw (← e, r)
+  unfolding planned
+  not-accepted r e = call-refused (length moves) (planText moves) out (sym e ∙ ap answerOf r)
 
   module _ (ok : checkPlan N present wanted ≡ accepted tt) (pairs : PairList) (made : movesIn pairs ≡ plan N present wanted) where
-    needed : length (planText (plan N present wanted)) ≡ 11 * pairs .count
-    needed = length-text (plan N present wanted) ∙ ap (λ (k : ℕ). 11 * k) (ap length (sym made) ∙ length-moves pairs)
+    needed : length (planText moves) ≡ 11 * pairs .count
+    needed = length-text moves ∙ ap (λ (k : ℕ). 11 * k) (ap length (sym made) ∙ length-moves pairs)
 
     pub no-room : length out < 11 * pairs .count → record { answer = refused 13 0; out = out } ≡ planned N present wanted out
-    unfolding planned _andThen_ checkRoom judge
-    no-room h = rw (ok, needed, lt-ltb (length out) (11 * pairs .count) h)
+    unfolding planned
+    no-room h = call-short (length moves) (planText moves) out ok needed h
 
     pub lines-written : 11 * pairs .count ≤ length out → {after : List ℕ} → after ≡ written (planText (movesIn pairs)) out
         → record { answer = accepted (pairs .count); out = after } ≡ planned N present wanted out
-    unfolding planned _andThen_ checkRoom judge
-    lines-written h e = rw (ok, needed, le-ltb (length out) (11 * pairs .count) h, ← made, length-moves, e)
+    unfolding planned
+    lines-written h e = rw (← length-moves pairs, made) (call-done (length moves) (planText moves) out ok needed h (e ∙ rw made))

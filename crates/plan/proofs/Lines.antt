@@ -7,8 +7,8 @@ use lib.ListN.{length, getD, take, drop, length-append}
 use borrow.Rule.Slice.PartMut.{putMid}
 use Rattle.numbers.specs.UpTo.{table}
 use Rattle.numbers.specs.TableLaws.{table-more, length-table}
-use Rattle.frames.specs.Printed.{pair, pairText, written}
-use Rattle.frames.specs.WrittenLaws.{written-sets, written-append, length-written, length-frame}
+use Rattle.printing.specs.Printed.{pair, pairText, written}
+use Rattle.printing.specs.WrittenLaws.{written-sets, written-append, length-written, length-frame}
 use Rattle.plan.specs.declared.pairs.PairList.{PairList}
 use Rattle.plan.specs.Plan.{Moves, planText}
 use Rattle.plan.specs.Stored.{movesIn}

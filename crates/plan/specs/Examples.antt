@@ -20,12 +20,13 @@ use Rattle.network.specs.Check.{headOf, checkRun, checkRecords}
 use Rattle.network.specs.Live.{live, openOn, each, checkState, baseState}
 use Rattle.frames.specs.Hex.{digit, digits, writeFields}
 use Rattle.frames.specs.Acceptable.{frameText}
-use Rattle.frames.specs.Printed.{written, pairText}
+use Rattle.printing.specs.Printed.{written, pairText}
+use Rattle.printing.specs.Lent.{checkRoom, called}
 use Rattle.graph.specs.Walk.{far, neighbours, reached, enter, enterAll, turn, walkBy, walk, byOf, across, bfsPath}
 use Rattle.graph.specs.Walk as Walk
 use Rattle.graph.specs.Radial.{radial}
 use Rattle.graph.specs.Feeder.{position, feeder, radialIn}
-use Rattle.plan.specs.Plan.{State, closings, pathBefore, opening, exchanged, pairsFrom, pairs, switchOn, plan, checkRadial, differing, lockedDifferences, checkLocked, checkRoom, checkPlan, planText, planned}
+use Rattle.plan.specs.Plan.{State, closings, pathBefore, opening, exchanged, pairsFrom, pairs, switchOn, plan, checkRadial, differing, lockedDifferences, checkLocked, checkPlan, planText, planned}
 use Rattle.plan.specs.Proof.{demand3}
 use Rattle.plan.specs.Claim.{closed, carriedOut, forward, back, found, taken, run, after, SwitchingPlan}
 
@@ -118,5 +119,5 @@ calls :
     × (planned triangle (0 ∷ 0 ∷ []) (1 ∷ []) full ≡ record { answer = refused 10 1; out = full })
     × (planned triangle present (0 ∷ 0 ∷ []) full ≡ record { answer = refused 11 1; out = full })
     × (planned locked present wanted full ≡ record { answer = refused 12 10; out = full })
-unfolding locked full triangle present wanted bus branch switch le ofBits neg upTo those firstOf indexOf count _andThen_ judge okBase okLoad okR among ties headFaults busFaults branchFaults switchFaults headOf checkRun checkRecords live openOn each checkState baseState far neighbours reached enter enterAll turn walkBy walk byOf across Walk.back bfsPath radial position feeder radialIn closings pathBefore opening exchanged pairsFrom pairs switchOn plan checkRadial differing lockedDifferences checkLocked checkPlan flatMap written pairText frameText writeFields digits digit planText checkRoom planned
+unfolding locked full triangle present wanted bus branch switch le ofBits neg upTo those firstOf indexOf count _andThen_ judge okBase okLoad okR among ties headFaults busFaults branchFaults switchFaults headOf checkRun checkRecords live openOn each checkState baseState far neighbours reached enter enterAll turn walkBy walk byOf across Walk.back bfsPath radial position feeder radialIn closings pathBefore opening exchanged pairsFrom pairs switchOn plan checkRadial differing lockedDifferences checkLocked checkPlan flatMap written pairText frameText writeFields digits digit planText checkRoom called planned
 calls = (refl, refl, refl, refl, refl, refl, refl, refl)

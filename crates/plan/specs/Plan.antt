@@ -2,7 +2,7 @@
 use mathlib.Core.Bool.{Bool, true, false, cond, not, _&&_, _||_}
 use mathlib.Core.List.{List, [], _∷_, map, flatMap}
 use Prim.Native.Nat.{ℕ}
-use lib.Dec.{eqb, ltb}
+use lib.Dec.{eqb}
 use lib.ListN.{length, getD}
 use Rattle.numbers.specs.Choose.{those, firstOf, indexOf}
 use Rattle.network.specs.Records.{Network, noSwitch}
@@ -10,7 +10,8 @@ use Rattle.network.specs.Answers.{Answer, accepted, refused, _andThen_, _if_, j
 use Rattle.network.specs.Faults.{on}
 use Rattle.network.specs.Check.{checkRecords}
 use Rattle.network.specs.Live.{live, checkState}
-use Rattle.frames.specs.Printed.{pairText, written}
+use Rattle.printing.specs.Printed.{pairText}
+use Rattle.printing.specs.Lent.{Call, called}
 use Rattle.graph.specs.Walk.{bfsPath}
 use Rattle.graph.specs.Feeder.{feeder, radialIn}
 use Rattle.plan.specs.declared.planner.PlanAnswer.{PlanAnswer}
@@ -79,7 +80,7 @@ movesOf N q = record { closes = switchOn N (q .closed); opens = switchOn N (q .o
 unfoldable pub plan : Network → State → State → List Moves
 plan N present wanted = map (movesOf N) (pairs N present wanted)
 
--- ---- refusals 11 to 13
+-- ---- refusals 11 and 12
 unfoldable pub checkRadial : Network → State → ℕ → Answer (Unit {0})
 checkRadial N s place = judge ((11 if not (radialIn N s)) ∷ []) place
 
@@ -100,10 +101,6 @@ refuseLocked N (i ∷ l) = refused 12 (getD (N .switches) i noSwitch .id)
 unfoldable pub checkLocked : Network → State → State → Answer (Unit {0})
 checkLocked N present wanted = refuseLocked N (lockedDifferences N present wanted)
 
--- refusal 13
-unfoldable pub checkRoom : ℕ → ℕ → Answer (Unit {0})
-checkRoom needed lent = judge ((13 if ltb lent needed) ∷ []) 0
-
 -- "Calls test the network, then 10 (present first), 11 (likewise), 12"
 unfoldable pub checkPlan : Network → State → State → Answer (Unit {0})
 checkPlan N present wanted =
@@ -119,21 +116,11 @@ checkPlan N present wanted =
 unfoldable pub planText : List Moves → List ℕ
 planText moves = flatMap (λ m. pairText (m .closes) (m .opens)) moves
 
--- what the call answers, the number of pairs or a refusal, and what the lent slice holds then
-pub record Planned : Type 0 where
-  pub answer : Answer ℕ
-  pub out : List ℕ
-
--- "A refusal returns a number and a place and writes no lent byte", "a longer slice keeps its tail"
-abbrev pub answered : Answer (Unit {0}) → List Moves → List ℕ → Planned
-answered (accepted u) moves out = record { answer = accepted (length moves); out = written (planText moves) out }
-answered (refused number place) moves out = record { answer = refused number place; out = out }
-
--- "Calls test the network, then 10 (present first), 11 (likewise), 12, 13"
-unfoldable pub planned : Network → State → State → List ℕ → Planned
+-- the number of pairs, and a line for each at the front of the slice. "Calls test the network, then 10 (present first), 11 (likewise), 12, 13"
+unfoldable pub planned : Network → State → State → List ℕ → Call ℕ
 planned N present wanted out =
     let moves = plan N present wanted in
-    answered (checkPlan N present wanted andThen checkRoom (length (planText moves)) (length out)) moves out
+    called (checkPlan N present wanted) (length moves) (planText moves) out
 
 -- document 01's number and place for each case of the code's answer
 abbrev pub planAnswerOf : PlanAnswer → Answer ℕ

@@ -2,18 +2,18 @@
 ghost use mathlib.Core.Path.{_≡_};
 ghost use Prim.Native.Nat.{_*_, _≤_};
 ghost use lib.ListN.{length};
-ghost use Rattle.frames.specs.Printed.{written};
+ghost use Rattle.printing.specs.Printed.{written};
 ghost use Rattle.network.specs.Records.{recordsOf};
 ghost use Rattle.plan.specs.Plan.{planText, planned, planAnswerOf};
 ghost use Rattle.plan.specs.Stored.{movesIn};
 use crate::pairs::PairList;
 use crate::pairs::pairs_of;
 use crate::refusals::check_plan;
-use frames::writer::PAIR_LENGTH;
-use frames::writer::write_pair;
 use network::error::Verdict;
 use network::topology::PowerNetwork;
 use numbers::wide16;
+use printing::writer::PAIR_LENGTH;
+use printing::writer::write_pair;
 
 // How many pairs the plan has, or document 01's refusal number and place.
 pub enum PlanAnswer {

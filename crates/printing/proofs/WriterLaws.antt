@@ -9,12 +9,12 @@ use lib.Dec.{lit<}
 use lib.ListN.{length, set, length-set}
 use lib.Seq.{sets, length-sets, set-comm}
 use borrow.Author.Tests.{lt-ltb, le-ltb}
 use Rattle.frames.specs.Hex.{digit, digits, Fields, writeFields, total}
 use Rattle.frames.specs.Text.{Frame, layout}
 use Rattle.frames.specs.Acceptable.{frameText}
-use Rattle.frames.specs.Printed.{written}
+use Rattle.printing.specs.Printed.{written}
 use Rattle.frames.specs.HexLaws.{pow-pos, length-digits, length-fields}
-use Rattle.frames.specs.WrittenLaws.{sets-append, written-sets, written-short, length-frame}
+use Rattle.printing.specs.WrittenLaws.{sets-append, written-sets, written-short, length-frame}
 
 -- ---- one digit
 pub digit-below-ten : (n : ℕ) → n < 10 → 48 + n ≡ digit n

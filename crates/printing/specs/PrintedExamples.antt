@@ -3,10 +3,10 @@ use mathlib.Core.Bool.{true}
 use mathlib.Core.List.{List, [], _∷_, _++_}
 use mathlib.Core.Path.{_≡_, refl}
 use Prim.Native.Nat.{ℕ}
-use Rattle.frames.specs.declared.writer.SwitchAction.the-variants.{Open, Close}
+use Rattle.printing.specs.declared.writer.SwitchAction.the-variants.{Open, Close}
 use Rattle.frames.specs.Hex.{digit, digits, writeFields}
 use Rattle.frames.specs.Acceptable.{frameText}
-use Rattle.frames.specs.Printed.{written, answerText, operationText, pairText, refusalText}
+use Rattle.printing.specs.Printed.{written, answerText, operationText, pairText, refusalText}
 
 -- a line of w digits, written as one number, and its line feed
 abbrev line : ℕ → ℕ → List ℕ

@@ -2,12 +2,12 @@
 use mathlib.Core.Path.{ap, _∙_}
 use native.Mathlib.Omega.{arith}
 use lib.ListN.{length}
-use Rattle.frames.specs.Printed.{operation, operationText}
-use Rattle.frames.specs.WrittenLaws.{length-written}
-use Rattle.frames.proofs.WriterLaws.{stores, frame-short, frame-stored}
+use Rattle.printing.specs.Printed.{operation, operationText}
+use Rattle.printing.specs.WrittenLaws.{length-written}
+use Rattle.printing.proofs.WriterLaws.{stores, frame-short, frame-stored}
 use borrow.Author.Needs.{needs}
-use Rattle.frames.proofs.writer.write_operation.Statement.{statement}
-use Rattle.frames.proofs.writer.write_operation.Tie as tie
+use Rattle.printing.proofs.writer.write_operation.Statement.{statement}
+use Rattle.printing.proofs.writer.write_operation.Tie as tie
 
 returns : tie.Need-returns
 unfolding operationText

@@ -6,22 +6,19 @@ use Prim.Native.Nat.{ℕ, suc, _+_, _-_, _<_, _≤_}
 use native.Mathlib.Omega.{arith}
 use native.Mathlib.Nat.{add-zero, add-suc, suc-add, zero-add}
 use lib.ListN.{length, take, drop, set, length-append, length-drop, take-append-drop, drop-of-length-le}
-use lib.Seq.{sets, sets-eq, length-sets, take-all, take-set-le, drop-set-add}
+use lib.Seq.{sets, sets-eq, length-sets, take-set-le, drop-set-add}
 use lib.Dec.{leb}
 use borrow.Author.Tests.{le-leb, lt-leb, leb-true, leb-false}
 use borrow.Rule.Slice.PartMut.{putMid}
+use Rattle.numbers.specs.Parts.{part-rest}
 use Rattle.frames.specs.Hex.{Fields, total}
 use Rattle.frames.specs.Text.{Frame, layout}
 use Rattle.frames.specs.Acceptable.{frameText}
 use Rattle.frames.specs.HexLaws.{length-fields}
-use Rattle.frames.specs.Printed.{written}
+use Rattle.printing.specs.Printed.{written}
 
 -- ---- stores
 module _ {A : Type 0} where
-  -- the part of a list from n on
-  pub part-rest : (l : List A) (n : ℕ) → take (length l - n) (drop n l) ≡ drop n l
-  part-rest l n = take-all (length l - n) (drop n l) (omega (arith, length-drop n l))
-
   -- stores behind stores
   pub sets-append : (l : List A) (i : ℕ) (vs ws : List A) → sets (sets l i vs) (i + length vs) ws ≡ sets l i (vs ++ ws)
   sets-append l i [] ws = rw add-zero

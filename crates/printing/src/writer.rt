@@ -4,8 +4,8 @@ ghost use mathlib.Core.Path.{_≡_};
 ghost use Prim.Native.Nat.{_+_, _<_, _≤_, _^_};
 ghost use lib.ListN.{length};
 ghost use lib.Seq.{sets};
 ghost use Rattle.frames.specs.Hex.{digit, digits};
-ghost use Rattle.frames.specs.Printed.{written, truthByte, actionByte, answerText, operationText, pairText, refusalText};
+ghost use Rattle.printing.specs.Printed.{written, truthByte, actionByte, answerText, operationText, pairText, refusalText};
 
 // What is done to a switch.
 pub enum SwitchAction {

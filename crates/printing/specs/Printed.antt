@@ -4,10 +4,10 @@ use mathlib.Core.List.{List, [], _∷_, _++_}
 use Prim.Native.Nat.{ℕ}
 use lib.Dec.{leb}
 use lib.ListN.{length, drop}
-use Rattle.frames.specs.declared.writer.SwitchAction.{SwitchAction}
-use Rattle.frames.specs.declared.writer.SwitchAction.the-variants.{Open, Close}
+use Rattle.printing.specs.declared.writer.SwitchAction.{SwitchAction}
+use Rattle.printing.specs.declared.writer.SwitchAction.the-variants.{Open, Close}
 use Rattle.frames.specs.Text.{Frame}
 use Rattle.frames.specs.Acceptable.{frameText}
 
 -- bytes at the front of a slice: "a longer slice keeps its tail", and one that is too short keeps every byte
 unfoldable pub written : List ℕ → List ℕ → List ℕ

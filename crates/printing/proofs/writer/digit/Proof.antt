@@ -1,8 +1,8 @@
 -- `digit` meets its contract, by a law for each of its two cases.
-use Rattle.frames.proofs.WriterLaws.{digit-below-ten, digit-from-ten}
+use Rattle.printing.proofs.WriterLaws.{digit-below-ten, digit-from-ten}
 use borrow.Author.Needs.{needs}
-use Rattle.frames.proofs.writer.digit.Statement.{statement}
-use Rattle.frames.proofs.writer.digit.Tie as tie
+use Rattle.printing.proofs.writer.digit.Statement.{statement}
+use Rattle.printing.proofs.writer.digit.Tie as tie
 
 add-result : tie.Need-add-result
 add-result c = search needs

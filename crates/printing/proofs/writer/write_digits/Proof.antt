@@ -1,8 +1,8 @@
 -- `write_digits` meets its contract: the invariant is that the digits of `rest`, put at the front of `out`, would make the whole.
 use native.Mathlib.Omega.{arith}
-use Rattle.frames.proofs.WriterLaws.{Remaining, all-remain, digit-stored, none-remain, remaining-length}
-use Rattle.frames.proofs.writer.write_digits.Statement.{statement}
-use Rattle.frames.proofs.writer.write_digits.Tie as tie
+use Rattle.printing.proofs.WriterLaws.{Remaining, all-remain, digit-stored, none-remain, remaining-length}
+use Rattle.printing.proofs.writer.write_digits.Statement.{statement}
+use Rattle.printing.proofs.writer.write_digits.Tie as tie
 
 abbrev Inv-loop : tie.InvT-loop
 Inv-loop out₀ width n rest₀ i₀ out rest i = Remaining out₀ width n out i rest

@@ -1,9 +1,9 @@
 -- `write_field` meets its contract: what is stored at the front of the part from `at` on is stored from `at` on.
 use Rattle.frames.specs.Hex.{digits}
-use Rattle.frames.specs.WrittenLaws.{sets-part}
+use Rattle.printing.specs.WrittenLaws.{sets-part}
 use borrow.Author.Needs.{needs}
-use Rattle.frames.proofs.writer.write_field.Statement.{statement}
-use Rattle.frames.proofs.writer.write_field.Tie as tie
+use Rattle.printing.proofs.writer.write_field.Statement.{statement}
+use Rattle.printing.proofs.writer.write_field.Tie as tie
 
 sub-write-digits : tie.Need-sub-write-digits
 sub-write-digits c = search needs

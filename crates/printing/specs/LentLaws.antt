@@ -1,0 +1,25 @@
+-- A call that is lent a slice, case by case: refused by its tests, without room, or done.
+use mathlib.Core.Path.{_≡_}
+use mathlib.Core.List.{List}
+use Prim.Native.Nat.{ℕ, _≤_, _<_}
+use lib.ListN.{length}
+use borrow.Author.Tests.{lt-ltb, le-ltb}
+use Rattle.network.specs.Answers.{Answer, accepted, refused, _andThen_, judge}
+use Rattle.printing.specs.Printed.{written}
+use Rattle.printing.specs.Lent.{checkRoom, Call, called}
+
+module _ {A : Type 0} {tests : Answer (Unit {0})} (answer : A) (bytes out : List ℕ) where
+  pub call-refused : {number place : ℕ} → tests ≡ refused number place
+      → record { answer = refused number place; out = out } ≡ called tests answer bytes out
+  unfolding called _andThen_
+  call-refused e = rw e
+
+  pub call-short : tests ≡ accepted tt → {needed : ℕ} → length bytes ≡ needed → length out < needed
+      → record { answer = refused 13 0; out = out } ≡ called tests answer bytes out
+  unfolding called _andThen_ checkRoom judge
+  call-short e {needed} n h = rw (e, n, lt-ltb (length out) needed h)
+
+  pub call-done : tests ≡ accepted tt → {needed : ℕ} → length bytes ≡ needed → needed ≤ length out
+      → {after : List ℕ} → after ≡ written bytes out → record { answer = accepted answer; out = after } ≡ called tests answer bytes out
+  unfolding called _andThen_ checkRoom judge
+  call-done e {needed} n h w = rw (e, n, le-ltb (length out) needed h, w)

@@ -1,0 +1,2 @@
+// The frames that are printed, written into lent slices.
+pub mod writer;
