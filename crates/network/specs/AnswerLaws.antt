@@ -1,5 +1,5 @@
 -- Answers taken apart: what an accepted answer says of its parts.
-use mathlib.Core.Path.{_≡_, refl, sym, subst}
+use mathlib.Core.Path.{_≡_, refl, sym, ap, subst, _∙_}
 use mathlib.Core.Logic.{_↔_}
 use mathlib.Core.Bool.{Bool, true, false, _||_, true≢false}
 use mathlib.Core.List.{List, [], _∷_}
@@ -30,6 +30,10 @@ pub then-iff : (v w : Answer (Unit {0})) → ((v andThen w) ≡ accepted tt) ↔
 unfolding _andThen_
 then-iff (accepted u) w = (λ e. (refl, e), λ h. h .1)
 then-iff (refused n p) w = (λ e. no-refusal e, λ h. no-refusal (h .0))
+
+-- a verdict in the place of an answer
+pub accepted-so : {v : Verdict} {a : Answer (Unit {0})} → v ≡ Accepted → answerOf v ≡ a → a ≡ accepted tt
+accepted-so r e = sym e ∙ ap answerOf r
 
 -- a verdict in the place of the first answer
 pub refused-then : (v : Verdict) (a b : Answer (Unit {0})) (n p : ℕ) → v ≡ Refused n p → answerOf v ≡ a → answerOf v ≡ (a andThen b)

@@ -5,7 +5,7 @@ use mathlib.Core.List.{List}
 use Prim.Native.Nat.{ℕ, _*_, _≤_, _<_}
 use lib.ListN.{length}
 use Rattle.network.specs.declared.error.Verdict.{Verdict}
-use Rattle.network.specs.declared.error.Verdict.the-variants.{Accepted, Refused}
+use Rattle.network.specs.declared.error.Verdict.the-variants.{Refused}
 use Rattle.network.specs.declared.topology.PowerNetwork.{PowerNetwork}
 use Rattle.network.specs.Records.{Network, recordsOf}
 use Rattle.network.specs.Answers.{Answer, accepted, refused, answerOf, _andThen_, judge}
@@ -16,12 +16,12 @@ use Rattle.graph.specs.Rows.{rowRadial}
 use Rattle.graph.specs.FeederRows.{feederGraph, liveFlags}
 use Rattle.graph.specs.FeederRowLaws.{live-row-radial}
 use Rattle.printing.specs.Printed.{written}
-use Rattle.printing.specs.LentLaws.{call-refused, call-short, call-done}
+use Rattle.printing.specs.CallLaws.{call-refused, call-short, call-done}
 use Rattle.plan.specs.declared.pairs.PairList.{PairList}
 use Rattle.plan.specs.Plan.{State, Moves, plan, planText, checkRadial, checkPlan, planned}
 use Rattle.plan.specs.Stored.{movesIn}
+use Rattle.plan.specs.Length.{length-text}
 use Rattle.plan.proofs.PairLists.{length-moves}
-use Rattle.plan.proofs.Lines.{length-text}
 
 -- ---- answers one behind the other
 pub decides : {a : Answer (Unit {0})} (b : Answer (Unit {0})) {number place : ℕ} → a ≡ refused number place → refused number place ≡ (a andThen b)
@@ -31,9 +31,6 @@ decides b e = rw e
 pub gives-way : {a b : Answer (Unit {0})} → a ≡ accepted tt → b ≡ (a andThen b)
 unfolding _andThen_
 gives-way e = rw e
-
-pub accepted-so : {v : Verdict} {a : Answer (Unit {0})} → v ≡ Accepted → answerOf v ≡ a → a ≡ accepted tt
-accepted-so r e = sym e ∙ ap answerOf r
 
 -- ---- refusal 11
 module _ (n : PowerNetwork) (buses : length (n .buses) ≡ 256) (passed : checkRecords (recordsOf n) ≡ accepted tt) (s : State) (place : ℕ)

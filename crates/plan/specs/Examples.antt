@@ -21,7 +21,7 @@ use Rattle.network.specs.Live.{live, openOn, each, checkState, baseState}
 use Rattle.frames.specs.Hex.{digit, digits, writeFields}
 use Rattle.frames.specs.Acceptable.{frameText}
 use Rattle.printing.specs.Printed.{written, pairText}
-use Rattle.printing.specs.Lent.{checkRoom, called}
+use Rattle.printing.specs.Calls.{checkRoom, called}
 use Rattle.graph.specs.Walk.{far, neighbours, reached, enter, enterAll, turn, walkBy, walk, byOf, across, bfsPath}
 use Rattle.graph.specs.Walk as Walk
 use Rattle.graph.specs.Radial.{radial}

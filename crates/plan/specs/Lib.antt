@@ -12,4 +12,5 @@ pub mod Planner
 pub mod Accepted
 pub mod Proof
 pub mod Empty
+pub mod Length
 pub mod Examples

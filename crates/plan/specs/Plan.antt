@@ -11,7 +11,7 @@ use Rattle.network.specs.Faults.{on}
 use Rattle.network.specs.Check.{checkRecords}
 use Rattle.network.specs.Live.{live, checkState}
 use Rattle.printing.specs.Printed.{pairText}
-use Rattle.printing.specs.Lent.{Call, called}
+use Rattle.printing.specs.Calls.{Call, called}
 use Rattle.graph.specs.Walk.{bfsPath}
 use Rattle.graph.specs.Feeder.{feeder, radialIn}
 use Rattle.plan.specs.declared.planner.PlanAnswer.{PlanAnswer}

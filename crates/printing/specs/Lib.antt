@@ -1,5 +1,6 @@
 pub mod Printed
 pub mod WrittenLaws
-pub mod Lent
-pub mod LentLaws
+pub mod LineTexts
+pub mod Calls
+pub mod CallLaws
 pub mod PrintedExamples

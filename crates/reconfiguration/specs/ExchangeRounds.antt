@@ -14,13 +14,12 @@ use Rattle.network.specs.Records.{Network, recordsOf}
 use Rattle.network.specs.Answers.{accepted}
 use Rattle.network.specs.Check.{checkRecords}
 use Rattle.network.specs.InsideLaws.{check-inside}
-use Rattle.network.specs.Configuration.{configurationOf}
 use Rattle.network.specs.Live.{baseState}
 use Rattle.losses.specs.Loss.{lossIn}
 use Rattle.reconfiguration.specs.declared.exchange.Trial.{Trial}
 use Rattle.reconfiguration.specs.declared.exchange.BranchExchange.{BranchExchange}
 use Rattle.reconfiguration.specs.States.{stateOf}
-use Rattle.reconfiguration.specs.Given.{Held}
+use Rattle.reconfiguration.specs.Given.{Held, Base}
 use Rattle.reconfiguration.specs.StateLaws.{held, state-held, switches-listed, few-switches}
 use Rattle.reconfiguration.specs.Switches.{State, swapped}
 use Rattle.reconfiguration.specs.Exchange.{roundOf, Exchange, afterRound, exchangeRounds, exchange}
@@ -86,15 +85,15 @@ module _ (n : PowerNetwork) (ok : checkRecords (recordsOf n) ≡ accepted tt) wh
   base-long : length (baseState (recordsOf n)) ≡ n .«switch_count»
   base-long = base-good (recordsOf n) .long ∙ switches-listed n
 
-  pub standing-base : (c : NetworkConfiguration) (loss : Float) → c ≡ configurationOf (baseState (recordsOf n)) → loss ≡ lossIn (recordsOf n) (stateOf n c)
+  pub standing-base : (c : NetworkConfiguration) (loss : Float) → Base n c loss
       → Standing n (record { configuration = c; loss = loss; rounds = 0; ended = false })
   unfolding exchangeOf exchange
-  standing-base c loss e l =
+  standing-base c loss b =
       let z : n .«max_iterations» - 0 ≡ recordsOf n .iterations = unfold recordsOf in omega arith in
       let base : Exchange = record { state = baseState (recordsOf n); loss = lossIn (recordsOf n) (baseState (recordsOf n)); rounds = 0; ended = false } in
       record {
         at = base;
-        held-by = rw (l, e, state-held n (baseState (recordsOf n)) base-long few);
+        held-by = rw (b .0, b .1);
         long = base-long;
         within = omega arith;
         rest = ap (λ m. exchangeRounds (recordsOf n) m base) z;

@@ -22,7 +22,7 @@ use Rattle.reconfiguration.specs.FromBase.{base-byte, base-good}
 
 module _ (N : Network) where
   module _ (mask : ℕ) where
-    masked-byte : (i : ℕ) → i < size N → byte (masked N mask) i ≡ cond (isTie N i) (cond (bit mask (count (isTie N) i)) 0 1) 0
+    pub masked-byte : (i : ℕ) → i < size N → byte (masked N mask) i ≡ cond (isTie N i) (cond (bit mask (count (isTie N) i)) 0 1) 0
     unfolding masked
     masked-byte i l = getD-table _ (size N) i 0 l
 

@@ -1,17 +1,23 @@
--- What `solve` answers, and the list of operations.
+-- What `solve` answers.
 use mathlib.Core.Bool.{Bool, true, cond}
-use mathlib.Core.List.{List, [], _∷_, _++_}
+use mathlib.Core.List.{List}
 use Prim.Native.Nat.{ℕ}
-use lib.Dec.{eqb, ltb}
+use lib.Dec.{ltb}
 use lib.Ieee.{Float, binary64, sub, mul, div, lt}
 use Rattle.numbers.specs.Constants.{zero64, trillionth, hundred}
-use Rattle.numbers.specs.UpTo.{upTo}
 use Rattle.network.specs.Records.{Network}
 use Rattle.network.specs.declared.switch.ReconfigAlgorithm.{ReconfigAlgorithm}
 use Rattle.network.specs.declared.switch.ReconfigAlgorithm.the-variants.{BranchExchange, TabuSearch, Exhaustive}
+use Rattle.network.specs.Answers.{Answer, accepted, refused}
+use Rattle.network.specs.Check.{checkRecords}
 use Rattle.network.specs.Live.{baseState}
+use Rattle.printing.specs.Calls.{Call, called}
+use Rattle.graph.specs.Feeder.{radialIn}
 use Rattle.losses.specs.Loss.{lossIn}
-use Rattle.reconfiguration.specs.Switches.{State, byte, size, switch}
+use Rattle.reconfiguration.specs.declared.solve.ReconfigResult.{ReconfigResult}
+use Rattle.reconfiguration.specs.declared.solve.SolveAnswer.{SolveAnswer}
+use Rattle.reconfiguration.specs.declared.solve.SolveAnswer.the-variants.{Solved, Refused}
+use Rattle.reconfiguration.specs.Switches.{State}
 use Rattle.reconfiguration.specs.Exchange.{exchange}
 use Rattle.reconfiguration.specs.Tabu.{tabu}
 use Rattle.reconfiguration.specs.Exhaustive.{exhaustive, leastOrBase}
@@ -46,12 +52,43 @@ reduction base best = cond (lt trillionth base) (mul binary64 (div binary64 (sub
 unfoldable pub reductionOf : Network → Float
 reductionOf N = reduction (lossIn N (baseState N)) (best N .loss)
 
--- an operation of the list: the switch's id, and whether it is opened
-pub record Operation : Type 0 where
-  pub id : ℕ
-  pub opens : Bool
+-- what is answered beside the best state
+pub record Result : Type 0 where
+  pub radial : Bool
+  pub base-loss : Float
+  pub best-loss : Float
+  pub reduction : Float
+  pub iterations : ℕ
+  pub converged : Bool
 
--- "The operation list follows switch order": every switch whose byte is another than in the base
-unfoldable pub operations : Network → State → State → List Operation
-operations N from to =
-    upTo (λ l i. cond (eqb (byte from i) (byte to i)) l (l ++ (record { id = switch N i .id; opens = eqb (byte to i) 1 } ∷ []))) [] (size N)
+unfoldable pub result : Network → Result
+result N =
+    let b = best N in
+    record {
+      radial = radialIn N (b .state);
+      base-loss = lossIn N (baseState N);
+      best-loss = b .loss;
+      reduction = reductionOf N;
+      iterations = b .iterations;
+      converged = b .converged;
+    }
+
+-- the best state's bytes are written to the front of the slice
+unfoldable pub solved : Network → List ℕ → Call Result
+solved N out = called (checkRecords N) (result N) (best N .state) out
+
+-- document 01's values for each case of the code's answer
+abbrev pub resultOf : ReconfigResult → Result
+resultOf r =
+    record {
+      radial = r .«is_radial»;
+      base-loss = r .«base_losses_mw»;
+      best-loss = r .«optimized_losses_mw»;
+      reduction = r .«loss_reduction_pct»;
+      iterations = r .«n_iterations»;
+      converged = r .converged;
+    }
+
+abbrev pub solveAnswerOf : SolveAnswer → Answer Result
+solveAnswerOf (Solved r) = accepted (resultOf r)
+solveAnswerOf (Refused number place) = refused number place

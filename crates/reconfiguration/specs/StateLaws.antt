@@ -1,11 +1,12 @@
 -- Configurations and the states that they hold: the bytes behind the listed switches do not matter, and a moved byte is a moved byte of the state.
 use mathlib.Core.Path.{_≡_, refl, sym, ap, _∙_}
 use mathlib.Core.Logic.{inl}
-use mathlib.Core.Bool.{not, _&&_}
+use mathlib.Core.Bool.{cond, not, _&&_}
 use mathlib.Core.List.{List}
 use Prim.Native.Nat.{ℕ, _≤_, _<_}
 use native.Mathlib.Decide.{ℕ-discrete}
 use native.Mathlib.Omega.{arith}
+use lib.Dec.{eqb}
 use lib.ListN.{length, getD, take, set, length-take, length-set}
 use lib.Seq.{take-all, take-set-lt, getD-take, getD-set-same, getD-set-other}
 use Rattle.numbers.specs.UpTo.{table}
@@ -22,7 +23,7 @@ use Rattle.network.specs.LiveLaws.{open-take}
 use Rattle.graph.specs.FeederRows.{liveFlags}
 use Rattle.reconfiguration.specs.States.{stateOf}
 use Rattle.reconfiguration.specs.Given.{Held}
-use Rattle.reconfiguration.specs.Switches.{byte, switch, swapped}
+use Rattle.reconfiguration.specs.Switches.{byte, switch, swapped, toggled}
 
 module _ (n : PowerNetwork) where
   pub switches-listed : length (recordsOf n .switches) ≡ n .«switch_count»
@@ -77,19 +78,39 @@ set-held s i b l m =
         rw (e, getD-set-same s i b 0 l) (getD-set-same (table (λ j. getD s j 0) 512) i b 0 h)
     go j k (no d) = getD-set-other (table (λ j. getD s j 0) 512) i j b 0 d ∙ getD-table _ 512 j 0 k ∙ sym (getD-set-other s i j b 0 d)
 
-module _ (n : PowerNetwork) (c : NetworkConfiguration) (tie section : ℕ) (a : tie < n .«switch_count») (b : section < n .«switch_count») where
-  -- a tie closed and a section opened
-  pub swapped-state : stateOf n (record { switches = set (set (c .switches) tie 0) section 1 }) ≡ swapped (stateOf n c) tie section
-  unfolding stateOf swapped
-  swapped-state = take-set-lt (n .«switch_count») (set (c .switches) tie 0) section 1 b ∙ ap (λ l. set l section 1) (take-set-lt (n .«switch_count») (c .switches) tie 0 a)
+module _ (n : PowerNetwork) (c : NetworkConfiguration) (i b : ℕ) (l : i < n .«switch_count») where
+  set-state : stateOf n (record { switches = set (c .switches) i b }) ≡ set (stateOf n c) i b
+  unfolding stateOf
+  set-state = take-set-lt (n .«switch_count») (c .switches) i b l
 
-  pub swapped-held : Held n c → n .«switch_count» ≤ 512 → record { switches = set (set (c .switches) tie 0) section 1 } ≡ configurationOf (swapped (stateOf n c) tie section)
+  module _ (h : Held n c) (few : n .«switch_count» ≤ 512) where
+    set-configuration : record { switches = set (c .switches) i b } ≡ configurationOf (set (stateOf n c) i b)
+    set-configuration =
+        let long = held-long n c h few in
+        ap (λ bytes. record { switches = bytes }) (ap (λ d. set (d .switches) i b) h ∙ set-held (stateOf n c) i b (omega arith) (omega arith))
+
+    set-holds : Held n (record { switches = set (c .switches) i b })
+    set-holds = set-configuration ∙ ap configurationOf (sym set-state)
+
+-- a tie closed and a section opened
+module _ (n : PowerNetwork) (c : NetworkConfiguration) (tie section : ℕ) (a : tie < n .«switch_count») (b : section < n .«switch_count») where
+  abbrev closed : NetworkConfiguration
+  closed = record { switches = set (c .switches) tie 0 }
+
+  pub swapped-state : stateOf n (record { switches = set (closed .switches) section 1 }) ≡ swapped (stateOf n c) tie section
   unfolding swapped
-  swapped-held h l =
-      let long = held-long n c h l in
-      let s = stateOf n c in
-      let long′ : length (set s tie 0) ≡ n .«switch_count» = length-set s tie 0 ∙ long in
-      ap (λ bytes. record { switches = bytes })
-      (ap (λ d. set (set (d .switches) tie 0) section 1) h
-      ∙ ap (λ bytes. set bytes section 1) (set-held s tie 0 (omega arith) (omega arith))
-      ∙ set-held (set s tie 0) section 1 (omega arith) (omega arith))
+  swapped-state = set-state n closed section 1 b ∙ ap (λ s. set s section 1) (set-state n c tie 0 a)
+
+  pub swapped-held : Held n c → n .«switch_count» ≤ 512 → record { switches = set (closed .switches) section 1 } ≡ configurationOf (swapped (stateOf n c) tie section)
+  unfolding swapped
+  swapped-held h l = set-configuration n closed section 1 b (set-holds n c tie 0 a h l) l ∙ ap (λ s. configurationOf (set s section 1)) (set-state n c tie 0 a)
+
+-- one switch moved
+module _ (n : PowerNetwork) (c : NetworkConfiguration) (i : ℕ) (l : i < n .«switch_count») where
+  pub toggled-state : stateOf n (record { switches = toggled (c .switches) i }) ≡ toggled (stateOf n c) i
+  unfolding toggled
+  toggled-state = set-state n c i _ l ∙ ap (λ v. set (stateOf n c) i (cond (eqb v 1) 0 1)) (sym (byte-at n c i l))
+
+  pub toggled-held : Held n c → n .«switch_count» ≤ 512 → record { switches = toggled (c .switches) i } ≡ configurationOf (toggled (stateOf n c) i)
+  unfolding toggled
+  toggled-held h few = set-configuration n c i _ l h few ∙ ap (λ v. configurationOf (set (stateOf n c) i (cond (eqb v 1) 0 1))) (sym (byte-at n c i l))

@@ -13,7 +13,7 @@ ghost use Rattle.graph.specs.FeederRows.{liveFlags};
 ghost use Rattle.numbers.specs.Choose.{firstSome};
 ghost use Rattle.numbers.specs.Constants.{billionth};
 ghost use Rattle.reconfiguration.specs.States.{stateOf};
-ghost use Rattle.reconfiguration.specs.Given.{Given, Held};
+ghost use Rattle.reconfiguration.specs.Given.{Given, Held, Base};
 ghost use Rattle.reconfiguration.specs.Switches.{State};
 ghost use Rattle.reconfiguration.specs.Exchange.{Exchange, sectionOf, swapWith, trial, roundOf, afterRound, exchange};
 ghost use Rattle.reconfiguration.specs.ExchangeValues.{sectionAt, trialOf, exchangeOf, seeing};
@@ -24,7 +24,6 @@ use graph::rows::Graph;
 use graph::walks::Path;
 use network::bus::Power;
 use network::configuration::NetworkConfiguration;
-use network::configuration::base_configuration;
 use network::configuration::live_branches;
 use network::switch::Switch;
 use network::topology::PowerNetwork;
@@ -263,14 +262,15 @@ pub(crate) fn branch_exchange_solve(
     network: PowerNetwork,
     graph: Graph,
     loads: [Power; 256],
+    base: NetworkConfiguration,
+    base_loss: f64,
 ) -> BranchExchange
-    requires { ⌜ Given network graph loads ⌝ }
+    requires { ⌜ Given network graph loads × Base network base «base_loss» ⌝ }
     ensures { λ r. ⌜ r ≡ exchangeOf (exchange (recordsOf network)) ⌝ }
 {
-    let base = base_configuration(network);
     let mut done = BranchExchange {
         configuration: base,
-        loss: loss(network, graph, loads, base),
+        loss: base_loss,
         rounds: 0,
         ended: false,
     };

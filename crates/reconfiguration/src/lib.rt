@@ -1,3 +1,8 @@
 // The searches, their answer, and the list of operations.
 mod exchange;
+mod exhaustive;
+pub mod operations;
+pub mod solve;
 mod states;
+mod tabu;
+mod tabu_list;

@@ -1,5 +1,6 @@
 -- `plan` meets its contract: it is refused, has no room, or writes the lines of the pairs.
-use Rattle.plan.proofs.Answering.{accepted-so, not-accepted, no-room, lines-written}
+use Rattle.network.specs.AnswerLaws.{accepted-so}
+use Rattle.plan.proofs.Answering.{not-accepted, no-room, lines-written}
 use borrow.Author.Needs.{needs}
 use Rattle.plan.proofs.planner.plan.Statement.{statement}
 use Rattle.plan.proofs.planner.plan.Tie as tie

@@ -1,8 +1,8 @@
--- `write_pairs` meets its contract. The invariant: the lines of the first i pairs have been written; the step is `lines-more`.
+-- `write_pairs` meets its contract. The invariant: the lines of the first i pairs have been written; the step is `lines-further`.
 use Prim.Native.Nat.{_-_}
 use native.Mathlib.Omega.{arith}
 use borrow.Author.Needs.{needs}
-use Rattle.plan.proofs.Lines.{Lines, lines-none, lines-more, lines-length, lines-all}
+use Rattle.plan.proofs.Lines.{Lines, lines-none, lines-further, lines-length, lines-all}
 use Rattle.plan.proofs.planner.write_pairs.Statement.{statement}
 use Rattle.plan.proofs.planner.write_pairs.Tie as tie
 
@@ -64,7 +64,7 @@ loop-again c =
     let w = c .before .before in
     let t = w .before .before .before .before in
     let s = t .before .before .before .before in
-    lines-more _ _ _ (t .before .loop .inv) (s .pre .1) (omega arith) (w .write-pair .ensures)
+    lines-further _ _ _ (t .before .loop .inv) (s .pre .1) (omega arith) (w .write-pair .ensures)
 
 same-length : tie.Need-same-length Inv-loop μ-loop
 same-length c = lines-length _ _ _ (c .before .loop .inv)

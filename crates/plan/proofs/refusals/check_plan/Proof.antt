@@ -1,8 +1,7 @@
 -- `check_plan` meets its contract: the first of its parts that refuses decides.
 use mathlib.Core.Path.{_∙_}
-use Rattle.network.specs.AnswerLaws.{refused-then, accepted-then}
+use Rattle.network.specs.AnswerLaws.{accepted-so, refused-then, accepted-then}
 use Rattle.plan.specs.Plan.{checkPlan}
-use Rattle.plan.proofs.Answering.{accepted-so}
 use borrow.Author.Needs.{needs}
 use Rattle.plan.proofs.refusals.check_plan.Statement.{statement}
 use Rattle.plan.proofs.refusals.check_plan.Tie as tie

@@ -1,45 +1,36 @@
 -- `branch_exchange_solve` meets its contract: the rounds that are left lead from where it stands to the definition's answer. The measure is the rounds that are left.
 use Prim.Native.Nat.{_-_}
 use native.Mathlib.Omega.{arith}
-use borrow.Author.Needs.{needs}
 use Rattle.reconfiguration.specs.ExchangeRounds.{Standing, standing-base, standing-held, standing-ended, standing-done, standing-next, rounds-few, rounds-rise}
 use Rattle.reconfiguration.proofs.exchange.branch_exchange_solve.Statement.{statement}
 use Rattle.reconfiguration.proofs.exchange.branch_exchange_solve.Tie as tie
 
 abbrev Inv-loop : tie.InvT-loop
-Inv-loop network graph loads done₀ done = Standing network done
+Inv-loop network graph loads base-loss done₀ done = Standing network done
 
 abbrev μ-loop : tie.MeasureT-loop
-μ-loop network graph loads done₀ done = network .«max_iterations» - done .rounds
-
-base-configuration-requires : tie.Need-base-configuration-requires Inv-loop μ-loop
-base-configuration-requires c κs = search needs
-
-loss-requires : tie.Need-loss-requires Inv-loop μ-loop
-loss-requires c κs = c .before .pre
+μ-loop network graph loads base-loss done₀ done = network .«max_iterations» - done .rounds
 
 loop-holds : tie.Need-loop-holds Inv-loop μ-loop
-loop-holds c =
-    let start = c .before .before in
-    standing-base (start .args .network) (start .pre .0) _ _ (c .before .base-configuration .ensures) (c .loss .ensures)
+loop-holds c = standing-base (c .args .network) (c .pre .0 .0) _ _ (c .pre .1)
 
 returns : tie.Need-returns Inv-loop μ-loop
 returns c =
     let at = c .before .before .before .before in
-    let start = at .before .before .before in
-    standing-ended (start .args .network) (start .pre .0) (at .loop .done) (at .loop .inv) (c .if2 .taken)
+    let start = at .before in
+    standing-ended (start .args .network) (start .pre .0 .0) (at .loop .done) (at .loop .inv) (c .if2 .taken)
 
 branch-exchange-step-requires : tie.Need-branch-exchange-step-requires Inv-loop μ-loop
 branch-exchange-step-requires c κs =
     let at = c .before .before .before .before .before in
-    let start = at .before .before .before in
-    (start .pre, standing-held (start .args .network) (start .pre .0) (at .loop .done) (at .loop .inv))
+    let start = at .before in
+    (start .pre .0, standing-held (start .args .network) (start .pre .0 .0) (at .loop .done) (at .loop .inv))
 
 after-round-requires : tie.Need-after-round-requires Inv-loop μ-loop
 after-round-requires c κs =
     let more = c .before .before .before in
-    let start = more .before .before .before .before .before .before in
-    omega (arith, more .if1 .taken, rounds-few (start .args .network) (start .pre .0))
+    let start = more .before .before .before .before in
+    omega (arith, more .if1 .taken, rounds-few (start .args .network) (start .pre .0 .0))
 
 loop-less : tie.Need-loop-less Inv-loop μ-loop
 loop-less c =
@@ -47,8 +38,8 @@ loop-less c =
     let goes = step .before .before in
     let more = goes .before in
     let at = more .before .before .before in
-    let start = at .before .before .before in
-    omega (arith, more .if1 .taken, rounds-rise (start .args .network) (start .pre .0) (at .loop .done) (at .loop .inv) (more .if1 .taken) (goes .if2 .left) _ (step .branch-exchange-step .ensures) _ (c .after-round .ensures))
+    let start = at .before in
+    omega (arith, more .if1 .taken, rounds-rise (start .args .network) (start .pre .0 .0) (at .loop .done) (at .loop .inv) (more .if1 .taken) (goes .if2 .left) _ (step .branch-exchange-step .ensures) _ (c .after-round .ensures))
 
 loop-again : tie.Need-loop-again Inv-loop μ-loop
 loop-again c =
@@ -56,14 +47,14 @@ loop-again c =
     let goes = step .before .before in
     let more = goes .before in
     let at = more .before .before .before in
-    let start = at .before .before .before in
-    standing-next (start .args .network) (start .pre .0) (at .loop .done) (at .loop .inv) (more .if1 .taken) (goes .if2 .left) _ (step .branch-exchange-step .ensures) _ (c .after-round .ensures)
+    let start = at .before in
+    standing-next (start .args .network) (start .pre .0 .0) (at .loop .done) (at .loop .inv) (more .if1 .taken) (goes .if2 .left) _ (step .branch-exchange-step .ensures) _ (c .after-round .ensures)
 
 returns-2 : tie.Need-returns-2 Inv-loop μ-loop
 returns-2 c =
     let at = c .before .before .before in
-    let start = at .before .before .before in
-    standing-done (start .args .network) (start .pre .0) (at .loop .done) (at .loop .inv) (λ h. omega arith)
+    let start = at .before in
+    standing-done (start .args .network) (start .pre .0 .0) (at .loop .done) (at .loop .inv) (λ h. omega arith)
 
 pub branch-exchange-solve-spec : {M : Type 1} → statement M
 branch-exchange-solve-spec =
@@ -71,8 +62,6 @@ branch-exchange-solve-spec =
     (tie.spec
     Inv-loop
     μ-loop
-    base-configuration-requires
-    loss-requires
     loop-holds
     returns
     branch-exchange-step-requires

@@ -6,7 +6,7 @@ use lib.ListN.{length}
 use borrow.Author.Tests.{lt-ltb, le-ltb}
 use Rattle.network.specs.Answers.{Answer, accepted, refused, _andThen_, judge}
 use Rattle.printing.specs.Printed.{written}
-use Rattle.printing.specs.Lent.{checkRoom, Call, called}
+use Rattle.printing.specs.Calls.{checkRoom, Call, called}
 
 module _ {A : Type 0} {tests : Answer (Unit {0})} (answer : A) (bytes out : List ℕ) where
   pub call-refused : {number place : ℕ} → tests ≡ refused number place

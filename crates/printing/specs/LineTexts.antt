@@ -1,0 +1,18 @@
+-- Lines of one length, one for each entry of a list.
+use mathlib.Core.Path.{_≡_, refl, sym}
+use mathlib.Core.List.{List, [], _∷_, _++_, flatMap, append-assoc, append-nil}
+use Prim.Native.Nat.{ℕ, _*_}
+use native.Mathlib.Omega.{arith}
+use native.Mathlib.Nat.{mul-suc, mul-zero}
+use lib.ListN.{length, length-append}
+
+module _ {A : Type 0} (line : A → List ℕ) where
+  pub lines-more : (l : List A) (x : A) → flatMap line (l ++ (x ∷ [])) ≡ flatMap line l ++ line x
+  unfolding flatMap
+  lines-more [] x = append-nil (line x)
+  lines-more (y ∷ l) x = rw (lines-more l x) (sym (append-assoc (line y) (flatMap line l) (line x)))
+
+  pub length-lines : (width : ℕ) → ((x : A) → length (line x) ≡ width) → (l : List A) → length (flatMap line l) ≡ width * length l
+  unfolding flatMap
+  length-lines width h [] = rw mul-zero
+  length-lines width h (x ∷ l) = simp length-append (rw (h x, length-lines width h l, mul-suc) (omega arith))

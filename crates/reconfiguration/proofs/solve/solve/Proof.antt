@@ -1,0 +1,64 @@
+-- `solve` meets its contract: it is refused, has no room, or writes the best state's bytes.
+use borrow.Author.Needs.{needs}
+use Rattle.network.specs.AnswerLaws.{accepted-so}
+use Rattle.reconfiguration.specs.StateLaws.{few-switches}
+use Rattle.reconfiguration.specs.SolveLaws.{not-solved, no-room, all-solved}
+use Rattle.reconfiguration.proofs.solve.solve.Statement.{statement}
+use Rattle.reconfiguration.proofs.solve.solve.Tie as tie
+
+check-requires : tie.Need-check-requires
+check-requires c κs = search needs
+
+enum-known-number : tie.Need-enum-known-number
+enum-known-number c = search needs
+
+enum-told : tie.Need-enum-told
+enum-told c = search needs
+
+wide16-requires : tie.Need-wide16-requires
+wide16-requires c κs = search needs
+
+returns : tie.Need-returns
+returns c =
+    let t = c .before .before in
+    no-room _ _ (accepted-so (t .enum-told .given .1) (t .before .before .check .ensures)) (rw (c .before .wide16 .ensures .0) at (c .if1 .taken))
+
+solve-checked-requires : tie.Need-solve-checked-requires
+solve-checked-requires c κs =
+    let t = c .before .before in
+    accepted-so (t .enum-told .given .1) (t .before .before .check .ensures)
+
+write-state-requires : tie.Need-write-state-requires
+write-state-requires c κs =
+    let room = c .before .before .before in
+    let t = room .before .before in
+    (few-switches _ (accepted-so (t .enum-told .given .1) (t .before .before .check .ensures)), rw (room .before .wide16 .ensures .0) at (room .if1 .left))
+
+returns-2 : tie.Need-returns-2
+returns-2 c = not-solved _ _ (c .before .number .given .1) (c .before .before .before .check .ensures)
+
+same-length : tie.Need-same-length
+same-length c = search needs
+
+returns-3 : tie.Need-returns-3
+returns-3 c =
+    let w = c .before .before .before in
+    let s = w .before .before .before in
+    let room = s .before in
+    let t = room .before .before in
+    all-solved _ _ (accepted-so (t .enum-told .given .1) (t .before .before .check .ensures)) (rw (room .before .wide16 .ensures .0) at (room .if1 .left)) (s .solve-checked .ensures .0) (s .solve-checked .ensures .1) (w .write-state .ensures)
+
+pub solve-spec : {M : Type 1} → statement M
+solve-spec =
+    tie.close
+    (tie.spec
+    check-requires
+    enum-known-number
+    enum-told
+    wide16-requires
+    returns
+    solve-checked-requires
+    write-state-requires
+    returns-2
+    same-length
+    returns-3)

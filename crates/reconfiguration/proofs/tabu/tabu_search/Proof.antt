@@ -1,0 +1,74 @@
+-- `tabu_search` meets its contract: the rounds that are left lead from where it stands to the definition's answer. The measure is the rounds that are left.
+use Prim.Native.Nat.{_-_}
+use native.Mathlib.Omega.{arith}
+use borrow.Author.Needs.{needs}
+use Rattle.reconfiguration.specs.ExchangeRounds.{rounds-few}
+use Rattle.reconfiguration.specs.TabuMoves.{barred-held}
+use Rattle.reconfiguration.specs.TabuRounds.{Standing, standing-base, standing-ended, standing-done, standing-next}
+use Rattle.reconfiguration.proofs.tabu.tabu_search.Statement.{statement}
+use Rattle.reconfiguration.proofs.tabu.tabu_search.Tie as tie
+
+abbrev Inv-loop : tie.InvT-loop
+Inv-loop network graph loads base-loss search₀ round₀ search round = Standing network round search
+
+abbrev μ-loop : tie.MeasureT-loop
+μ-loop network graph loads base-loss search₀ round₀ search round = network .«max_iterations» - round
+
+at-base-requires : tie.Need-at-base-requires Inv-loop μ-loop
+at-base-requires c κs = (c .pre .0 .0, c .pre .0 .1, c .pre .1)
+
+loop-holds : tie.Need-loop-holds Inv-loop μ-loop
+loop-holds c = standing-base _ _ (c .at-base .ensures)
+
+returns : tie.Need-returns Inv-loop μ-loop
+returns c =
+    let at = c .before .before .before in
+    standing-ended _ _ (at .loop .round) (at .loop .inv) (c .if2 .taken)
+
+best-move-requires : tie.Need-best-move-requires Inv-loop μ-loop
+best-move-requires c κs =
+    let at = c .before .before .before in
+    (at .before .before .pre .0, barred-held _ _ _ (at .loop .inv .stands))
+
+after-move-requires : tie.Need-after-move-requires Inv-loop μ-loop
+after-move-requires c κs =
+    let at = c .before .before .before .before in
+    barred-held _ _ _ (at .loop .inv .stands)
+
+add-round : tie.Need-add-round Inv-loop μ-loop
+add-round c =
+    let more = c .before .before .before in
+    let start = more .before .before .before .before in
+    omega (arith, more .if1 .taken, rounds-few (start .args .network) (start .pre .0 .0))
+
+loop-less : tie.Need-loop-less Inv-loop μ-loop
+loop-less c = search needs
+
+loop-again : tie.Need-loop-again Inv-loop μ-loop
+loop-again c =
+    let step = c .before in
+    let goes = step .before in
+    let more = goes .before in
+    let at = more .before .before in
+    standing-next _ _ (at .loop .round) (at .loop .inv) (more .if1 .taken) (goes .if2 .left) _ (step .best-move .ensures) _ (c .after-move .ensures)
+
+returns-2 : tie.Need-returns-2 Inv-loop μ-loop
+returns-2 c =
+    let at = c .before .before in
+    standing-done _ _ (at .loop .round) (at .loop .inv) (λ h. omega arith)
+
+pub tabu-search-spec : {M : Type 1} → statement M
+tabu-search-spec =
+    tie.close
+    (tie.spec
+    Inv-loop
+    μ-loop
+    at-base-requires
+    loop-holds
+    returns
+    best-move-requires
+    after-move-requires
+    add-round
+    loop-less
+    loop-again
+    returns-2)

@@ -1,0 +1,119 @@
+-- What the code of `solve` holds is what the definition says: the search by each method, the base, the result, the bytes of a state, and the call case by case.
+use mathlib.Core.Path.{_≡_, refl, sym, ap, _∙_}
+use mathlib.Core.Bool.{Bool, true}
+use mathlib.Core.List.{List, [], _∷_}
+use Prim.Native.Nat.{ℕ, _+_, _≤_, _<_}
+use native.Mathlib.Numerals.{add-one}
+use native.Mathlib.Nat.{zero-add}
+use native.Mathlib.Omega.{arith}
+use lib.Dec.{ltb}
+use lib.Ieee.{Float}
+use lib.ListN.{length, getD, take, set, length-take}
+use lib.Seq.{sets, take-suc}
+use Rattle.network.specs.declared.configuration.NetworkConfiguration.{NetworkConfiguration}
+use Rattle.network.specs.declared.error.Verdict.{Verdict}
+use Rattle.network.specs.declared.error.Verdict.the-variants.{Refused}
+use Rattle.network.specs.declared.switch.ReconfigAlgorithm.{ReconfigAlgorithm}
+use Rattle.network.specs.declared.switch.ReconfigAlgorithm.the-variants.{BranchExchange, TabuSearch, Exhaustive}
+use Rattle.network.specs.declared.topology.PowerNetwork.{PowerNetwork}
+use Rattle.network.specs.Records.{Network, recordsOf}
+use Rattle.network.specs.Answers.{accepted, refused, answerOf}
+use Rattle.network.specs.Check.{checkRecords}
+use Rattle.network.specs.Configuration.{configurationOf}
+use Rattle.network.specs.Live.{baseState}
+use Rattle.graph.specs.Feeder.{radialIn}
+use Rattle.losses.specs.Loss.{lossIn}
+use Rattle.printing.specs.Printed.{written}
+use Rattle.printing.specs.WrittenLaws.{sets-append, written-sets}
+use Rattle.printing.specs.CallLaws.{call-refused, call-short, call-done}
+use Rattle.reconfiguration.specs.declared.exchange.BranchExchange as exchange-code
+use Rattle.reconfiguration.specs.declared.tabu.TabuSearch as tabu-code
+use Rattle.reconfiguration.specs.declared.exhaustive.ExhaustiveSearch as exhaustive-code
+use Rattle.reconfiguration.specs.declared.solve.Found.{Found}
+use Rattle.reconfiguration.specs.States.{stateOf}
+use Rattle.reconfiguration.specs.Given.{Base}
+use Rattle.reconfiguration.specs.StateLaws.{switches-listed, few-switches, state-held}
+use Rattle.reconfiguration.specs.FromBase.{base-good}
+use Rattle.reconfiguration.specs.Exchange.{exchange}
+use Rattle.reconfiguration.specs.ExchangeValues.{exchangeOf}
+use Rattle.reconfiguration.specs.Tabu.{tabu}
+use Rattle.reconfiguration.specs.TabuValues.{tabuOf}
+use Rattle.reconfiguration.specs.Exhaustive.{exhaustive}
+use Rattle.reconfiguration.specs.ExhaustiveValues.{exhaustiveOf}
+use Rattle.reconfiguration.specs.Solve.{bestBy, best, reduction, reductionOf, Result, result, solved}
+use Rattle.reconfiguration.specs.SolveValues.{foundOf}
+use Rattle.reconfiguration.specs.Answers.{best-good}
+
+module _ (n : PowerNetwork) where
+  abbrev N : Network
+  N = recordsOf n
+
+  -- ---- the search by each method
+  by-method : {a : ReconfigAlgorithm} → n .algorithm ≡ a → foundOf (bestBy a N) ≡ foundOf (best N)
+  unfolding best recordsOf
+  by-method e = ap (λ b. foundOf (bestBy b N)) (sym e)
+
+  pub by-exchange : n .algorithm ≡ BranchExchange → {x : exchange-code.BranchExchange} → x ≡ exchangeOf (exchange N)
+      → record { configuration = x .configuration; loss = x .loss; iterations = x .rounds; converged = ltb (x .rounds) (n .«max_iterations») } ≡ foundOf (best N)
+  unfolding bestBy foundOf exchangeOf recordsOf
+  by-exchange a e = rw e refl ∙ by-method a
+
+  pub by-tabu : n .algorithm ≡ TabuSearch → {x : tabu-code.TabuSearch} → x ≡ tabuOf N (tabu N)
+      → record { configuration = x .best; loss = x .«best_loss»; iterations = n .«max_iterations»; converged = true } ≡ foundOf (best N)
+  unfolding bestBy foundOf tabuOf recordsOf
+  by-tabu a e = rw e refl ∙ by-method a
+
+  pub by-exhaustive : n .algorithm ≡ Exhaustive → {x : exhaustive-code.ExhaustiveSearch} → x ≡ exhaustiveOf N (exhaustive N)
+      → record { configuration = x .configuration; loss = x .loss; iterations = x .radial; converged = true } ≡ foundOf (best N)
+  unfolding bestBy foundOf exhaustiveOf
+  by-exhaustive a e = rw e refl ∙ by-method a
+
+  -- ---- of a checked network
+  module _ (ok : checkRecords N ≡ accepted tt) where
+    pub base-given : {base : NetworkConfiguration} {loss : Float} → base ≡ configurationOf (baseState N) → loss ≡ lossIn N (stateOf n base) → Base n base loss
+    base-given e l = (e, l ∙ ap (lossIn N) (ap (stateOf n) e ∙ state-held n (baseState N) (base-good N .long ∙ switches-listed n) (few-switches n ok)))
+
+    pub best-long : length (best N .state) ≡ n .«switch_count»
+    best-long = best-good N .long ∙ switches-listed n
+
+    pub best-held : {c : NetworkConfiguration} → c ≡ configurationOf (best N .state) → stateOf n c ≡ best N .state
+    best-held e = ap (stateOf n) e ∙ state-held n (best N .state) best-long (few-switches n ok)
+
+    module _ {found : Found} (f : found ≡ foundOf (best N)) where
+      pub found-state : found .configuration ≡ configurationOf (best N .state)
+      unfolding foundOf
+      found-state = ap (λ x. x .configuration) f
+
+      pub found-result : {radial : Bool} {base percent : Float} → radial ≡ radialIn N (stateOf n (found .configuration)) → base ≡ lossIn N (baseState N) → percent ≡ reduction base (found .loss)
+          → record { radial = radial; base-loss = base; best-loss = found .loss; reduction = percent; iterations = found .iterations; converged = found .converged } ≡ result N
+      unfolding result reductionOf foundOf
+      found-result q b p = rw (p, q, best-held found-state, b, f)
+
+-- ---- the bytes of a state, one after the other
+pub bytes-more : (bytes out : List ℕ) (i : ℕ) → i < length bytes → set (sets out 0 (take i bytes)) i (getD bytes i 0) ≡ sets out 0 (take (i + 1) bytes)
+bytes-more bytes out i h =
+    let long : length (take i bytes) ≡ i = length-take i bytes ∙ omega arith in
+    let more = sets-append out 0 (take i bytes) (getD bytes i 0 ∷ []) in
+    rw (add-one, take-suc bytes i 0 h) (rw (zero-add, long) at more)
+
+pub bytes-all : (bytes out : List ℕ) (i n : ℕ) {now : List ℕ} → i ≡ n → n ≤ length out → now ≡ sets out 0 (take i bytes) → now ≡ written (take n bytes) out
+bytes-all bytes out i n e room w = w ∙ rw e (sym (written-sets (take n bytes) out (simp length-take (omega arith))))
+
+-- ---- the call
+module _ (n : PowerNetwork) (out : List ℕ) where
+  abbrev M : Network
+  M = recordsOf n
+
+  pub not-solved : {v : Verdict} {number place : ℕ} → v ≡ Refused number place → answerOf v ≡ checkRecords M → record { answer = refused number place; out = out } ≡ solved M out
+  unfolding solved
+  not-solved r e = call-refused (result M) (best M .state) out (sym e ∙ ap answerOf r)
+
+  module _ (ok : checkRecords M ≡ accepted tt) where
+    pub no-room : length out < n .«switch_count» → record { answer = refused 13 0; out = out } ≡ solved M out
+    unfolding solved
+    no-room h = call-short (result M) (best M .state) out ok (best-long n ok) h
+
+    pub all-solved : n .«switch_count» ≤ length out → {c : NetworkConfiguration} → c ≡ configurationOf (best M .state) → {r : Result} → r ≡ result M
+        → {after : List ℕ} → after ≡ written (take (n .«switch_count») (c .switches)) out → record { answer = accepted r; out = after } ≡ solved M out
+    unfolding solved
+    all-solved h e q w = rw q (call-done (result M) (best M .state) out ok (best-long n ok) h (w ∙ ap (λ bytes. written bytes out) (unfold stateOf in best-held n ok e)))

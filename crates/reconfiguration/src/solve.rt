@@ -1,0 +1,174 @@
+// Translated and changed from src/network/reconfiguration.rs of oxigrid. Copyright 2024-2026 COOLJAPAN OU (Team Kitasan), Apache License 2.0.
+// `solve`: the search that the network asks for, from the base, and what it answers.
+ghost use mathlib.Core.Path.{_≡_};
+ghost use Prim.Native.Nat.{_≤_};
+ghost use lib.ListN.{length, take};
+ghost use Rattle.printing.specs.Printed.{written};
+ghost use Rattle.network.specs.Answers.{accepted};
+ghost use Rattle.network.specs.Check.{checkRecords};
+ghost use Rattle.network.specs.Configuration.{configurationOf};
+ghost use Rattle.network.specs.Records.{recordsOf};
+ghost use Rattle.reconfiguration.specs.Given.{Given, Base};
+ghost use Rattle.reconfiguration.specs.Solve.{best, reduction, result, solved, resultOf, solveAnswerOf};
+ghost use Rattle.reconfiguration.specs.SolveValues.{foundOf};
+use crate::exchange::branch_exchange_solve;
+use crate::exhaustive::exhaustive_solve;
+use crate::states::is_radial;
+use crate::states::loads_of;
+use crate::states::loss;
+use crate::tabu::tabu_search;
+use graph::feeder::graph_of;
+use graph::rows::Graph;
+use network::bus::Power;
+use network::check::check;
+use network::configuration::NetworkConfiguration;
+use network::configuration::base_configuration;
+use network::error::Verdict;
+use network::switch::ReconfigAlgorithm;
+use network::topology::PowerNetwork;
+use numbers::wide16;
+
+// What is answered beside the best state.
+pub struct ReconfigResult {
+    pub is_radial: bool,
+    pub base_losses_mw: f64,
+    pub optimized_losses_mw: f64,
+    pub loss_reduction_pct: f64,
+    pub n_iterations: u16,
+    pub converged: bool,
+}
+
+// The result of a search, or document 01's refusal number and place.
+pub enum SolveAnswer {
+    Solved(ReconfigResult),
+    Refused { number: u8, place: u16 },
+}
+
+// What a search found.
+struct Found {
+    configuration: NetworkConfiguration,
+    loss: f64,
+    iterations: u16,
+    converged: bool,
+}
+
+// The best state, and what is answered beside it.
+struct Solution {
+    configuration: NetworkConfiguration,
+    result: ReconfigResult,
+}
+
+// The search that the network asks for.
+fn search(
+    network: PowerNetwork,
+    graph: Graph,
+    loads: [Power; 256],
+    base: NetworkConfiguration,
+    base_loss: f64,
+) -> Found
+    requires { ⌜ Given network graph loads × Base network base «base_loss» ⌝ }
+    ensures { λ r. ⌜ r ≡ foundOf (best (recordsOf network)) ⌝ }
+{
+    let algorithm = network.algorithm;
+    match algorithm {
+        ReconfigAlgorithm::BranchExchange => {
+            let found = branch_exchange_solve(network, graph, loads, base, base_loss);
+            let configuration = found.configuration;
+            Found {
+                configuration,
+                loss: found.loss,
+                iterations: found.rounds,
+                converged: found.rounds < network.max_iterations,
+            }
+        }
+        ReconfigAlgorithm::TabuSearch => {
+            let found = tabu_search(network, graph, loads, base, base_loss);
+            let configuration = found.best;
+            Found {
+                configuration,
+                loss: found.best_loss,
+                iterations: network.max_iterations,
+                converged: true,
+            }
+        }
+        ReconfigAlgorithm::Exhaustive => {
+            let found = exhaustive_solve(network, graph, loads, base, base_loss);
+            let configuration = found.configuration;
+            Found {
+                configuration,
+                loss: found.loss,
+                iterations: found.radial,
+                converged: true,
+            }
+        }
+    }
+}
+
+// By how many per cent the best loss is below the base's.
+fn reduction(base: f64, best: f64) -> f64
+    ensures { λ r. ⌜ r ≡ reduction base best ⌝ }
+{
+    if base > 1e-12 {
+        return (base - best) / base * 100.0;
+    }
+    0.0
+}
+
+// The rows and the loads are made once, and the base's loss is taken once.
+fn solve_checked(network: PowerNetwork) -> Solution
+    requires { ⌜ checkRecords (recordsOf network) ≡ accepted tt ⌝ }
+    ensures { λ r. ⌜ (r .configuration ≡ configurationOf (best (recordsOf network) .state)) × (resultOf (r .result) ≡ result (recordsOf network)) ⌝ }
+{
+    let graph = graph_of(network);
+    let loads = loads_of(network);
+    let base = base_configuration(network);
+    let base_loss = loss(network, graph, loads, base);
+    let found = search(network, graph, loads, base, base_loss);
+    let best = found.configuration;
+    Solution {
+        configuration: best,
+        result: ReconfigResult {
+            is_radial: is_radial(network, graph, best),
+            base_losses_mw: base_loss,
+            optimized_losses_mw: found.loss,
+            loss_reduction_pct: reduction(base_loss, found.loss),
+            n_iterations: found.iterations,
+            converged: found.converged,
+        },
+    }
+}
+
+// The bytes of the listed switches at the front of a slice.
+fn write_state(out: &mut [u8], configuration: NetworkConfiguration, switch_count: u16)
+    requires { ⌜ («switch_count» ≤ 512) × («switch_count» ≤ length (now out)) ⌝ }
+    ensures { λ _. ⌜ now (out .exit) ≡ written (take «switch_count» (configuration .switches)) (now (out .entry)) ⌝ }
+{
+    let count = wide16(switch_count);
+    let mut i = 0usize;
+    while i < count {
+        out[i] = configuration.switches[i];
+        i += 1;
+    }
+}
+
+// The best state that the network's search finds, a byte for each switch at the front of the slice, and what is answered beside it.
+pub fn solve(network: PowerNetwork, out: &mut [u8]) -> SolveAnswer
+    ensures { λ r. ⌜ record { answer = solveAnswerOf r; out = now (out .exit) } ≡ solved (recordsOf network) (now (out .entry)) ⌝ }
+{
+    match check(network) {
+        Verdict::Refused { number, place } => SolveAnswer::Refused { number, place },
+        Verdict::Accepted => {
+            if out.len() < wide16(network.switch_count) {
+                return SolveAnswer::Refused {
+                    number: 13,
+                    place: 0,
+                };
+            }
+            let solution = solve_checked(network);
+            let best = solution.configuration;
+            write_state(out, best, network.switch_count);
+            let result = solution.result;
+            SolveAnswer::Solved(result)
+        }
+    }
+}

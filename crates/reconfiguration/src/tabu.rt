@@ -1,0 +1,269 @@
+// Translated and changed from src/network/reconfiguration.rs of oxigrid. Copyright 2024-2026 COOLJAPAN OU (Team Kitasan), Apache License 2.0.
+// Document 01's tabu search.
+ghost use mathlib.Core.Path.{_≡_};
+ghost use mathlib.Core.Bool.{true, false, cond, not, _||_};
+ghost use mathlib.Core.Option.{Option, some};
+ghost use Prim.Native.Nat.{_<_};
+ghost use lib.Ieee.{lt};
+ghost use Rattle.network.specs.Answers.{accepted};
+ghost use Rattle.network.specs.Check.{checkRecords};
+ghost use Rattle.network.specs.Faults.{among};
+ghost use Rattle.network.specs.Records.{Network, recordsOf};
+ghost use Rattle.graph.specs.FeederRows.{feederGraph};
+ghost use Rattle.reconfiguration.specs.Given.{Given, Base};
+ghost use Rattle.reconfiguration.specs.Found.{IfSome};
+ghost use Rattle.reconfiguration.specs.Tabu.{Move, Tabu, lesser, bestMove, afterMove, tabu};
+ghost use Rattle.reconfiguration.specs.TabuValues.{HeldList, idsOf, candidateOf, toggledIn, SwitchAt, seeing, tabuOf, Stands};
+ghost use Rattle.reconfiguration.specs.TabuLaws.{MoveFrom};
+ghost use Rattle.reconfiguration.specs.TabuSettles.{tabuStart};
+use crate::states::is_radial;
+use crate::states::loss;
+use crate::tabu_list::TabuList;
+use graph::rows::Graph;
+use network::bus::Power;
+use network::configuration::NetworkConfiguration;
+use network::switch::Switch;
+use network::topology::PowerNetwork;
+use numbers::wide16;
+
+// A move that can be made: the state after it, its loss, and the id of the switch that it moves. Where none was found, the state before.
+struct Candidate {
+    found: bool,
+    configuration: NetworkConfiguration,
+    loss: f64,
+    moved: u16,
+}
+
+// Where the tabu search stands after some rounds. Its state's radiality and loss are carried along: they are not worked out again.
+pub(crate) struct TabuSearch {
+    pub configuration: NetworkConfiguration,
+    pub radial: bool,
+    pub loss: f64,
+    pub best: NetworkConfiguration,
+    pub best_loss: f64,
+    pub barred: TabuList,
+    pub ended: bool,
+}
+
+// One switch moved: open to closed, closed to open.
+fn toggled(configuration: NetworkConfiguration, i: usize) -> NetworkConfiguration
+    requires { ⌜ i < 512 ⌝ }
+    ensures { λ r. ⌜ r ≡ toggledIn configuration i ⌝ }
+{
+    let mut moved = configuration;
+    if configuration.switches[i] == NetworkConfiguration::OPEN {
+        moved.switches[i] = NetworkConfiguration::CLOSED;
+        return moved;
+    }
+    moved.switches[i] = NetworkConfiguration::OPEN;
+    moved
+}
+
+// A barred id may move where the loss is below the best ever.
+fn is_allowed(candidate: Candidate, barred: TabuList, best_loss: f64) -> bool
+    requires { ⌜ HeldList barred ⌝ }
+    ensures { λ r. ⌜ r ≡ (not (among (candidate .moved) (idsOf barred)) || lt (candidate .loss) «best_loss») ⌝ }
+{
+    if barred.contains(candidate.moved) {
+        return candidate.loss < best_loss;
+    }
+    true
+}
+
+// The least loss wins, the earlier on a tie.
+fn lesser_of(best: Candidate, candidate: Candidate) -> Candidate
+    ensures { λ r. ⌜ ((c : NetworkConfiguration) (b : Option Move) (m : Move) → best ≡ candidateOf c b → candidate ≡ candidateOf c (some m)
+        → r ≡ candidateOf c (lesser b m)) ⌝ }
+{
+    if best.found {
+        if candidate.loss < best.loss {
+            return candidate;
+        }
+        return best;
+    }
+    candidate
+}
+
+// The best of a round after one candidate more.
+fn see_candidate(
+    best: Candidate,
+    candidate: Candidate,
+    barred: TabuList,
+    best_loss: f64,
+) -> Candidate
+    requires { ⌜ HeldList barred ⌝ }
+    ensures { λ r. ⌜ ((c : NetworkConfiguration) (b : Option Move) (m : Move) → best ≡ candidateOf c b → candidate ≡ candidateOf c (some m)
+        → r ≡ candidateOf c (cond (not (among (m .moved) (idsOf barred)) || lt (m .loss) «best_loss») (lesser b m) b)) ⌝ }
+{
+    if is_allowed(candidate, barred, best_loss) {
+        return lesser_of(best, candidate);
+    }
+    best
+}
+
+// The best of a round after switch i, from a radial state. Only a switch on an out-of-service branch leaves it radial, and the loss as it is.
+fn see_kept(
+    search: TabuSearch,
+    best: Candidate,
+    switch: Switch,
+    in_service: bool,
+    i: usize,
+) -> Candidate
+    requires { ⌜ HeldList (search .barred) × (i < 512) ⌝ }
+    ensures { λ r. ⌜ ((n : PowerNetwork) (x : Tabu) (b : Option Move) → checkRecords (recordsOf n) ≡ accepted tt → Stands n search x → search .radial ≡ true
+        → SwitchAt n i switch «in_service» → best ≡ candidateOf (search .configuration) b
+        → r ≡ candidateOf (search .configuration) (seeing (recordsOf n) x b i)) ⌝ }
+{
+    if switch.can_operate {
+        if !in_service {
+            let candidate = Candidate {
+                found: true,
+                configuration: toggled(search.configuration, i),
+                loss: search.loss,
+                moved: switch.id,
+            };
+            return see_candidate(best, candidate, search.barred, search.best_loss);
+        }
+    }
+    best
+}
+
+// The best of a round after switch i, from a state that is not radial. Only a switch on a branch in service can make it so.
+fn see_walked(
+    network: PowerNetwork,
+    graph: Graph,
+    loads: [Power; 256],
+    search: TabuSearch,
+    best: Candidate,
+    i: usize,
+) -> Candidate
+    requires { ⌜ Given network graph loads × HeldList (search .barred) × (i < network .«switch_count») ⌝ }
+    ensures { λ r. ⌜ ((x : Tabu) (b : Option Move) → Stands network search x → search .radial ≡ false
+        → best ≡ candidateOf (search .configuration) b → r ≡ candidateOf (search .configuration) (seeing (recordsOf network) x b i)) ⌝ }
+{
+    let switch = network.switches[i];
+    let on = wide16(switch.branch_idx);
+    if network.branches[on].status {
+        if switch.can_operate {
+            let configuration = toggled(search.configuration, i);
+            if is_radial(network, graph, configuration) {
+                let candidate = Candidate {
+                    found: true,
+                    configuration,
+                    loss: loss(network, graph, loads, configuration),
+                    moved: switch.id,
+                };
+                return see_candidate(best, candidate, search.barred, search.best_loss);
+            }
+        }
+    }
+    best
+}
+
+// A round: the best candidate among the operable switches in list order, each moved alone from the state as the round found it.
+fn best_move(
+    network: PowerNetwork,
+    graph: Graph,
+    loads: [Power; 256],
+    search: TabuSearch,
+) -> Candidate
+    requires { ⌜ Given network graph loads × HeldList (search .barred) ⌝ }
+    ensures { λ r. ⌜ ((x : Tabu) → Stands network search x → r ≡ candidateOf (search .configuration) (bestMove (recordsOf network) x)) ⌝ }
+{
+    let count = wide16(network.switch_count);
+    let configuration = search.configuration;
+    let mut best = Candidate {
+        found: false,
+        configuration,
+        loss: 0.0,
+        moved: 0,
+    };
+    let mut i = 0usize;
+    while i < count {
+        if search.radial {
+            let switch = network.switches[i];
+            let on = wide16(switch.branch_idx);
+            best = see_kept(search, best, switch, network.branches[on].status, i);
+        } else {
+            best = see_walked(network, graph, loads, search, best, i);
+        }
+        i += 1;
+    }
+    best
+}
+
+// The winner of a round is the next state, and the answer where its loss is below the best ever. No candidate ends the search.
+fn after_move(search: TabuSearch, step: Candidate) -> TabuSearch
+    requires { ⌜ HeldList (search .barred) ⌝ }
+    ensures { λ r. ⌜ ((N : Network) (x : Tabu) (found : Option Move) → search ≡ tabuOf N x → IfSome (MoveFrom N (x .state)) found
+        → step ≡ candidateOf (search .configuration) found → r ≡ tabuOf N (afterMove x found)) ⌝ }
+{
+    if step.found {
+        let configuration = step.configuration;
+        let barred = search.barred;
+        let mut after = TabuSearch {
+            configuration,
+            radial: true,
+            loss: step.loss,
+            best: configuration,
+            best_loss: step.loss,
+            barred: barred.push(step.moved),
+            ended: false,
+        };
+        if step.loss < search.best_loss {
+            return after;
+        }
+        let best = search.best;
+        after.best = best;
+        after.best_loss = search.best_loss;
+        return after;
+    }
+    let mut after = search;
+    after.ended = true;
+    after
+}
+
+// The base, before the first round.
+fn at_base(
+    network: PowerNetwork,
+    graph: Graph,
+    base: NetworkConfiguration,
+    base_loss: f64,
+) -> TabuSearch
+    requires { ⌜ (checkRecords (recordsOf network) ≡ accepted tt) × (graph ≡ feederGraph network) × Base network base «base_loss» ⌝ }
+    ensures { λ r. ⌜ r ≡ tabuOf (recordsOf network) (tabuStart (recordsOf network)) ⌝ }
+{
+    TabuSearch {
+        configuration: base,
+        radial: is_radial(network, graph, base),
+        loss: base_loss,
+        best: base,
+        best_loss: base_loss,
+        barred: TabuList::new(),
+        ended: false,
+    }
+}
+
+// Document 01's tabu search, from the base.
+pub(crate) fn tabu_search(
+    network: PowerNetwork,
+    graph: Graph,
+    loads: [Power; 256],
+    base: NetworkConfiguration,
+    base_loss: f64,
+) -> TabuSearch
+    requires { ⌜ Given network graph loads × Base network base «base_loss» ⌝ }
+    ensures { λ r. ⌜ r ≡ tabuOf (recordsOf network) (tabu (recordsOf network)) ⌝ }
+{
+    let mut search = at_base(network, graph, base, base_loss);
+    let mut round = 0u16;
+    while round < network.max_iterations {
+        if search.ended {
+            return search;
+        }
+        let step = best_move(network, graph, loads, search);
+        search = after_move(search, step);
+        round += 1;
+    }
+    search
+}
