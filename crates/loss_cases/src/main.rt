@@ -1,74 +1,17 @@
 // Reads the feeders and states on standard input and prints the bits of each loss. A case is a line 'LENGTH NAME', a frame text, a line
 // feed, and a line with a digit for each byte of the state.
 ghost use mathlib.Core.Path.{_≡_};
-ghost use Prim.Native.Nat.{_≤_, _<_};
+ghost use Prim.Native.Nat.{_≤_};
 ghost use lib.ListN.{length};
+use cases::first_case;
+use cases::line_behind;
+use cases::part_of;
+use cases::state_bytes;
 use libc::STDOUT_FILENO;
 use losses::evaluation::LossAnswer;
 use losses::evaluation::evaluate_config;
 use network::error::Verdict;
 use network::topology::PowerNetwork;
-
-// The end of the line that begins at `at`: its line feed, or the input's end.
-fn line_end(input: &[u8], at: usize) -> usize
-    requires { ⌜ at ≤ length (now input) ⌝ }
-    ensures { λ r. ⌜ (at ≤ r) × (r ≤ length (now (input .entry))) ⌝ }
-{
-    let mut i = at;
-    while i < input.len() {
-        if input[i] == 10 {
-            return i;
-        }
-        i += 1;
-    }
-    i
-}
-
-// The value of a digit, and 255 for another character.
-fn digit(c: u8) -> u8 {
-    match c {
-        48..=57 => c - 48,
-        _ => 255,
-    }
-}
-
-// The number at the front of a line, below a thousand million, and how many digits it has.
-struct Number {
-    value: usize,
-    digits: usize,
-}
-
-fn leading(line: &[u8]) -> Number
-    ensures { λ r. ⌜ (r .value < 1000000000) × (r .digits ≤ length (now (line .entry))) ⌝ }
-{
-    let mut value = 0usize;
-    let mut i = 0usize;
-    while i < line.len() {
-        let d = digit(line[i]) as usize;
-        if d == 255 {
-            return Number { value, digits: i };
-        }
-        if value >= 9999999 {
-            return Number { value, digits: i };
-        }
-        value = value * 10 + d;
-        i += 1;
-    }
-    Number { value, digits: i }
-}
-
-// The bytes of a state of at most 1,024.
-fn state_of(digits: &[u8]) -> [u8; 1024] {
-    let mut state = [0u8; 1024];
-    let mut i = 0usize;
-    while i < 1024 {
-        if i < digits.len() {
-            state[i] = digit(digits[i]);
-        }
-        i += 1;
-    }
-    state
-}
 
 // The answer for a state of n bytes.
 fn answer(network: PowerNetwork, state: [u8; 1024], n: usize) -> LossAnswer
@@ -109,42 +52,28 @@ fn print_text(text: &[u8], digits: &[u8]) {
         io::write_all(STDOUT_FILENO, b" no feeder\n");
         return;
     };
-    let state = state_of(digits);
+    let state = state_bytes(digits);
     let network = reading.network;
     if digits.len() <= 1024 {
         print_answer(answer(network, state, digits.len()));
     }
 }
 
-// The name of a case stands behind its length and a space.
-fn print_case(head: &[u8], digits: usize, text: &[u8], last: &[u8])
-    requires { ⌜ digits ≤ length (now head) ⌝ }
+// Prints what comes of the first case, and answers where it ends.
+fn print_case(input: &[u8]) -> usize
+    ensures { λ r. ⌜ r ≤ length (now (input .entry)) ⌝ }
 {
-    if digits < head.len() {
-        io::write_all(STDOUT_FILENO, &head[digits + 1..]);
-    }
-    print_text(text, last);
+    let case = first_case(input);
+    let state = line_behind(input, case.text.to);
+    io::write_all(STDOUT_FILENO, part_of(input, case.name));
+    print_text(part_of(input, case.text), part_of(input, state));
+    state.to
 }
 
 fn print_cases(input: &[u8]) {
     let mut at = 0usize;
     while at < input.len() {
-        let end = line_end(input, at);
-        if input.len() <= end {
-            return;
-        }
-        let head = &input[at..end];
-        let first = leading(head);
-        let from = end + 1;
-        let size = first.value;
-        if input.len() - from <= size {
-            return;
-        }
-        let to = from + size;
-        let behind = to + 1;
-        let last = line_end(input, behind);
-        print_case(head, first.digits, &input[from..to], &input[behind..last]);
-        at = last + 1;
+        at = at + print_case(&input[at..]) + 1;
     }
 }
 

@@ -1,4 +1,4 @@
-// The frames that are printed, written at the front of a lent slice. What stands behind a frame stays, and a slice too short for it stays as it is.
+// The frames that are printed, and bytes, written at the front of a lent slice. What stands behind them stays, and a slice too short stays as it is.
 // `SwitchAction` is translated from src/network/reconfiguration.rs of oxigrid. Copyright 2024-2026 COOLJAPAN OU (Team Kitasan), Apache License 2.0.
 ghost use mathlib.Core.Path.{_≡_};
 ghost use Prim.Native.Nat.{_+_, _<_, _≤_, _^_};
@@ -21,6 +21,20 @@ pub const OPERATION_LENGTH: usize = 9;
 pub const PAIR_LENGTH: usize = 11;
 
 pub const REFUSAL_LENGTH: usize = 9;
+
+// Bytes at the front of a slice.
+pub fn write_bytes(out: &mut [u8], bytes: &[u8])
+    ensures { λ _. ⌜ now (out .exit) ≡ written (now (bytes .entry)) (now (out .entry)) ⌝ }
+{
+    if out.len() < bytes.len() {
+        return;
+    }
+    let mut i = 0usize;
+    while i < bytes.len() {
+        out[i] = bytes[i];
+        i += 1;
+    }
+}
 
 // The digit for a number below 16.
 fn digit(n: u8) -> u8

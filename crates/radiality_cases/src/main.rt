@@ -1,10 +1,10 @@
 // Radiality: marked cases and refusals from standard input, then random feeders against labels.
-mod cases;
 mod drawn;
+mod given;
 mod labels;
 mod rounds;
 
 fn main() {
-    cases::print_input();
+    given::print_input();
     rounds::print_rounds();
 }

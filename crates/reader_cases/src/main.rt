@@ -1,59 +1,11 @@
 // Reads the frame texts on standard input and prints each one's verdict. A case is a line 'LENGTH NAME', the text, and a line feed.
 ghost use mathlib.Core.Path.{_≡_};
-ghost use Prim.Native.Nat.{_≤_, _<_};
+ghost use Prim.Native.Nat.{_≤_};
 ghost use lib.ListN.{length};
+use cases::first_case;
+use cases::part_of;
 use libc::STDOUT_FILENO;
 use network::error::Verdict;
-
-// The end of the line that begins at `at`: its line feed, or the input's end.
-fn line_end(input: &[u8], at: usize) -> usize
-    requires { ⌜ at ≤ length (now input) ⌝ }
-    ensures { λ r. ⌜ (at ≤ r) × (r ≤ length (now (input .entry))) ⌝ }
-{
-    let mut i = at;
-    while i < input.len() {
-        if input[i] == 10 {
-            return i;
-        }
-        i += 1;
-    }
-    i
-}
-
-// The value of a digit, and 10 for another character.
-fn digit(c: u8) -> usize
-    ensures { λ r. ⌜ r ≤ 10 ⌝ }
-{
-    match c {
-        48..=57 => (c - 48) as usize,
-        _ => 10,
-    }
-}
-
-// The number at the front of a line, below a thousand million, and how many digits it has.
-struct Number {
-    value: usize,
-    digits: usize,
-}
-
-fn leading(line: &[u8]) -> Number
-    ensures { λ r. ⌜ (r .value < 1000000000) × (r .digits ≤ length (now (line .entry))) ⌝ }
-{
-    let mut value = 0usize;
-    let mut i = 0usize;
-    while i < line.len() {
-        let d = digit(line[i]);
-        if d == 10 {
-            return Number { value, digits: i };
-        }
-        if value >= 99999999 {
-            return Number { value, digits: i };
-        }
-        value = value * 10 + d;
-        i += 1;
-    }
-    Number { value, digits: i }
-}
 
 fn print_verdict(verdict: Verdict) {
     match verdict {
@@ -70,35 +22,22 @@ fn print_verdict(verdict: Verdict) {
     }
 }
 
-// The name of a case stands behind its length and a space.
-fn print_case(head: &[u8], digits: usize, text: &[u8])
-    requires { ⌜ digits ≤ length (now head) ⌝ }
+// Prints what comes of the first case, and answers where it ends.
+fn print_case(input: &[u8]) -> usize
+    ensures { λ r. ⌜ r ≤ length (now (input .entry)) ⌝ }
 {
-    if digits < head.len() {
-        io::write_all(STDOUT_FILENO, &head[digits + 1..]);
-    }
-    let reading = frames::reader::read_text(text);
+    let case = first_case(input);
+    io::write_all(STDOUT_FILENO, part_of(input, case.name));
+    let reading = frames::reader::read_text(part_of(input, case.text));
     let verdict = reading.verdict;
     print_verdict(verdict);
+    case.text.to
 }
 
 fn print_cases(input: &[u8]) {
     let mut at = 0usize;
     while at < input.len() {
-        let end = line_end(input, at);
-        if input.len() <= end {
-            return;
-        }
-        let head = &input[at..end];
-        let first = leading(head);
-        let from = end + 1;
-        let size = first.value;
-        if input.len() - from < size {
-            return;
-        }
-        let to = from + size;
-        print_case(head, first.digits, &input[from..to]);
-        at = to + 1;
+        at = at + print_case(&input[at..]) + 1;
     }
 }
 

@@ -12,10 +12,9 @@ use Rattle.network.specs.InsideLaws.{check-inside}
 use Rattle.network.specs.Live.{baseState}
 use Rattle.graph.specs.Feeder.{radialIn}
 use Rattle.losses.specs.Loss.{lossIn}
-use Rattle.plan.specs.Plan.{checkPlan}
+use Rattle.plan.specs.Plan.{branchOf, checkPlan}
 use Rattle.plan.specs.Plannable.{GoodState, Free}
 use Rattle.plan.specs.Accepted.{plan-accepted}
-use Rattle.reconfiguration.specs.Switches.{branchOf}
 use Rattle.reconfiguration.specs.Exchange.{exchange}
 use Rattle.reconfiguration.specs.Tabu.{tabu}
 use Rattle.reconfiguration.specs.Solve.{bestBy, best}

@@ -19,7 +19,8 @@ use Rattle.graph.specs.Walk.{far, neighbours, reached, enter, enterAll, turn, w
 use Rattle.graph.specs.Radial.{radial}
 use Rattle.graph.specs.Feeder.{feeder, position, radialIn}
 use Rattle.losses.specs.Loss.{walkLoad, downstream, termOf, totalOf, loss, lossIn}
-use Rattle.reconfiguration.specs.Switches.{State, swapped, toggled}
+use Rattle.plan.specs.Plan.{State}
+use Rattle.reconfiguration.specs.Switches.{swapped, toggled}
 use Rattle.reconfiguration.specs.Exchange.{loopOf, sectionOf, swapWith, trial, improves, kept, roundOf, afterRound, exchangeRounds, exchange}
 use Rattle.reconfiguration.specs.Tabu.{allowed, lesser, bestMove, lastSeven, afterMove, tabuRounds, tabu}
 use Rattle.reconfiguration.specs.Exhaustive as Ex

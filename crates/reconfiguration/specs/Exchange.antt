@@ -13,7 +13,8 @@ use Rattle.network.specs.Live.{live, baseState}
 use Rattle.graph.specs.Walk.{bfsPath}
 use Rattle.graph.specs.Feeder.{feeder, radialIn}
 use Rattle.losses.specs.Loss.{lossIn}
-use Rattle.reconfiguration.specs.Switches.{State, byte, size, isTie, operable, branchOf, swapped}
+use Rattle.plan.specs.Plan.{State, byte, branchOf, operable}
+use Rattle.reconfiguration.specs.Switches.{size, isTie, swapped}
 
 -- "the normally open, operable, still open switches"
 abbrev pub seen : Network → State → ℕ → Bool

@@ -13,7 +13,8 @@ use Rattle.numbers.specs.Counts.{count, eqb-of, count-drop}
 use Rattle.numbers.specs.Tests.{both, clash, not-so}
 use Rattle.network.specs.Records.{Network}
 use Rattle.network.specs.Live.{baseState}
-use Rattle.reconfiguration.specs.Switches.{State, byte, size, isTie, operable, swapped}
+use Rattle.plan.specs.Plan.{State, byte, operable}
+use Rattle.reconfiguration.specs.Switches.{size, isTie, swapped}
 use Rattle.reconfiguration.specs.Exchange.{seen, roundOf, Exchange, afterRound, exchange}
 use Rattle.reconfiguration.specs.Found.{IfSome}
 use Rattle.reconfiguration.specs.ExchangeLaws.{Swap, round-swaps, rounds-keep}

@@ -16,12 +16,13 @@ use Rattle.network.specs.Check.{checkRecords}
 use Rattle.network.specs.InsideLaws.{check-inside}
 use Rattle.network.specs.Live.{baseState}
 use Rattle.losses.specs.Loss.{lossIn}
+use Rattle.plan.specs.Plan.{State}
 use Rattle.reconfiguration.specs.declared.exchange.Trial.{Trial}
 use Rattle.reconfiguration.specs.declared.exchange.BranchExchange.{BranchExchange}
 use Rattle.reconfiguration.specs.States.{stateOf}
 use Rattle.reconfiguration.specs.Given.{Held, Base}
 use Rattle.reconfiguration.specs.StateLaws.{held, state-held, switches-listed, few-switches}
-use Rattle.reconfiguration.specs.Switches.{State, swapped}
+use Rattle.reconfiguration.specs.Switches.{swapped}
 use Rattle.reconfiguration.specs.Exchange.{roundOf, Exchange, afterRound, exchangeRounds, exchange}
 use Rattle.reconfiguration.specs.Found.{IfSome}
 use Rattle.reconfiguration.specs.FromBase.{base-good}

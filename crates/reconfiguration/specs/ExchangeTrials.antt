@@ -26,10 +26,10 @@ use Rattle.graph.specs.Feeder.{feeder}
 use Rattle.graph.specs.FeederLaws.{feeder-sound, feeder-small}
 use Rattle.graph.specs.FeederRows.{feederGraph, liveFlags}
 use Rattle.graph.specs.FeederRowLaws.{feeder-row-ends, live-row-path}
+use Rattle.plan.specs.Plan.{State, byte, branchOf}
 use Rattle.reconfiguration.specs.declared.exchange.Trial.{Trial}
 use Rattle.reconfiguration.specs.States.{stateOf}
 use Rattle.reconfiguration.specs.StateLaws.{switches-listed, switch-at, byte-at}
-use Rattle.reconfiguration.specs.Switches.{State, byte, branchOf}
 use Rattle.reconfiguration.specs.Exchange.{seen, loopOf, sectionOf, swapWith, trial, improves, kept}
 use Rattle.reconfiguration.specs.ExchangeValues.{trialOf, seeing}
 use Rattle.reconfiguration.specs.Firsts.{first-next, first-found}

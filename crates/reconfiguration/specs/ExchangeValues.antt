@@ -8,9 +8,9 @@ use Rattle.network.specs.declared.configuration.NetworkConfiguration.{NetworkCo
 use Rattle.network.specs.Configuration.{configurationOf}
 use Rattle.network.specs.Records.{Network}
 use Rattle.losses.specs.Loss.{lossIn}
+use Rattle.plan.specs.Plan.{State}
 use Rattle.reconfiguration.specs.declared.exchange.Trial.{Trial}
 use Rattle.reconfiguration.specs.declared.exchange.BranchExchange.{BranchExchange}
-use Rattle.reconfiguration.specs.Switches.{State}
 use Rattle.reconfiguration.specs.Exchange.{seen, trial, kept, Exchange}
 
 -- a switch by its position, 512 for none

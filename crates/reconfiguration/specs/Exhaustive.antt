@@ -11,7 +11,8 @@ use Rattle.network.specs.Faults.{ties}
 use Rattle.network.specs.Live.{baseState}
 use Rattle.graph.specs.Feeder.{radialIn}
 use Rattle.losses.specs.Loss.{lossIn}
-use Rattle.reconfiguration.specs.Switches.{State, size, isTie}
+use Rattle.plan.specs.Plan.{State}
+use Rattle.reconfiguration.specs.Switches.{size, isTie}
 
 abbrev pub bit : ℕ → ℕ → Bool
 bit mask i = eqb (mask / 2 ^ i % 2) 1

@@ -13,9 +13,9 @@ use Rattle.graph.specs.RadialLaws.{radial-tree}
 use Rattle.graph.specs.Feeder.{feeder, LiveIn, radialIn}
 use Rattle.graph.specs.FeederLaws.{feeder-sound, feeder-small}
 use Rattle.losses.specs.Loss.{lossIn}
+use Rattle.plan.specs.Plan.{State}
 use Rattle.plan.specs.Claim.{SameLive}
 use Rattle.plan.specs.LiveLaws.{live-listed}
-use Rattle.reconfiguration.specs.Switches.{State}
 
 module _ (N : Network) (s t : State) where
   pub same-radial : SameLive N s t → radialIn N s ≡ radialIn N t

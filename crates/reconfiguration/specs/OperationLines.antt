@@ -18,7 +18,8 @@ use Rattle.printing.specs.declared.writer.SwitchAction.{SwitchAction}
 use Rattle.printing.specs.Printed.{operation, operationText, written}
 use Rattle.printing.specs.LineTexts as Texts
 use Rattle.printing.specs.WrittenLaws.{sets-append, written-sets, written-part, length-frame}
-use Rattle.reconfiguration.specs.Switches.{State, byte, size, switch}
+use Rattle.plan.specs.Plan.{State, byte}
+use Rattle.reconfiguration.specs.Switches.{size, switch}
 use Rattle.reconfiguration.specs.Operations.{Operation, operationOf, operations, operationsText}
 use Rattle.reconfiguration.specs.OperationValues.{differs, actionTo, lineOf}
 

@@ -10,7 +10,7 @@ use Rattle.network.specs.declared.topology.PowerNetwork.{PowerNetwork}
 use Rattle.printing.specs.declared.writer.SwitchAction.{SwitchAction}
 use Rattle.printing.specs.declared.writer.SwitchAction.the-variants.{Open, Close}
 use Rattle.printing.specs.Printed.{operationText}
-use Rattle.reconfiguration.specs.Switches.{State, byte}
+use Rattle.plan.specs.Plan.{State, byte}
 
 -- a byte for each listed switch in both states
 abbrev pub Stated : PowerNetwork → State → State → Type 0

@@ -13,9 +13,10 @@ use Rattle.printing.specs.declared.writer.SwitchAction.{SwitchAction}
 use Rattle.printing.specs.declared.writer.SwitchAction.the-variants.{Open, Close}
 use Rattle.printing.specs.Printed.{operationText}
 use Rattle.printing.specs.Calls.{Call, called}
+use Rattle.plan.specs.Plan.{State, byte}
 use Rattle.reconfiguration.specs.declared.operations.OperationsAnswer.{OperationsAnswer}
 use Rattle.reconfiguration.specs.declared.operations.OperationsAnswer.the-variants.{Operations, Refused}
-use Rattle.reconfiguration.specs.Switches.{State, byte, size, switch}
+use Rattle.reconfiguration.specs.Switches.{size, switch}
 
 -- a switch by its id, and what is done to it
 pub record Operation : Type 0 where

@@ -14,10 +14,10 @@ use Rattle.network.specs.Live.{baseState}
 use Rattle.printing.specs.Calls.{Call, called}
 use Rattle.graph.specs.Feeder.{radialIn}
 use Rattle.losses.specs.Loss.{lossIn}
+use Rattle.plan.specs.Plan.{State}
 use Rattle.reconfiguration.specs.declared.solve.ReconfigResult.{ReconfigResult}
 use Rattle.reconfiguration.specs.declared.solve.SolveAnswer.{SolveAnswer}
 use Rattle.reconfiguration.specs.declared.solve.SolveAnswer.the-variants.{Solved, Refused}
-use Rattle.reconfiguration.specs.Switches.{State}
 use Rattle.reconfiguration.specs.Exchange.{exchange}
 use Rattle.reconfiguration.specs.Tabu.{tabu}
 use Rattle.reconfiguration.specs.Exhaustive.{exhaustive, leastOrBase}

@@ -1,15 +1,12 @@
--- What the code of `solve` holds is what the definition says: the search by each method, the base, the result, the bytes of a state, and the call case by case.
+-- What the code of `solve` holds is what the definition says: the search by each method, the base, the result, and the call case by case.
 use mathlib.Core.Path.{_≡_, refl, sym, ap, _∙_}
 use mathlib.Core.Bool.{Bool, true}
 use mathlib.Core.List.{List, [], _∷_}
 use Prim.Native.Nat.{ℕ, _+_, _≤_, _<_}
-use native.Mathlib.Numerals.{add-one}
-use native.Mathlib.Nat.{zero-add}
 use native.Mathlib.Omega.{arith}
 use lib.Dec.{ltb}
 use lib.Ieee.{Float}
-use lib.ListN.{length, getD, take, set, length-take}
-use lib.Seq.{sets, take-suc}
+use lib.ListN.{length, take}
 use Rattle.network.specs.declared.configuration.NetworkConfiguration.{NetworkConfiguration}
 use Rattle.network.specs.declared.error.Verdict.{Verdict}
 use Rattle.network.specs.declared.error.Verdict.the-variants.{Refused}
@@ -24,7 +21,6 @@ use Rattle.network.specs.Live.{baseState}
 use Rattle.graph.specs.Feeder.{radialIn}
 use Rattle.losses.specs.Loss.{lossIn}
 use Rattle.printing.specs.Printed.{written}
-use Rattle.printing.specs.WrittenLaws.{sets-append, written-sets}
 use Rattle.printing.specs.CallLaws.{call-refused, call-short, call-done}
 use Rattle.reconfiguration.specs.declared.exchange.BranchExchange as exchange-code
 use Rattle.reconfiguration.specs.declared.tabu.TabuSearch as tabu-code
@@ -88,16 +84,6 @@ module _ (n : PowerNetwork) where
           → record { radial = radial; base-loss = base; best-loss = found .loss; reduction = percent; iterations = found .iterations; converged = found .converged } ≡ result N
       unfolding result reductionOf foundOf
       found-result q b p = rw (p, q, best-held found-state, b, f)
-
--- ---- the bytes of a state, one after the other
-pub bytes-more : (bytes out : List ℕ) (i : ℕ) → i < length bytes → set (sets out 0 (take i bytes)) i (getD bytes i 0) ≡ sets out 0 (take (i + 1) bytes)
-bytes-more bytes out i h =
-    let long : length (take i bytes) ≡ i = length-take i bytes ∙ omega arith in
-    let more = sets-append out 0 (take i bytes) (getD bytes i 0 ∷ []) in
-    rw (add-one, take-suc bytes i 0 h) (rw (zero-add, long) at more)
-
-pub bytes-all : (bytes out : List ℕ) (i n : ℕ) {now : List ℕ} → i ≡ n → n ≤ length out → now ≡ sets out 0 (take i bytes) → now ≡ written (take n bytes) out
-bytes-all bytes out i n e room w = w ∙ rw e (sym (written-sets (take n bytes) out (simp length-take (omega arith))))
 
 -- ---- the call
 module _ (n : PowerNetwork) (out : List ℕ) where

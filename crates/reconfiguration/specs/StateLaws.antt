@@ -21,9 +21,10 @@ use Rattle.network.specs.Configuration.{configurationOf}
 use Rattle.network.specs.Live.{openOn, live}
 use Rattle.network.specs.LiveLaws.{open-take}
 use Rattle.graph.specs.FeederRows.{liveFlags}
+use Rattle.plan.specs.Plan.{byte}
 use Rattle.reconfiguration.specs.States.{stateOf}
 use Rattle.reconfiguration.specs.Given.{Held}
-use Rattle.reconfiguration.specs.Switches.{byte, switch, swapped, toggled}
+use Rattle.reconfiguration.specs.Switches.{switch, swapped, toggled}
 
 module _ (n : PowerNetwork) where
   pub switches-listed : length (recordsOf n .switches) ≡ n .«switch_count»

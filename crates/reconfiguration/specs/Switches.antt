@@ -1,18 +1,11 @@
 -- The switches of a feeder by their positions in the list, and states with one or two of them moved.
 use mathlib.Core.Bool.{Bool, cond}
-use mathlib.Core.List.{List}
 use Prim.Native.Nat.{ℕ}
 use lib.Dec.{eqb}
 use lib.ListN.{length, getD, set}
 use Rattle.network.specs.Records.{Network, noSwitch}
 use Rattle.network.specs.declared.switch.Switch.{Switch}
-
--- a byte for each switch: 00 closed, 01 open
-abbrev pub State : Type 0
-State = List ℕ
-
-abbrev pub byte : State → ℕ → ℕ
-byte s i = getD s i 0
+use Rattle.plan.specs.Plan.{State, byte}
 
 abbrev pub size : Network → ℕ
 size N = length (N .switches)
@@ -23,12 +16,6 @@ switch N i = getD (N .switches) i noSwitch
 -- document 01's tie: a switch that is normally open
 abbrev pub isTie : Network → ℕ → Bool
 isTie N i = switch N i .«normally_open»
-
-abbrev pub operable : Network → ℕ → Bool
-operable N i = switch N i .«can_operate»
-
-abbrev pub branchOf : Network → ℕ → ℕ
-branchOf N i = switch N i .«branch_idx»
 
 -- a tie closed and a section opened
 unfoldable pub swapped : State → ℕ → ℕ → State

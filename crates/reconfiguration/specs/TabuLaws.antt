@@ -11,7 +11,8 @@ use Rattle.network.specs.Records.{Network}
 use Rattle.network.specs.Live.{baseState}
 use Rattle.graph.specs.Feeder.{radialIn}
 use Rattle.losses.specs.Loss.{lossIn}
-use Rattle.reconfiguration.specs.Switches.{State, size, operable, toggled}
+use Rattle.plan.specs.Plan.{State, operable}
+use Rattle.reconfiguration.specs.Switches.{size, toggled}
 use Rattle.reconfiguration.specs.Tabu.{Move, Tabu, moveOf, allowed, lesser, bestMove, afterMove, tabuRounds, tabu}
 use Rattle.reconfiguration.specs.Found.{IfSome, cond-holds}
 

@@ -23,12 +23,13 @@ use Rattle.numbers.specs.UpTo.{upTo, upTo-more}
 use Rattle.numbers.specs.TableLaws.{length-table, getD-table}
 use Rattle.graph.specs.Feeder.{radialIn}
 use Rattle.losses.specs.Loss.{lossIn}
+use Rattle.plan.specs.Plan.{State, branchOf, operable}
 use Rattle.plan.specs.Claim.{SameLive}
 use Rattle.reconfiguration.specs.declared.tabu.Candidate.{Candidate}
 use Rattle.reconfiguration.specs.declared.tabu.TabuSearch.{TabuSearch}
 use Rattle.reconfiguration.specs.States.{stateOf}
 use Rattle.reconfiguration.specs.StateLaws.{switches-listed, few-switches, switch-at, state-held, held, toggled-state, toggled-held}
-use Rattle.reconfiguration.specs.Switches.{State, size, switch, operable, branchOf, toggled}
+use Rattle.reconfiguration.specs.Switches.{size, switch, toggled}
 use Rattle.reconfiguration.specs.LiveBranches.{same-radial, same-loss}
 use Rattle.reconfiguration.specs.Toggles.{toggled-unserved, toggled-radial}
 use Rattle.reconfiguration.specs.Tabu.{Move, Tabu, moveOf, allowed, lesser}

@@ -13,11 +13,12 @@ use Rattle.network.specs.Records.{Network, noBranch}
 use Rattle.network.specs.Inside.{Inside}
 use Rattle.network.specs.Live.{live}
 use Rattle.graph.specs.Feeder.{radialIn}
+use Rattle.plan.specs.Plan.{State, byte, branchOf}
 use Rattle.plan.specs.Claim.{SameLive}
 use Rattle.plan.specs.LiveLaws.{InService, On, live-so, live-if, live-less, moved-other, opened-dead, closed-live}
 use Rattle.plan.specs.Plannable.{GoodState}
 use Rattle.plan.specs.Accepted.{inside-regular}
-use Rattle.reconfiguration.specs.Switches.{State, byte, size, branchOf, toggled}
+use Rattle.reconfiguration.specs.Switches.{size, toggled}
 use Rattle.reconfiguration.specs.LiveBranches.{same-radial, radial-part-same}
 
 module _ (N : Network) (inside : Inside N) (s : State) where

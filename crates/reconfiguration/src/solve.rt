@@ -1,9 +1,6 @@
 // Translated and changed from src/network/reconfiguration.rs of oxigrid. Copyright 2024-2026 COOLJAPAN OU (Team Kitasan), Apache License 2.0.
 // `solve`: the search that the network asks for, from the base, and what it answers.
 ghost use mathlib.Core.Path.{_≡_};
-ghost use Prim.Native.Nat.{_≤_};
-ghost use lib.ListN.{length, take};
-ghost use Rattle.printing.specs.Printed.{written};
 ghost use Rattle.network.specs.Answers.{accepted};
 ghost use Rattle.network.specs.Check.{checkRecords};
 ghost use Rattle.network.specs.Configuration.{configurationOf};
@@ -27,6 +24,7 @@ use network::error::Verdict;
 use network::switch::ReconfigAlgorithm;
 use network::topology::PowerNetwork;
 use numbers::wide16;
+use printing::writer::write_bytes;
 
 // What is answered beside the best state.
 pub struct ReconfigResult {
@@ -138,19 +136,6 @@ fn solve_checked(network: PowerNetwork) -> Solution
     }
 }
 
-// The bytes of the listed switches at the front of a slice.
-fn write_state(out: &mut [u8], configuration: NetworkConfiguration, switch_count: u16)
-    requires { ⌜ («switch_count» ≤ 512) × («switch_count» ≤ length (now out)) ⌝ }
-    ensures { λ _. ⌜ now (out .exit) ≡ written (take «switch_count» (configuration .switches)) (now (out .entry)) ⌝ }
-{
-    let count = wide16(switch_count);
-    let mut i = 0usize;
-    while i < count {
-        out[i] = configuration.switches[i];
-        i += 1;
-    }
-}
-
 // The best state that the network's search finds, a byte for each switch at the front of the slice, and what is answered beside it.
 pub fn solve(network: PowerNetwork, out: &mut [u8]) -> SolveAnswer
     ensures { λ r. ⌜ record { answer = solveAnswerOf r; out = now (out .exit) } ≡ solved (recordsOf network) (now (out .entry)) ⌝ }
@@ -158,7 +143,8 @@ pub fn solve(network: PowerNetwork, out: &mut [u8]) -> SolveAnswer
     match check(network) {
         Verdict::Refused { number, place } => SolveAnswer::Refused { number, place },
         Verdict::Accepted => {
-            if out.len() < wide16(network.switch_count) {
+            let count = wide16(network.switch_count);
+            if out.len() < count {
                 return SolveAnswer::Refused {
                     number: 13,
                     place: 0,
@@ -166,7 +152,8 @@ pub fn solve(network: PowerNetwork, out: &mut [u8]) -> SolveAnswer
             }
             let solution = solve_checked(network);
             let best = solution.configuration;
-            write_state(out, best, network.switch_count);
+            let state = best.switches;
+            write_bytes(out, &state[0..count]);
             let result = solution.result;
             SolveAnswer::Solved(result)
         }

@@ -1,12 +1,9 @@
 -- `print_cases` is safe and ends: each case begins behind the one before it.
 use Prim.Native.Nat.{_≤_, _+_, _-_}
-use borrow.Author.Needs.{needs}
 use lib.ListN.{length}
+use borrow.Author.Needs.{needs}
 use Rattle.reader_cases.proofs.print_cases.Statement.{statement}
 use Rattle.reader_cases.proofs.print_cases.Tie as tie
-use Rattle.reader_cases.proofs.leading.Reads as leading-reads
-use Rattle.reader_cases.proofs.line_end.Reads as line-end-reads
-use Rattle.reader_cases.proofs.print_case.Reads as print-case-reads
 
 abbrev Inv-loop : tie.InvT-loop
 Inv-loop input at₀ at = at ≤ length input + 1
@@ -16,36 +13,6 @@ abbrev μ-loop : tie.MeasureT-loop
 
 loop-holds : tie.Need-loop-holds Inv-loop μ-loop
 loop-holds c = search needs
-
-line-end-requires : tie.Need-line-end-requires Inv-loop μ-loop
-line-end-requires c κs = search needs
-
-returns : tie.Need-returns Inv-loop μ-loop
-returns c = search needs
-
-sub-head : tie.Need-sub-head Inv-loop μ-loop
-sub-head c = search needs
-
-part-head-start : tie.Need-part-head-start Inv-loop μ-loop
-part-head-start c = search needs
-
-part-head-end : tie.Need-part-head-end Inv-loop μ-loop
-part-head-end c = search needs
-
-leading-requires : tie.Need-leading-requires Inv-loop μ-loop
-leading-requires c κs = search needs
-
-add-from : tie.Need-add-from Inv-loop μ-loop
-add-from c = search needs
-
-sub-if2 : tie.Need-sub-if2 Inv-loop μ-loop
-sub-if2 c = search needs
-
-returns-2 : tie.Need-returns-2 Inv-loop μ-loop
-returns-2 c = search needs
-
-add-to : tie.Need-add-to Inv-loop μ-loop
-add-to c = search needs
 
 sub-print-case : tie.Need-sub-print-case Inv-loop μ-loop
 sub-print-case c = search needs
@@ -62,14 +29,17 @@ print-case-requires c κs = search needs
 add-at : tie.Need-add-at Inv-loop μ-loop
 add-at c = search needs
 
+add-at-2 : tie.Need-add-at-2 Inv-loop μ-loop
+add-at-2 c = search needs
+
 loop-less : tie.Need-loop-less Inv-loop μ-loop
 loop-less c = search needs
 
 loop-again : tie.Need-loop-again Inv-loop μ-loop
 loop-again c = search needs
 
-returns-3 : tie.Need-returns-3 Inv-loop μ-loop
-returns-3 c = search needs
+returns : tie.Need-returns Inv-loop μ-loop
+returns c = search needs
 
 pub print-cases-spec : {M : Type 1} → statement M
 print-cases-spec =
@@ -78,21 +48,12 @@ print-cases-spec =
     Inv-loop
     μ-loop
     loop-holds
-    line-end-requires
-    returns
-    sub-head
-    part-head-start
-    part-head-end
-    leading-requires
-    add-from
-    sub-if2
-    returns-2
-    add-to
     sub-print-case
     part-print-case-start
     part-print-case-end
     print-case-requires
     add-at
+    add-at-2
     loop-less
     loop-again
-    returns-3)
+    returns)

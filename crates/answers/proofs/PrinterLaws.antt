@@ -1,0 +1,229 @@
+-- What the calls below answer for a checked network with its base and its best state, and how their bytes stand one behind the other.
+use mathlib.Core.Path.{_≡_, refl, sym, ap, _∙_}
+use mathlib.Core.Bool.{Bool, true, false, cond, not}
+use mathlib.Core.List.{List, [], _∷_, _++_}
+use Prim.Native.Nat.{ℕ, _+_, _-_, _*_, _≤_, _<_}
+use native.Mathlib.Omega.{arith}
+use native.Mathlib.Nat.{zero-add}
+use lib.Dec.{T}
+use lib.Ieee.{Float, isNan}
+use lib.ListN.{length, take, drop, length-append, length-drop}
+use lib.Seq.{sets, length-sets, take-append-seam}
+use borrow.Author.Tests.{le-leb}
+use borrow.Rule.Slice.PartMut.{putMid}
+use Rattle.numbers.specs.Parts.{part-rest}
+use Rattle.network.specs.declared.error.Verdict.the-variants.{Accepted, Refused}
+use Rattle.network.specs.declared.configuration.NetworkConfiguration.{NetworkConfiguration}
+use Rattle.network.specs.declared.topology.PowerNetwork.{PowerNetwork}
+use Rattle.network.specs.Configuration.{configurationOf}
+use Rattle.network.specs.Records.{Network, recordsOf, networkOf}
+use Rattle.network.specs.RecordLaws.{records-of-network}
+use Rattle.network.specs.Answers.{Answer, accepted, refused, answerOf, _andThen_, judge}
+use Rattle.network.specs.AnswerLaws.{then-iff, no-refusal}
+use Rattle.network.specs.Check.{checkRecords}
+use Rattle.network.specs.Live.{baseState, checkState}
+use Rattle.frames.specs.declared.reader.Reading.{Reading}
+use Rattle.frames.specs.Text.{readText}
+use Rattle.frames.specs.Reading.{readingOf}
+use Rattle.printing.specs.Printed.{written, refusalText}
+use Rattle.printing.specs.WrittenLaws.{written-sets, sets-append, sets-part}
+use Rattle.printing.specs.Calls.{Call, called}
+use Rattle.printing.specs.CallLaws.{call-refused, call-short, call-done}
+use Rattle.graph.specs.Feeder.{radialIn}
+use Rattle.plan.specs.declared.planner.PlanAnswer.{PlanAnswer}
+use Rattle.plan.specs.declared.planner.PlanAnswer.the-variants as plans
+use Rattle.plan.specs.Plan.{plan, planText, planned, planAnswerOf, checkRadial, checkPlan}
+use Rattle.plan.specs.Accepted.{state-accepted}
+use Rattle.plan.specs.Length as PlanLength
+use Rattle.reconfiguration.specs.declared.operations.OperationsAnswer.{OperationsAnswer}
+use Rattle.reconfiguration.specs.declared.operations.OperationsAnswer.the-variants as lists
+use Rattle.reconfiguration.specs.declared.solve.ReconfigResult.{ReconfigResult}
+use Rattle.reconfiguration.specs.declared.solve.SolveAnswer.{SolveAnswer}
+use Rattle.reconfiguration.specs.declared.solve.SolveAnswer.the-variants as solves
+use Rattle.reconfiguration.specs.FromBase.{base-good}
+use Rattle.reconfiguration.specs.Answers.{best-good, answers-have-plans}
+use Rattle.reconfiguration.specs.States.{stateOf}
+use Rattle.reconfiguration.specs.StateLaws.{switches-listed, few-switches, state-held}
+use Rattle.reconfiguration.specs.Solve.{Result, result, best, solved, resultOf, solveAnswerOf}
+use Rattle.reconfiguration.specs.Operations.{operations, operationsText, listed, operationsAnswerOf}
+use Rattle.reconfiguration.specs.OperationLines as Operations
+use Rattle.answers.specs.Printing.{resultText, operationLines, planLines, moveLines, networkText, printedOf, printed, answeredText}
+use Rattle.answers.specs.PrintingValues.{Searched, HasBits}
+use Rattle.answers.specs.PrintingLaws.{accepted-same, length-result, operations-short, plan-short, printed-short, base-bits, best-bits, reduction-bits}
+
+-- ---- accepted calls
+call-is : {A : Type 0} {tests : Answer (Unit {0})} (answer : A) (bytes out : List ℕ) {c : Call A} → tests ≡ accepted tt → length bytes ≤ length out
+    → c ≡ called tests answer bytes out → c ≡ record { answer = accepted answer; out = written bytes out }
+call-is answer bytes out ok room e = e ∙ sym (call-done answer bytes out ok refl room refl)
+
+pub take-written : (bytes out : List ℕ) → length bytes ≤ length out → take (length bytes) (written bytes out) ≡ bytes
+unfolding written
+take-written bytes out room = rw (le-leb (length bytes) (length out) room) (take-append-seam bytes (drop (length bytes) out))
+
+-- the bytes of the lines that are answered
+abbrev pub operationBytes : OperationsAnswer → ℕ
+operationBytes (lists.Operations count) = 9 * count
+operationBytes (lists.Refused number place) = 0
+
+abbrev pub planBytes : PlanAnswer → ℕ
+planBytes (plans.Pairs count) = 11 * count
+planBytes (plans.Refused number place) = 0
+
+module _ (n : PowerNetwork) (ok : checkRecords (recordsOf n) ≡ accepted tt) (out : List ℕ) where
+  abbrev N : Network
+  N = recordsOf n
+
+  states-pass : (checkRecords N andThen checkState N (baseState N) 0 andThen checkState N (best N .state) 1) ≡ accepted tt
+  states-pass = then-iff _ _ .1 (ok, then-iff _ _ .1 (state-accepted N (baseState N) 0 .1 (base-good N), state-accepted N (best N .state) 1 .1 (best-good N)))
+
+  -- ---- the operations
+  pub operations-printed : 4608 ≤ length out → (a : OperationsAnswer) {after : List ℕ} {from to : List ℕ} → from ≡ baseState N → to ≡ best N .state
+      → record { answer = operationsAnswerOf a; out = after } ≡ listed N from to out → (operationBytes a ≡ length (operationLines N)) × (after ≡ written (operationLines N) out)
+  unfolding operationLines listed
+  operations-printed room a {after} f t e =
+      let l = operations N (baseState N) (best N .state) in
+      let c = call-is (length l) (operationsText l) out states-pass (omega (arith, operations-short N ok)) (rw (f, t) at e) in
+      (go a (ap (λ (x : Call ℕ). x .answer) c), ap (λ (x : Call ℕ). x .out) c)
+    where
+      go : (b : OperationsAnswer) → operationsAnswerOf b ≡ accepted (length (operations N (baseState N) (best N .state))) → operationBytes b ≡ length (operationLines N)
+      go (lists.Operations count) q = ap (λ (k : ℕ). 9 * k) (accepted-same q) ∙ sym (Operations.length-text (operations N (baseState N) (best N .state)))
+      go (lists.Refused number place) q = no-refusal q
+
+  -- ---- the plan
+  not-planned : radialIn N (baseState N) ≡ false → checkPlan N (baseState N) (best N .state) ≡ refused 11 0
+  unfolding checkPlan _andThen_ checkRadial judge
+  not-planned r = rw (ok, state-accepted N (baseState N) 0 .1 (base-good N), state-accepted N (best N .state) 1 .1 (best-good N), r)
+
+  pub plan-printed : 2805 ≤ length out → (a : PlanAnswer) {after : List ℕ} {present wanted : List ℕ} → present ≡ baseState N → wanted ≡ best N .state
+      → record { answer = planAnswerOf a; out = after } ≡ planned N present wanted out → (planBytes a ≡ length (planLines N)) × (after ≡ written (planLines N) out)
+  plan-printed room a {after} p w e = go (radialIn N (baseState N)) refl (rw (p, w) at e)
+    where
+      pairs : (b : PlanAnswer) → planAnswerOf b ≡ accepted (length (plan N (baseState N) (best N .state))) → planBytes b ≡ length (planText (plan N (baseState N) (best N .state)))
+      pairs (plans.Pairs count) q = ap (λ (k : ℕ). 11 * k) (accepted-same q) ∙ sym (PlanLength.length-text (plan N (baseState N) (best N .state)))
+      pairs (plans.Refused number place) q = no-refusal q
+
+      none : (b : PlanAnswer) → planAnswerOf b ≡ refused 11 0 → planBytes b ≡ 0
+      none (plans.Pairs count) q = no-refusal (sym q)
+      none (plans.Refused number place) q = refl
+
+      lines : (b : Bool) → radialIn N (baseState N) ≡ b → planLines N ≡ cond b (planText (plan N (baseState N) (best N .state))) []
+      lines b r = unfold planLines in rw r
+
+      go : (b : Bool) → radialIn N (baseState N) ≡ b → record { answer = planAnswerOf a; out = after } ≡ planned N (baseState N) (best N .state) out
+          → (planBytes a ≡ length (planLines N)) × (after ≡ written (planLines N) out)
+      go true r q =
+          let short = plan-short N ok in
+          let same = lines true r in
+          let moves = plan N (baseState N) (best N .state) in
+          let fits : length (planText moves) ≤ 2805 = rw same at short in
+          let made : record { answer = planAnswerOf a; out = after } ≡ called (checkPlan N (baseState N) (best N .state)) (length moves) (planText moves) out = unfold planned in q in
+          let c = call-is (length moves) (planText moves) out (answers-have-plans N ok r) (omega arith) made in
+          rw same (pairs a (ap (λ (x : Call ℕ). x .answer) c), ap (λ (x : Call ℕ). x .out) c)
+      go false r q =
+          let same = lines false r in
+          let moves = plan N (baseState N) (best N .state) in
+          let refusal : record { answer = refused 11 0; out = out } ≡ planned N (baseState N) (best N .state) out = unfold planned in call-refused (length moves) (planText moves) out (not-planned r) in
+          let c = q ∙ sym refusal in
+          rw same (none a (ap (λ (x : Call ℕ). x .answer) c), ap (λ (x : Call ℕ). x .out) c ∙ sym (written-sets [] out (omega arith)))
+
+-- ---- the search
+module _ (n : PowerNetwork) (ok : checkRecords (recordsOf n) ≡ accepted tt) (space : List ℕ) (room : length space ≡ 512) where
+  solved-is : {c : Call Result} → c ≡ solved (recordsOf n) space → c ≡ record { answer = accepted (result (recordsOf n)); out = written (best (recordsOf n) .state) space }
+  unfolding solved
+  solved-is e = call-is (result (recordsOf n)) (best (recordsOf n) .state) space ok (omega (arith, few-switches n ok, switches-listed n, best-good (recordsOf n) .long)) e
+
+  pub solved-result : {r : ReconfigResult} {after : List ℕ} → record { answer = solveAnswerOf (solves.Solved r); out = after } ≡ solved (recordsOf n) space → resultOf r ≡ result (recordsOf n)
+  solved-result e = accepted-same (ap (λ (x : Call Result). x .answer) (solved-is e))
+
+  pub solved-state : {a : Answer Result} {after : List ℕ} → record { answer = a; out = after } ≡ solved (recordsOf n) space → take (n .«switch_count») after ≡ best (recordsOf n) .state
+  solved-state {after = after} e =
+      let long : length (best (recordsOf n) .state) ≡ n .«switch_count» = best-good (recordsOf n) .long ∙ switches-listed n in
+      ap (λ (k : ℕ). take k after) (sym long) ∙ ap (λ (x : Call Result). take (length (best (recordsOf n) .state)) (x .out)) (solved-is e)
+      ∙ take-written (best (recordsOf n) .state) space (omega (arith, few-switches n ok))
+
+  pub not-refused : {B : Type 0} {number place : ℕ} {after : List ℕ} → record { answer = solveAnswerOf (solves.Refused number place); out = after } ≡ solved (recordsOf n) space → B
+  not-refused e = no-refusal (ap (λ (x : Call Result). x .answer) (solved-is e))
+
+-- the base
+pub base-held : (n : PowerNetwork) → checkRecords (recordsOf n) ≡ accepted tt → {c : NetworkConfiguration} → c ≡ configurationOf (baseState (recordsOf n)) → take (n .«switch_count») (c .switches) ≡ baseState (recordsOf n)
+unfolding stateOf
+base-held n ok e =
+    ap (λ (b : NetworkConfiguration). take (n .«switch_count») (b .switches)) e ∙ state-held n (baseState (recordsOf n)) (base-good (recordsOf n) .long ∙ switches-listed n) (few-switches n ok)
+
+-- the bits of a result
+pub result-bits : (N : Network) → checkRecords N ≡ accepted tt → {r : ReconfigResult} → resultOf r ≡ result N → HasBits r
+unfolding result
+result-bits N ok e = (
+  rw (ap (λ (x : Result). x .base-loss) e) (base-bits N ok),
+  rw (ap (λ (x : Result). x .best-loss) e) (best-bits N ok),
+  rw (ap (λ (x : Result). x .reduction) e) (reduction-bits N ok),
+)
+
+-- ---- one behind the other
+-- lines behind the 81 line keep the length
+pub moves-room : (l operations : List ℕ) → 59 + length operations ≤ length l → {part : List ℕ} → part ≡ written operations (take (length l - 59) (drop 59 l))
+    → length (putMid 59 (length l - 59) l part) ≡ length l
+moves-room l operations room p = ap length (sets-part l 59 operations (p ∙ written-sets operations _ (rw part-rest (omega (arith, length-drop 59 l))))) ∙ length-sets l 59 operations
+
+pub moves-stored : (l operations plans : List ℕ) (m : ℕ) → length operations ≡ m → 59 + m + length plans ≤ length l
+    → {part : List ℕ} → part ≡ written operations (take (length l - 59) (drop 59 l))
+    → {rest : List ℕ} → rest ≡ written plans (take (length (putMid 59 (length l - 59) l part) - (59 + m)) (drop (59 + m) (putMid 59 (length l - 59) l part)))
+    → putMid (59 + m) (length (putMid 59 (length l - 59) l part) - (59 + m)) (putMid 59 (length l - 59) l part) rest ≡ sets l 59 (operations ++ plans)
+moves-stored l operations plans m e room p q =
+    let first = sets-part l 59 operations (p ∙ written-sets operations _ (rw part-rest (omega (arith, length-drop 59 l)))) in
+    let same = length-sets l 59 operations in
+    let behind : length plans ≤ length (take (length (sets l 59 operations) - (59 + m)) (drop (59 + m) (sets l 59 operations))) = rw part-rest (omega (arith, length-drop (59 + m) (sets l 59 operations))) in
+    let part = rw first at q in
+    let second = sets-part (sets l 59 operations) (59 + m) plans (part ∙ written-sets plans _ behind) in
+    let all : sets (sets l 59 operations) (59 + m) plans ≡ sets l 59 (operations ++ plans) = rw (← e) (sets-append l 59 operations plans) in
+    rw first (second ∙ all)
+
+-- as many bytes as the 81 line, the operations and the plan have
+pub moves-long : (N : Network) {m k : ℕ} → m ≡ length (operationLines N) → k ≡ length (planLines N) → 59 + m + k ≡ 59 + length (moveLines N)
+unfolding moveLines
+moves-long N e f = simp length-append (omega arith)
+
+pub network-long : (N : Network) → 59 + length (moveLines N) ≡ length (networkText N)
+unfolding networkText
+network-long N = sym (length-append (resultText (result N)) (moveLines N) ∙ ap (λ (k : ℕ). k + length (moveLines N)) (length-result (result N)))
+
+pub lines-stored : (l : List ℕ) (r : Result) (moves : List ℕ) → length (resultText r ++ moves) ≤ length l
+    → {front : List ℕ} → front ≡ written (resultText r) l → {after : List ℕ} → after ≡ sets front 59 moves → after ≡ written (resultText r ++ moves) l
+lines-stored l r moves room f a =
+    let long = length-result r in
+    let both = length-append (resultText r) moves in
+    let stored = sets-append l 0 (resultText r) moves in
+    a ∙ rw (f, written-sets (resultText r) l (omega arith)) (rw (zero-add, long) at stored) ∙ sym (written-sets (resultText r ++ moves) l room)
+
+-- ---- the reading
+pub reading-accepted : (a : Answer Network) {r : Reading} → r ≡ readingOf a → r .verdict ≡ Accepted → a ≡ accepted (recordsOf (r .network))
+unfolding readingOf
+reading-accepted (accepted N) e v = ap accepted (sym (ap (λ (x : Reading). recordsOf (x .network)) e ∙ records-of-network N))
+reading-accepted (refused number place) e v = no-refusal (sym (ap answerOf (ap (λ (x : Reading). x .verdict) e)) ∙ ap answerOf v)
+
+pub reading-refused : (a : Answer Network) {r : Reading} → r ≡ readingOf a → {number place : ℕ} → r .verdict ≡ Refused number place → a ≡ refused number place
+unfolding readingOf _andThen_
+reading-refused (accepted N) e v = no-refusal (sym (ap answerOf v) ∙ ap answerOf (ap (λ (x : Reading). x .verdict) e))
+reading-refused (refused number place) e v = ap (λ (a : Answer (Unit {0})). a andThen refused 0 0) (sym (ap answerOf (ap (λ (x : Reading). x .verdict) e)) ∙ ap answerOf v)
+
+-- ---- the call
+module _ (text out : List ℕ) {n : ℕ} (long : n ≡ length (printed text)) where
+  pub no-room : length out < n → record { answer = refused 13 0; out = out } ≡ answeredText text out
+  unfolding answeredText
+  no-room h = call-short (length (printed text)) (printed text) out refl (sym long) h
+
+  -- what was made in memory of the call's own is copied
+  pub all-printed : n ≤ length out → (space : List ℕ) {lines : List ℕ} → length space ≡ 7472 → lines ≡ written (printed text) space
+      → {after : List ℕ} → after ≡ written (take n lines) out → record { answer = accepted n; out = after } ≡ answeredText text out
+  unfolding answeredText
+  all-printed h space {lines} room w e =
+      let same : take n lines ≡ printed text = rw (long, w) (take-written (printed text) space (omega (arith, printed-short text))) in
+      rw long (call-done (length (printed text)) (printed text) out refl (sym long) h (e ∙ ap (λ (b : List ℕ). written b out) same))
+
+pub text-printed : (text : List ℕ) {r : Reading} → r ≡ readingOf (readText text) → r .verdict ≡ Accepted → printed text ≡ networkText (recordsOf (r .network))
+unfolding printed
+text-printed text e v = ap printedOf (reading-accepted (readText text) e v)
+
+pub text-refused : (text : List ℕ) {r : Reading} → r ≡ readingOf (readText text) → {number place : ℕ} → r .verdict ≡ Refused number place → printed text ≡ refusalText number place
+unfolding printed
+text-refused text e v = ap printedOf (reading-refused (readText text) e v)

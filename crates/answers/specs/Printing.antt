@@ -1,0 +1,54 @@
+-- What is printed for a text (document 01, section Triangle).
+use mathlib.Core.Bool.{cond}
+use mathlib.Core.List.{List, [], _++_}
+use Prim.Native.Nat.{ℕ}
+use lib.Ieee.{binary64, toBits}
+use lib.ListN.{length}
+use Rattle.network.specs.Records.{Network}
+use Rattle.network.specs.Answers.{Answer, accepted, refused}
+use Rattle.network.specs.Live.{baseState}
+use Rattle.frames.specs.Text.{readText}
+use Rattle.printing.specs.Printed.{answerText, refusalText}
+use Rattle.printing.specs.Calls.{Call, called}
+use Rattle.graph.specs.Feeder.{radialIn}
+use Rattle.plan.specs.Plan.{plan, planText}
+use Rattle.reconfiguration.specs.Solve.{Result, result, best}
+use Rattle.reconfiguration.specs.Operations.{operations, operationsText}
+use Rattle.answers.specs.declared.printer.TextAnswer.{TextAnswer}
+use Rattle.answers.specs.declared.printer.TextAnswer.the-variants.{Printed, Refused}
+
+-- "81: radial byte of the best state, base loss, best loss, reduction percent, iterations (u16), converged"
+unfoldable pub resultText : Result → List ℕ
+resultText r = answerText (r .radial) (toBits binary64 (r .base-loss)) (toBits binary64 (r .best-loss)) (toBits binary64 (r .reduction)) (r .iterations) (r .converged)
+
+-- the 82 lines, from the base to the best state
+unfoldable pub operationLines : Network → List ℕ
+operationLines N = operationsText (operations N (baseState N) (best N .state))
+
+-- the 83 lines, "only for a radial base"
+unfoldable pub planLines : Network → List ℕ
+planLines N = cond (radialIn N (baseState N)) (planText (plan N (baseState N) (best N .state))) []
+
+-- the lines behind the 81 line
+unfoldable pub moveLines : Network → List ℕ
+moveLines N = operationLines N ++ planLines N
+
+unfoldable pub networkText : Network → List ℕ
+networkText N = resultText (result N) ++ moveLines N
+
+-- "A refusal prints one line"
+abbrev pub printedOf : Answer Network → List ℕ
+printedOf (accepted N) = networkText N
+printedOf (refused number place) = refusalText number place
+
+-- what `feeder` prints for a text
+unfoldable pub printed : List ℕ → List ℕ
+printed text = printedOf (readText text)
+
+-- the call: how many bytes, and the bytes at the front of the slice. Of the refusals only 13 is answered, for the others are what is printed
+unfoldable pub answeredText : List ℕ → List ℕ → Call ℕ
+answeredText text out = called (accepted tt) (length (printed text)) (printed text) out
+
+abbrev pub textAnswerOf : TextAnswer → Answer ℕ
+textAnswerOf (Printed count) = accepted count
+textAnswerOf (Refused number place) = refused number place

@@ -1,0 +1,126 @@
+-- How long a printed answer is, that the front of a long text decides it, and that its floats have bits.
+use mathlib.Core.Path.{_≡_, refl, sym, ap, _∙_}
+use mathlib.Core.Bool.{Bool, true, false, not, cond}
+use mathlib.Core.List.{List, []}
+use Prim.Native.Nat.{ℕ, _*_, _≤_, _^_}
+use native.Mathlib.Omega.{arith}
+use lib.Dec.{T, ltb, lit≤}
+use borrow.Author.Tests.{ltb-true, ltb-false}
+use lib.Ieee.{binary64, isNan, lt, sub, mul, div, ofBits}
+use lib.ListN.{length, take, length-append}
+use Rattle.numbers.specs.Counts.{count-le}
+use Rattle.numbers.specs.Constants.{zero64, trillionth, hundred}
+use Rattle.numbers.specs.Bounds.{Within, within, within-no-nan}
+use Rattle.network.specs.Records.{Network}
+use Rattle.network.specs.Answers.{Answer, accepted, refused}
+use Rattle.network.specs.AnswerLaws.{no-refusal}
+use Rattle.network.specs.Check.{checkRecords}
+use Rattle.network.specs.InsideLaws.{check-inside}
+use Rattle.network.specs.Live.{baseState}
+use Rattle.frames.specs.Text.{readText}
+use Rattle.frames.specs.Claim.{claim}
+use Rattle.frames.specs.Early.{read-early}
+use Rattle.printing.specs.Printed.{written, answer, answerText, refusal, refusalText}
+use Rattle.printing.specs.Calls.{Call}
+use Rattle.printing.specs.CallLaws.{call-short, call-done}
+use Rattle.printing.specs.WrittenLaws.{length-frame}
+use Rattle.graph.specs.Feeder.{radialIn}
+use Rattle.losses.specs.Loss.{lossIn}
+use Rattle.losses.specs.Accepted.{accepted-loss-within}
+use Rattle.losses.specs.PercentLaws.{percent-within}
+use Rattle.plan.specs.Plan.{plan, planText}
+use Rattle.plan.specs.Length as PlanLength
+use Rattle.reconfiguration.specs.Solve.{Result, result, best, reduction, reductionOf}
+use Rattle.reconfiguration.specs.Answers.{best-loss, answers-have-plans}
+use Rattle.reconfiguration.specs.Operations.{operations, operationsText}
+use Rattle.reconfiguration.specs.OperationLines as Operations
+use Rattle.reconfiguration.specs.OperationValues.{differs}
+use Rattle.answers.specs.declared.printer.TextAnswer.the-variants.{Printed}
+use Rattle.answers.specs.Printing.{resultText, operationLines, planLines, moveLines, networkText, printedOf, printed, answeredText, textAnswerOf}
+
+value : {A : Type 0} → A → Answer A → A
+value d (accepted a) = a
+value d (refused number place) = d
+
+pub accepted-same : {A : Type 0} {a b : A} → _≡_ {A = Answer A} (accepted a) (accepted b) → a ≡ b
+unfolding value
+accepted-same {a = a} e = ap (value a) e
+
+pub length-result : (r : Result) → length (resultText r) ≡ 59
+unfolding resultText answerText
+length-result r = length-frame answer _
+
+pub length-refusal : (number place : ℕ) → length (refusalText number place) ≡ 9
+unfolding refusalText
+length-refusal number place = length-frame refusal _
+
+module _ (N : Network) (ok : checkRecords N ≡ accepted tt) where
+  -- an operation for each switch at most
+  pub operations-short : length (operationLines N) ≤ 4608
+  unfolding operationLines
+  operations-short =
+      let few = check-inside N .0 ok .counts in
+      omega (arith, few .2, Operations.length-text (operations N (baseState N) (best N .state)), Operations.length-operations N (baseState N) (best N .state), count-le (differs (baseState N) (best N .state)) (length (N .switches)))
+
+  -- a pair for each bus but one at most
+  pub plan-short : length (planLines N) ≤ 2805
+  unfolding planLines
+  plan-short = go (radialIn N (baseState N)) refl
+    where
+      go : (b : Bool) → radialIn N (baseState N) ≡ b → length (cond b (planText (plan N (baseState N) (best N .state))) []) ≤ 2805
+      go true e =
+          let few = check-inside N .0 ok .counts in
+          omega (arith, few .0, PlanLength.length-text (plan N (baseState N) (best N .state)), PlanLength.plan-short N (baseState N) (best N .state) (answers-have-plans N ok e))
+      go false e = omega arith
+
+  pub network-short : length (networkText N) ≤ 7472
+  unfolding networkText moveLines
+  network-short = simp length-append (omega (arith, length-result (result N), operations-short, plan-short))
+
+  -- ---- bits
+  base-within : Within (2 ^ 115) (lossIn N (baseState N))
+  base-within = accepted-loss-within N (check-inside N .0 ok) (baseState N)
+
+  best-within : Within (2 ^ 115) (best N .loss)
+  best-within = rw (best-loss N) (accepted-loss-within N (check-inside N .0 ok) (best N .state))
+
+  pub base-bits : T (not (isNan (lossIn N (baseState N))))
+  base-bits = within-no-nan base-within
+
+  pub best-bits : T (not (isNan (best N .loss)))
+  best-bits = within-no-nan best-within
+
+  pub reduction-bits : T (not (isNan (reductionOf N)))
+  unfolding reductionOf reduction
+  reduction-bits = go (lt trillionth (lossIn N (baseState N))) refl
+    where
+      go : (b : Bool) → lt trillionth (lossIn N (baseState N)) ≡ b → T (not (isNan (cond b (mul binary64 (div binary64 (sub binary64 (lossIn N (baseState N)) (best N .loss)) (lossIn N (baseState N))) hundred) zero64)))
+      go true e = within-no-nan (percent-within base-within best-within (rw e tt))
+      go false e = unfold ofBits isNan in tt
+
+-- "A refusal prints one line", and 7,472 bytes are enough for every text
+pub printed-short : (text : List ℕ) → length (printed text) ≤ 7472
+unfolding printed
+printed-short text = go (readText text) refl
+  where
+    go : (a : Answer Network) → readText text ≡ a → length (printedOf a) ≤ 7472
+    go (accepted N) e = network-short N (claim .passed text N e)
+    go (refused number place) e = omega (arith, length-refusal number place)
+
+-- a program that reads 65,536 bytes of a longer text prints what the whole text would get
+pub printed-early : (text : List ℕ) → printed (take 65536 text) ≡ printed text
+unfolding printed
+printed-early text = ap printedOf (read-early 65536 text (lit≤ tt))
+
+-- and so the count that is answered is never above that
+pub printed-count : (text out : List ℕ) {count : ℕ} {after : List ℕ} → record { answer = textAnswerOf (Printed count); out = after } ≡ answeredText text out → count ≤ 7472
+printed-count text out {count} e = go (ltb (length out) (length (printed text))) refl
+  where
+    go : (b : Bool) → ltb (length out) (length (printed text)) ≡ b → count ≤ 7472
+    go true h =
+        let short : record { answer = refused 13 0; out = out } ≡ answeredText text out = unfold answeredText in call-short (length (printed text)) (printed text) out refl refl (ltb-true _ _ h) in
+        no-refusal (sym (ap (λ (c : Call ℕ). c .answer) (e ∙ sym short)))
+    go false h =
+        let done : record { answer = accepted (length (printed text)); out = written (printed text) out } ≡ answeredText text out = unfold answeredText in call-done (length (printed text)) (printed text) out refl refl (ltb-false _ _ h) refl in
+        let same : count ≡ length (printed text) = accepted-same (ap (λ (c : Call ℕ). c .answer) (e ∙ sym done)) in
+        omega (arith, printed-short text)

@@ -1,0 +1,2 @@
+// The answer to a text, as it is printed.
+pub mod printer;

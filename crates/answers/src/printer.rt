@@ -1,0 +1,148 @@
+// What is printed for a text: the search's answer, the operations and the plan, or a refusal.
+ghost use mathlib.Core.Path.{_≡_};
+ghost use Prim.Native.Nat.{_+_, _≤_};
+ghost use lib.ListN.{length};
+ghost use lib.Seq.{sets};
+ghost use Rattle.network.specs.Answers.{accepted};
+ghost use Rattle.network.specs.Check.{checkRecords};
+ghost use Rattle.network.specs.Records.{recordsOf};
+ghost use Rattle.printing.specs.Printed.{written};
+ghost use Rattle.reconfiguration.specs.Solve.{resultOf};
+ghost use Rattle.answers.specs.Printing.{resultText, operationLines, planLines, moveLines, networkText, printed, answeredText, textAnswerOf};
+ghost use Rattle.answers.specs.PrintingValues.{Searched, HasBits};
+use frames::reader::read_text;
+use network::configuration::base_configuration;
+use network::error::Verdict;
+use network::topology::PowerNetwork;
+use numbers::wide16;
+use plan::planner::PlanAnswer;
+use plan::planner::plan;
+use printing::writer::ANSWER_LENGTH;
+use printing::writer::OPERATION_LENGTH;
+use printing::writer::PAIR_LENGTH;
+use printing::writer::REFUSAL_LENGTH;
+use printing::writer::write_answer;
+use printing::writer::write_bytes;
+use printing::writer::write_refusal;
+use reconfiguration::operations::OperationsAnswer;
+use reconfiguration::operations::compute_switch_operations;
+use reconfiguration::solve::ReconfigResult;
+use reconfiguration::solve::SolveAnswer;
+use reconfiguration::solve::solve;
+
+// The longest answer: an 81 line, an 82 line for each of 512 switches, an 83 line for each of 255 pairs.
+pub const MAX_LENGTH: usize = 7472;
+
+// How many bytes are printed, or document 01's refusal number and place.
+pub enum TextAnswer {
+    Printed(u16),
+    Refused { number: u8, place: u16 },
+}
+
+// The 81 line.
+fn write_result(out: &mut [u8], result: ReconfigResult)
+    requires { ⌜ HasBits result ⌝ }
+    ensures { λ _. ⌜ now (out .exit) ≡ written (resultText (resultOf result)) (now (out .entry)) ⌝ }
+{
+    write_answer(
+        out,
+        result.is_radial,
+        f64::to_bits(result.base_losses_mw),
+        f64::to_bits(result.optimized_losses_mw),
+        f64::to_bits(result.loss_reduction_pct),
+        result.n_iterations,
+        result.converged,
+    );
+}
+
+// The 82 lines from the base to the best state, and how many bytes they are.
+fn write_operations(
+    out: &mut [u8],
+    network: PowerNetwork,
+    base: [u8; 512],
+    best: [u8; 512],
+) -> usize
+    requires { ⌜ Searched network base best × (4608 ≤ length (now out)) ⌝ }
+    ensures { λ r. ⌜ (r ≡ length (operationLines (recordsOf network))) × (now (out .exit) ≡ written (operationLines (recordsOf network)) (now (out .entry))) ⌝ }
+{
+    let n = wide16(network.switch_count);
+    match compute_switch_operations(network, &base[0..n], &best[0..n], out) {
+        OperationsAnswer::Operations(count) => OPERATION_LENGTH * wide16(count),
+        OperationsAnswer::Refused { .. } => 0,
+    }
+}
+
+// The 83 lines from a radial base to the best state, and how many bytes they are. The planner refuses a base that is not radial: it has none.
+fn write_plan(out: &mut [u8], network: PowerNetwork, base: [u8; 512], best: [u8; 512]) -> usize
+    requires { ⌜ Searched network base best × (2805 ≤ length (now out)) ⌝ }
+    ensures { λ r. ⌜ (r ≡ length (planLines (recordsOf network))) × (now (out .exit) ≡ written (planLines (recordsOf network)) (now (out .entry))) ⌝ }
+{
+    let n = wide16(network.switch_count);
+    match plan(network, &base[0..n], &best[0..n], out) {
+        PlanAnswer::Pairs(count) => PAIR_LENGTH * wide16(count),
+        PlanAnswer::Refused { .. } => 0,
+    }
+}
+
+// The lines behind the 81 line, and how many bytes are printed with it: each writer gets the output from behind the lines before.
+fn write_moves(out: &mut [u8], network: PowerNetwork, base: [u8; 512], best: [u8; 512]) -> usize
+    requires { ⌜ Searched network base best × (7472 ≤ length (now out)) ⌝ }
+    ensures { λ r. ⌜ (r ≡ 59 + length (moveLines (recordsOf network))) × (now (out .exit) ≡ sets (now (out .entry)) 59 (moveLines (recordsOf network))) ⌝ }
+{
+    let operations = write_operations(&mut out[ANSWER_LENGTH..], network, base, best);
+    let n = ANSWER_LENGTH + operations;
+    n + write_plan(&mut out[n..], network, base, best)
+}
+
+// All lines for a network. A search that is refused prints nothing: a checked network's is not.
+fn print_network(out: &mut [u8], network: PowerNetwork) -> usize
+    requires { ⌜ (checkRecords (recordsOf network) ≡ accepted tt) × (7472 ≤ length (now out)) ⌝ }
+    ensures { λ r. ⌜ (r ≡ length (networkText (recordsOf network))) × (now (out .exit) ≡ written (networkText (recordsOf network)) (now (out .entry))) ⌝ }
+{
+    let configuration = base_configuration(network);
+    let base = configuration.switches;
+    let mut best = [0u8; 512];
+    match solve(network, &mut best) {
+        SolveAnswer::Solved(result) => {
+            write_result(out, result);
+            write_moves(out, network, base, best)
+        }
+        SolveAnswer::Refused { .. } => 0,
+    }
+}
+
+// All lines for a text, and how many bytes they are.
+fn print_text(out: &mut [u8], text: &[u8]) -> usize
+    requires { ⌜ 7472 ≤ length (now out) ⌝ }
+    ensures { λ r. ⌜ (r ≡ length (printed (now (text .entry)))) × (now (out .exit) ≡ written (printed (now (text .entry))) (now (out .entry))) ⌝ }
+{
+    let reading = read_text(text);
+    let verdict = reading.verdict;
+    match verdict {
+        Verdict::Accepted => {
+            let network = reading.network;
+            print_network(out, network)
+        }
+        Verdict::Refused { number, place } => {
+            write_refusal(out, number, place);
+            REFUSAL_LENGTH
+        }
+    }
+}
+
+// What is printed for a text, at the front of the slice. How long it is shows only when it is made, and a refusal writes no lent byte: so it is made in
+// memory of this call's own.
+pub fn answer_text(text: &[u8], out: &mut [u8]) -> TextAnswer
+    ensures { λ r. ⌜ record { answer = textAnswerOf r; out = now (out .exit) } ≡ answeredText (now (text .entry)) (now (out .entry)) ⌝ }
+{
+    let mut lines = [0u8; MAX_LENGTH];
+    let n = print_text(&mut lines, text);
+    if out.len() < n {
+        return TextAnswer::Refused {
+            number: 13,
+            place: 0,
+        };
+    }
+    write_bytes(out, &lines[0..n]);
+    TextAnswer::Printed(n as u16)
+}

@@ -1,0 +1,292 @@
+#!/usr/bin/env python3
+"""Writes crates/plan_cases/stdin and stdout: feeders, pairs of states, and the plans between them.
+
+usage: tests/cases/plan_cases.py
+
+Each case of stdin is a line 'LENGTH NAME', a frame text, a line feed, and three lines: 'CHANGE PRESENT', WANTED and SLICE. CHANGE is a
+letter for a change of the records once they are read (see CHANGES), a hyphen for none; PRESENT and WANTED have a digit for each byte of
+the states, SLICE a dot for each byte of the lent slice. Each case of stdout is 'NAME PAIRS [SLICE]' or 'NAME refused NUMBER PLACE
+[SLICE]', with the slice as the call leaves it. The answers of the named cases are written by hand from document 01, and those of the drawn
+ones reckoned from its sections State, Refusals and Plan; both must agree on the named ones, and each planner of WRONG must fail on one.
+The last lines count the plans, there and back, and their stopping points, all pairs forward and all pairs back.
+"""
+import os
+import random
+
+ROOT = os.path.join(os.path.dirname(os.path.abspath(__file__)), '..', '..', 'crates', 'plan_cases')
+CHANGES = {'iterations 1001': 'A', 'exhaustive': 'F', '': '-'}
+cases, told_apart = [], set()
+
+
+class Feeder:
+    """Ids of buses; branches (from, to, status); switches (id, branch position, flags)."""
+
+    def __init__(self, buses, branches, switches, resistances=None, loads=None):
+        self.buses, self.branches, self.switches = buses, branches, switches
+        self.resistances = resistances or [0x3FF0000000000000] * len(branches)
+        self.loads = loads or [0] * len(buses)
+
+    def text(self):
+        lines = ['01%04X%04X%04X3FF0000000000000000064' % (len(self.buses), len(self.branches), len(self.switches))]
+        lines += ['02%04X%016X' % bus for bus in zip(self.buses, self.loads)]
+        lines += ['03%04X%04X%016X%02X' % (a, b, r, status) for (a, b, status), r in zip(self.branches, self.resistances)]
+        lines += ['04%04X%04X%02X' % switch for switch in self.switches]
+        return ''.join(line + '\n' for line in lines).encode()
+
+    def live(self, state):
+        opened = {k for (_, k, _), byte in zip(self.switches, state) if byte == '1'}
+        return {k for k, (_, _, status) in enumerate(self.branches) if status == 1 and k not in opened}
+
+    def joined(self, order):
+        """Those of these branches whose ends the ones before have not joined yet."""
+        taken, top = set(), {bus: bus for bus in self.buses}
+
+        def find(x):
+            while top[x] != x:
+                x = top[x]
+            return x
+        for k in order:
+            a, b = (find(end) for end in self.branches[k][:2])
+            if a != b:
+                top[a] = b
+                taken.add(k)
+        return taken
+
+    def is_radial(self, live):
+        return not self.buses or self.joined(live) == live and len(live) == len(self.buses) - 1
+
+    def path(self, live, start, end):
+        """The branches of the chain with no bus twice, found by trying every one."""
+        beside = {bus: [] for bus in self.buses}
+        for k in live:
+            a, b = self.branches[k][:2]
+            beside[a].append((b, k))
+            beside[b].append((a, k))
+        chains = [(start, (start,), ())]
+        for bus, seen, way in chains:
+            if bus == end:
+                return way
+            chains += [(other, seen + (other,), way + (k,)) for other, k in beside[bus] if other not in seen]
+
+
+def plan(feeder, present, wanted, order=None, turned=False, last=False, over_present=False, first_of_all=False):
+    """Document 01's plan; each option is a way to get it wrong."""
+    before, aim = feeder.live(present), feeder.live(wanted)
+    live, pairs, number_on = set(before), [], {k: number for number, k, _ in feeder.switches}
+    for _, k, _ in sorted(feeder.switches, key=order) if order else feeder.switches:
+        if k not in aim or k in before:
+            continue
+        a, b = feeder.branches[k][:2]
+        way = feeder.path(before if over_present else live, *((b, a) if turned else (a, b))) or [None]
+        opened = way[0] if first_of_all else [j for j in way if j not in aim][-1 if last else 0]
+        live = live - {opened} | {k}
+        pairs.append((number_on[k], number_on.get(opened)))
+    return pairs
+
+
+WRONG = {'by position': dict(order=lambda switch: switch[1]), 'by id': dict(order=lambda switch: switch[0]), 'from the to bus': dict(turned=True),
+         'the last': dict(last=True), 'over the present path': dict(over_present=True), 'a wanted branch': dict(first_of_all=True)}
+
+
+def answer(feeder, change, present, wanted, room):
+    """The pairs, or number and place of the refusal."""
+    ties = [i for i, (_, _, flags) in enumerate(feeder.switches) if flags & 1]
+    if change == 'iterations 1001':
+        return 3, 1
+    if change == 'exhaustive' and len(ties) > 10:
+        return 9, 2 + len(feeder.buses) + len(feeder.branches) + ties[10]
+    states = (0, present), (1, wanted)
+    for place, state in states:
+        if len(state) != len(feeder.switches) or set(state) - {'0', '1'}:
+            return 10, place
+    for place, state in states:
+        if not feeder.is_radial(feeder.live(state)):
+            return 11, place
+    differing = feeder.live(present) ^ feeder.live(wanted)
+    for number, k, flags in feeder.switches:
+        if k in differing and not flags & 2:
+            return 12, number
+    pairs = plan(feeder, present, wanted)
+    return pairs if 11 * len(pairs) <= room else (13, 0)
+
+
+def case(name, feeder, present, wanted, room, known=None, change=''):
+    found = answer(feeder, change, present, wanted, room)
+    assert known is None or found == known, (name, found)
+    if known is not None and isinstance(found, list):
+        told_apart.update(wrong for wrong in WRONG if plan(feeder, present, wanted, **WRONG[wrong]) != found)
+    cases.append((name, feeder, change, present, wanted, room, found))
+
+
+TRIANGLE = Feeder([1, 2, 3], [(1, 2, 1), (2, 3, 1), (1, 3, 1)], [(10, 1, 2), (11, 2, 3)],
+                  [0x3FD0000000000000, 0x3FDC000000000000, 0x3FC8000000000000], [0, 0x3FF0000000000000, 0x4000000000000000])
+CHAIN = [(1, 2, 1), (2, 3, 1), (3, 4, 1)]
+BESIDE = [(1, 4, 1), (1, 3, 1)]
+
+
+def chain(beside, listed, locked=()):
+    """Buses 1 to 4 in a chain and branches beside it; switch 100 + k is on branch k, listed in the order that is given."""
+    return Feeder([1, 2, 3, 4], CHAIN + beside, [(100 + k, k, 0 if k in locked else 2) for k in listed])
+
+
+def bytes_of(feeder, live):
+    """The state with just these branches live, all being in service."""
+    return ''.join('0' if k in live else '1' for _, k, _ in feeder.switches)
+
+
+def between(name, feeder, present, wanted, known):
+    case(name, feeder, bytes_of(feeder, present), bytes_of(feeder, wanted), 11 * len(known), known)
+
+
+def slices():
+    case('triangle', TRIANGLE, '01', '10', 11, [(11, 10)])
+    case('triangle-back', TRIANGLE, '10', '01', 11, [(10, 11)])
+    case('one-byte-longer', TRIANGLE, '01', '10', 12, [(11, 10)])
+    case('ten-bytes-longer', TRIANGLE, '01', '10', 21, [(11, 10)])
+    case('one-byte-short', TRIANGLE, '01', '10', 10, (13, 0))
+    case('no-slice', TRIANGLE, '01', '10', 0, (13, 0))
+    case('same-state-no-slice', TRIANGLE, '01', '01', 0, [])
+    case('same-state-longer', TRIANGLE, '10', '10', 5, [])
+    case('no-buses', Feeder([], [], []), '', '', 0, [])
+    case('one-bus', Feeder([7], [], []), '', '', 3, [])
+    case('one-bus-own-loop-open', Feeder([7], [(7, 7, 1)], [(1, 0, 2)]), '1', '1', 0, [])
+    case('two-parallel', Feeder([1, 2], [(1, 2, 1), (2, 1, 1)], [(8, 0, 2), (9, 1, 2)]), '01', '10', 11, [(9, 8)])
+    two = chain([(1, 4, 1), (2, 4, 1)], [0, 1, 2, 3, 4])
+    for name, room, known in [('exactly-full', 22, [(103, 100), (104, 102)]), ('one-byte-longer', 23, [(103, 100), (104, 102)]),
+                              ('one-byte-short', 21, (13, 0)), ('room-for-one', 11, (13, 0))]:
+        case('two-pairs-' + name, two, '00011', '10100', room, known)
+
+
+def orders():
+    """Document 01: by switch order; beginning at the from bus; before the closing; the first that the wanted state doesn't have live."""
+    for name, first, known in [('from-bus-1', (1, 4, 1), [(103, 100), (104, 102)]), ('from-bus-4', (4, 1, 1), [(103, 102), (104, 100)])]:
+        between(name, chain([first, (2, 4, 1)], [0, 1, 2, 3, 4]), {0, 1, 2}, {1, 3, 4}, known)
+    # the second closing's path in the present state has only branch 0 to open, which is open by then
+    between('path-before-the-closing', chain(BESIDE, [0, 1, 2, 3, 4]), {0, 1, 2}, {1, 3, 4}, [(103, 100), (104, 102)])
+    between('by-switch-order', chain(BESIDE, [4, 2, 3, 1, 0]), {0, 1, 2}, {1, 3, 4}, [(104, 100), (103, 102)])
+    five = [(1, 2, 1), (2, 3, 1), (3, 4, 1), (4, 5, 1), (1, 5, 1), (2, 5, 1), (3, 5, 1)]
+    listed = [(500, 5, 2), (10, 3, 2), (400, 6, 2), (11, 0, 2), (600, 4, 2), (12, 1, 2)]
+    between('by-switch-order-of-three', Feeder([1, 2, 3, 4, 5], five, listed), {0, 1, 2, 3}, {2, 4, 5, 6}, [(500, 12), (400, 10), (600, 11)])
+    for name, listed, known in [('ids-rise-positions-fall', [(1, 4, 2), (2, 3, 2), (3, 2, 2), (4, 1, 2), (5, 0, 2)], [(1, 5), (2, 3)]),
+                                ('ids-fall-positions-rise', [(5, 0, 2), (4, 1, 2), (3, 2, 2), (2, 3, 2), (1, 4, 2)], [(2, 5), (1, 3)])]:
+        between(name, Feeder([1, 2, 3, 4], CHAIN + BESIDE, listed), {0, 1, 2}, {1, 3, 4}, known)
+
+
+def network_refusals():
+    ties = Feeder([1, 2], [(1, 2, 1)] * 11, [(1 + i, i, 3) for i in range(11)])
+    present, wanted = '0' + '1' * 10, '1' * 10 + '0'
+    case('eleven-ties', ties, present, wanted, 11, [(11, 1)])
+    case('eleven-ties-exhaustive', ties, present, wanted, 11, (9, 25), 'exhaustive')
+    case('eleven-ties-exhaustive-states-02', ties, '2', '2', 0, (9, 25), 'exhaustive')
+    case('iterations-1001', TRIANGLE, '01', '10', 11, (3, 1), 'iterations 1001')
+    case('iterations-1001-state-02', TRIANGLE, '02', '10', 11, (3, 1), 'iterations 1001')
+    case('triangle-exhaustive', TRIANGLE, '01', '10', 11, [(11, 10)], 'exhaustive')
+
+
+def refusals():
+    for name, state in [('empty', ''), ('too-short', '0'), ('too-long', '010'), ('byte-02', '02'), ('byte-02-first', '20'), ('byte-FF', '0F'),
+                        ('of-513', '0' * 513)]:
+        case('present-' + name, TRIANGLE, state, '10', 11, (10, 0))
+        case('wanted-' + name, TRIANGLE, '01', state, 11, (10, 1))
+    case('both-malformed', TRIANGLE, '02', '20', 11, (10, 0))
+    case('present-malformed-wanted-not-radial', TRIANGLE, '02', '00', 11, (10, 0))
+    case('present-not-radial-wanted-malformed', TRIANGLE, '00', '02', 11, (10, 1))
+    case('wanted-malformed-no-slice', TRIANGLE, '01', '02', 0, (10, 1))
+    for name, state in [('all-closed', '00'), ('both-open', '11')]:
+        case('present-' + name, TRIANGLE, state, '10', 11, (11, 0))
+        case('wanted-' + name, TRIANGLE, '01', state, 11, (11, 1))
+    case('both-not-radial', TRIANGLE, '11', '00', 11, (11, 0))
+    case('same-state-not-radial', TRIANGLE, '00', '00', 11, (11, 0))
+    locked = Feeder(TRIANGLE.buses, TRIANGLE.branches, [(10, 1, 0), (11, 2, 3)])
+    case('switch-10-locked', locked, '01', '10', 11, (12, 10))
+    case('switch-10-locked-no-slice', locked, '01', '10', 0, (12, 10))
+    case('switch-10-locked-present-not-radial', locked, '00', '10', 11, (11, 0))
+    case('switch-10-locked-wanted-not-radial', locked, '01', '11', 11, (11, 1))
+    case('switch-10-locked-same-state', locked, '01', '01', 0, [])
+    case('switch-11-locked', Feeder(TRIANGLE.buses, TRIANGLE.branches, [(10, 1, 2), (11, 2, 1)]), '01', '10', 11, (12, 11))
+
+
+def locked_switches():
+    for name, listed, locked, known in [('ids-fall', [4, 3, 2, 1, 0], (0, 2, 3, 4), (12, 104)), ('ids-rise', [0, 1, 2, 3, 4], (0, 2, 3, 4), (12, 100)),
+                                        ('opening-first', [1, 2, 0, 4, 3], (2, 3), (12, 102)), ('closing-first', [1, 0, 4, 3, 2], (2, 4), (12, 104)),
+                                        ('no-differing-one', [4, 3, 2, 1, 0], (1,), [(104, 100), (103, 102)])]:
+        feeder = chain(BESIDE, listed, locked)
+        case('locked-' + name, feeder, bytes_of(feeder, {0, 1, 2}), bytes_of(feeder, {1, 3, 4}), 22, known)
+    # branch 3 is out of service: its switch differs, is locked and stays as found
+    for flags in (0, 2):
+        feeder = Feeder(TRIANGLE.buses, TRIANGLE.branches + [(1, 2, 0)], [(12, 3, flags), (10, 1, 2), (11, 2, 2)])
+        for present, wanted in (('0', '1'), ('1', '0')):
+            name = 'out-of-service-flags-%d-byte-%s-to-%s' % (flags, present, wanted)
+            case(name, feeder, present + '01', wanted + '10', 11, [(11, 10)])
+            case(name + '-empty', feeder, present + '01', wanted + '01', 0, [])
+
+
+def drawn(name, draw, n, share):
+    """A feeder of n buses and two radial states of it, of which the second keeps at least a share of the first one's branches."""
+    buses = draw.sample(range(65536), n)
+    ends = [(i, draw.randrange(max(0, i - draw.choice([1, 3, n])), i)) for i in range(1, n)]
+    ends += [(draw.randrange(n), draw.randrange(n)) for _ in range(draw.randint(1, n if n < 256 else n // 2))]
+    draw.shuffle(ends)
+    branches = [tuple(buses[i] for i in draw.sample(pair, 2)) + (1,) for pair in ends]
+    feeder = Feeder(buses, branches, [])
+    order = draw.sample(range(len(branches)), len(branches))
+    first = feeder.joined(order)
+    draw.shuffle(order)
+    kept = [k for k in order if k in first and draw.random() < share]
+    second = feeder.joined(kept + [k for k in order if k not in first] + order)
+    for k, (a, b, _) in enumerate(branches):
+        if k not in first | second and draw.random() < 0.3:
+            branches[k] = (a, b, 0)
+    positions = [k for k in range(len(branches)) if k not in first & second or draw.random() < 0.7]
+    draw.shuffle(positions)
+    always_operable = first ^ second if n == 256 or draw.random() < 0.9 else ()
+    feeder.switches = [(number, k, draw.randrange(2) + 2 * (k in always_operable or draw.random() < 0.8))
+                       for number, k in zip(draw.sample(range(65536), len(positions)), positions)]
+    states = [''.join(draw.choice('01') if branches[k][2] == 0 else '01'[k not in live] for k in positions) for live in (first, second)]
+    case(name, feeder, *states, 11 * len(first - second) + draw.choice([0, 0, 1, 7]))
+
+
+def full_size():
+    """255 pairs on 256 buses: two trees that share no branch, listed in any order."""
+    draw = random.Random(3)
+    buses = list(range(256))
+    branches = [(i, i + 1, 1) for i in range(255)] + [(draw.randrange(i), i, 1) for i in range(1, 256)]
+    positions = draw.sample(range(510), 510)
+    feeder = Feeder(buses, branches, [(1000 + i, k, 2) for i, k in enumerate(positions)])
+    states = [''.join('01'[(k < 255) == second] for k in positions) for second in (False, True)]
+    assert len(answer(feeder, '', *states, 2805)) == 255
+    case('255-pairs', feeder, *states, 2805)
+    case('255-pairs-one-byte-short', feeder, *states, 2804, (13, 0))
+
+
+def main():
+    for make in (slices, orders, network_refusals, refusals, locked_switches, full_size):
+        make()
+    assert told_apart == set(WRONG), set(WRONG) - told_apart
+    draw = random.Random(4)
+    for i in range(250):
+        drawn('drawn-%d' % i, draw, min(draw.randint(2, 40) for _ in range(2)), draw.choice([0, 0, 0.3, 0.6]))
+    for i in range(4):
+        drawn('drawn-256-buses-%d' % i, draw, 256, [0, 0.1, 0.3, 0.6][i])
+    names = [case[0] for case in cases]
+    assert len(names) == len(set(names)), 'a name stands twice'
+    os.makedirs(ROOT, exist_ok=True)
+    with open(os.path.join(ROOT, 'stdin'), 'wb') as out:
+        for name, feeder, change, present, wanted, room, _ in cases:
+            text = feeder.text()
+            out.write(b'%d %s\n' % (len(text), name.encode()) + text + b'\n')
+            out.write(('%s %s\n%s\n%s\n' % (CHANGES[change], present, wanted, '.' * room)).encode())
+        assert out.tell() <= 524288, 'the program has no room for the cases'
+    plans = [found for *_, found in cases if isinstance(found, list)]
+    with open(os.path.join(ROOT, 'stdout'), 'w') as out:
+        for name, _, _, _, _, room, found in cases:
+            is_plan = isinstance(found, list)
+            lines = ''.join('83%04X%04X\n' % pair for pair in found) if is_plan else ''
+            said = '%d' % len(found) if is_plan else 'refused %d %d' % found
+            out.write('%s %s [%s]\n' % (name, said, lines + '.' * (room - len(lines))))
+        pairs = 2 * sum(map(len, plans))
+        out.write('cases %d\nplans judged %d\npairs %d\nstopping points %d\nfaults 0\n' % (len(cases), 2 * len(plans), pairs, 2 * pairs + 2 * len(plans)))
+    print('%d cases, %d plans' % (len(cases), len(plans)))
+
+
+main()
