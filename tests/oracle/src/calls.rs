@@ -12,8 +12,9 @@ use crate::damage;
 use crate::driver::Original;
 use crate::random::Random;
 use crate::reckoning::plan::{self, plan, well_formed};
-use crate::reckoning::{judge, reader, Network, Refusal, CLOSED, OPEN};
+use crate::reckoning::{judge, reader, Network, Refusal};
 use crate::shapes::SHAPES;
+use crate::states::{any_plan, any_state, near};
 use std::collections::BTreeMap;
 
 const FILLER: u8 = 0xAA;
@@ -41,59 +42,12 @@ fn any_question(random: &mut Random) -> Question {
     let call = match random.below(5) {
         0 | 1 => Call::State(any_state(random, &network)),
         2 => Call::Best(near(random, network.switches.len())),
-        _ => any_plan(random, &network),
+        _ => {
+            let (present, wanted, room) = any_plan(random, &network);
+            Call::Plan { present, wanted, room }
+        }
     };
     Question { text, call }
-}
-
-/// A length at, one short of or above the one that fits, or 0.
-fn near(random: &mut Random, fitting: usize) -> usize {
-    random.pick(&[fitting, fitting, fitting.saturating_sub(1), fitting + 1, fitting + 9, 0])
-}
-
-fn any_state(random: &mut Random, network: &Network) -> Vec<u8> {
-    let count = network.switches.len();
-    let bits = |random: &mut Random| (0..count).map(|_| random.below(2) as u8).collect::<Vec<u8>>();
-    match random.below(12) {
-        0 => network.base(),
-        1 => vec![CLOSED; count],
-        2 => vec![OPEN; count],
-        3 => vec![OPEN; near(random, count)],
-        4 => {
-            let mut state = bits(random);
-            let at = random.below(count.max(1));
-            state.iter_mut().skip(at).take(1).for_each(|byte| *byte = random.pick(&[2, 0x80, 0xFF]));
-            state
-        }
-        5 | 6 => bits(random),
-        _ => radial_state(random, network).unwrap_or_else(|| bits(random)),
-    }
-}
-
-fn any_plan(random: &mut Random, network: &Network) -> Call {
-    let radial = |random: &mut Random| radial_state(random, network).unwrap_or_else(|| any_state(random, network));
-    let present = if random.percent(15) { any_state(random, network) } else { radial(random) };
-    let wanted = if random.percent(15) { any_state(random, network) } else { radial(random) };
-    let pairs = plan(network, &present, &wanted, usize::MAX).map_or(0, |pairs| pairs.len());
-    Call::Plan { present, wanted, room: near(random, pairs) }
-}
-
-/// A state whose live branches are a tree: fixed branches first, then those with a switch in any order.
-fn radial_state(random: &mut Random, network: &Network) -> Option<Vec<u8>> {
-    let switch_on = |k: usize| network.switches.iter().position(|s| s.branch == k);
-    let mut order: Vec<usize> = (0..network.branches.len()).filter(|&k| network.branches[k].in_service).collect();
-    random.shuffle(&mut order);
-    order.sort_by_key(|&k| switch_on(k).is_some());
-    let mut piece: Vec<usize> = (0..network.buses.len()).collect();
-    let mut state: Vec<u8> = network.switches.iter().map(|_| random.below(2) as u8).collect();
-    for k in order {
-        let (a, b) = (piece[network.branches[k].from], piece[network.branches[k].to]);
-        piece.iter_mut().filter(|piece| **piece == a && a != b).for_each(|piece| *piece = b);
-        if let Some(i) = switch_on(k) {
-            state[i] = if a != b { CLOSED } else { OPEN };
-        }
-    }
-    plan::radial(network, &network.live(&state)).then_some(state)
 }
 
 fn digits(bytes: &[u8]) -> String {

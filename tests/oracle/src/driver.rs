@@ -15,7 +15,7 @@ pub const REACTANCE: f64 = 0.0;
 
 pub struct Original {
     pub network: PowerNetwork,
-    solver: NetworkReconfiguration,
+    pub solver: NetworkReconfiguration,
 }
 
 pub struct Answer {
@@ -61,7 +61,7 @@ impl Original {
         self.solver.evaluate_config(&self.network, &self.configuration(state)).expect("every open switch is listed")
     }
 
-    fn configuration(&self, state: &[u8]) -> NetworkConfiguration {
+    pub fn configuration(&self, state: &[u8]) -> NetworkConfiguration {
         let switches = || self.solver.config.switches.iter().zip(state);
         NetworkConfiguration {
             open_switches: switches().filter(|(_, &byte)| byte == OPEN).map(|(s, _)| s.id).collect(),

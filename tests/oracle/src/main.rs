@@ -18,6 +18,7 @@ mod reckoning;
 mod records;
 mod shapes;
 mod short;
+mod states;
 mod values;
 mod wrong;
 

@@ -1,0 +1,48 @@
+-- `radiality_numbers` meets its contract: each case is answered by its numbers.
+use mathlib.Core.Path.{ap, sym, _∙_}
+use Rattle.network.specs.Answers.{accepted}
+use Rattle.printing.specs.Printed.{truthByte}
+use Rattle.graph.specs.Answers.{radialityOf}
+use Rattle.controller.specs.Calls.{numbersOf}
+use Rattle.controller.specs.CallLaws.{numbered}
+use borrow.Author.Needs.{needs}
+use Rattle.controller.proofs.answer.radiality_numbers.Statement.{statement}
+use Rattle.controller.proofs.answer.radiality_numbers.Tie as tie
+
+enum-known-answer : tie.Need-enum-known-answer
+enum-known-answer c = search needs
+
+refusal-requires : tie.Need-refusal-requires
+refusal-requires c κs = search needs
+
+enum-known-answer-2 : tie.Need-enum-known-answer-2
+enum-known-answer-2 c = search needs
+
+truth-value-requires : tie.Need-truth-value-requires
+truth-value-requires c κs = search needs
+
+answered-requires : tie.Need-answered-requires
+answered-requires c κs = search needs
+
+returns : tie.Need-returns
+unfolding numbered
+returns c = c .refusal .ensures ∙ ap (λ a. numbersOf (numbered truthByte (radialityOf a))) (sym (c .before .before .answer .given .1))
+
+returns-2 : tie.Need-returns-2
+unfolding numbered
+returns-2 c =
+    c .answered .ensures
+    ∙ ap (λ v. numbersOf (accepted v)) (c .before .truth-value .ensures)
+    ∙ ap (λ a. numbersOf (numbered truthByte (radialityOf a))) (sym (c .before .before .before .answer2 .given .1))
+
+pub radiality-numbers-spec : {M : Type 1} → statement M
+radiality-numbers-spec =
+    tie.close
+    (tie.spec
+    enum-known-answer
+    refusal-requires
+    enum-known-answer-2
+    truth-value-requires
+    answered-requires
+    returns
+    returns-2)

@@ -1,0 +1,50 @@
+-- `feeder_radiality` meets its contract: the text is refused, or the call on its records answers.
+use mathlib.Core.Path.{ap, _∙_}
+use Rattle.controller.specs.Calls.{numbersOf}
+use Rattle.controller.specs.CallLaws.{read-refused, read-accepted, radiality-refused, radiality-answered}
+use borrow.Author.Needs.{needs}
+use Rattle.controller.proofs.calls.feeder_radiality.Statement.{statement}
+use Rattle.controller.proofs.calls.feeder_radiality.Tie as tie
+
+read-text-requires : tie.Need-read-text-requires
+read-text-requires c κs = search needs
+
+enum-known-verdict : tie.Need-enum-known-verdict
+enum-known-verdict c = search needs
+
+refusal-requires : tie.Need-refusal-requires
+refusal-requires c κs = search needs
+
+returns : tie.Need-returns
+returns c =
+    let verdict = c .before .before in
+    let so = read-refused _ _ _ _ (verdict .before .before .read-text .ensures) (verdict .verdict .given .1) in
+    c .refusal .ensures ∙ ap numbersOf (radiality-refused _ _ _ so _)
+
+enum-told : tie.Need-enum-told
+enum-told c = search needs
+
+verify-radiality-requires : tie.Need-verify-radiality-requires
+verify-radiality-requires c κs = search needs
+
+radiality-numbers-requires : tie.Need-radiality-numbers-requires
+radiality-numbers-requires c κs = search needs
+
+returns-2 : tie.Need-returns-2
+returns-2 c =
+    let told = c .before .before .before in
+    let so = read-accepted _ _ (told .before .before .read-text .ensures) (told .enum-told .given .1) in
+    c .radiality-numbers .ensures ∙ ap numbersOf (radiality-answered _ _ so _ _ (c .before .verify-radiality .ensures))
+
+pub feeder-radiality-spec : {M : Type 1} → statement M
+feeder-radiality-spec =
+    tie.close
+    (tie.spec
+    read-text-requires
+    enum-known-verdict
+    refusal-requires
+    returns
+    enum-told
+    verify-radiality-requires
+    radiality-numbers-requires
+    returns-2)

@@ -1,0 +1,109 @@
+-- The calls on records give those on texts: what the reader and a call answered, put together.
+use mathlib.Core.Path.{_≡_, refl, sym, ap, subst, _∙_}
+use mathlib.Core.Bool.{Bool, not}
+use mathlib.Core.List.{List}
+use Prim.Native.Nat.{ℕ}
+use lib.Dec.{T}
+use lib.Ieee.{Float, binary64, isNan, toBits}
+use Rattle.network.specs.declared.error.Verdict.the-variants.{Accepted, Refused}
+use Rattle.network.specs.Answers.{Answer, accepted, refused, answerOf, _andThen_}
+use Rattle.network.specs.AnswerLaws.{no-refusal}
+use Rattle.network.specs.Check.{checkRecords}
+use Rattle.network.specs.Live.{checkState}
+use Rattle.network.specs.Records.{Network, recordsOf}
+use Rattle.network.specs.RecordLaws.{records-of-network}
+use Rattle.frames.specs.declared.reader.Reading.{Reading}
+use Rattle.frames.specs.Claim.{claim}
+use Rattle.printing.specs.Calls.{Call}
+use Rattle.printing.specs.Printed.{truthByte}
+use Rattle.frames.specs.Reading.{readingOf}
+use Rattle.frames.specs.Text.{readText}
+use Rattle.graph.specs.Feeder.{radialIn}
+use Rattle.losses.specs.Accepted.{loss-finite}
+use Rattle.losses.specs.Loss.{lossIn}
+use Rattle.plan.specs.Plan.{planned}
+use Rattle.controller.specs.declared.answer.CallAnswer.{CallAnswer}
+use Rattle.controller.specs.Calls.{numbersOf, onRecords, textRadiality, textLoss, planOn, textPlan, planNumbers}
+
+-- what was asked for, as a number; a refusal stays
+unfoldable pub numbered : {A : Type 0} → (A → ℕ) → Answer A → Answer ℕ
+numbered f (accepted a) = accepted (f a)
+numbered f (refused n p) = refused n p
+
+numbered-then : {A : Type 0} (f : A → ℕ) (c : Answer (Unit {0})) (a : A) → numbered f (c andThen accepted a) ≡ (c andThen accepted (f a))
+unfolding numbered _andThen_
+numbered-then f (accepted u) a = refl
+numbered-then f (refused n p) a = refl
+
+-- ---- a loss has bits
+abbrev pub NoNan : Answer Float → Type 0
+NoNan (accepted x) = T (not (isNan x))
+NoNan (refused n p) = Unit {0}
+
+no-nan-behind : (c : Answer (Unit {0})) (a : Answer Float) → (c ≡ accepted tt → NoNan a) → NoNan (c andThen a)
+unfolding _andThen_
+no-nan-behind (accepted u) a h = h refl
+no-nan-behind (refused n p) a h = tt
+
+pub loss-no-nan : (N : Network) (c : Answer (Unit {0})) (s : List ℕ) (x : Answer Float) → x ≡ (checkRecords N andThen c andThen accepted (lossIn N s)) → NoNan x
+loss-no-nan N c s x e =
+    subst NoNan (sym e) (no-nan-behind (checkRecords N) _ λ ok. no-nan-behind c (accepted (lossIn N s)) λ _. loss-finite N ok s .2)
+
+-- ---- what the reader answered says how the text reads
+pub read-refused : (a : Answer Network) (r : Reading) (n p : ℕ) → r ≡ readingOf a → r .verdict ≡ Refused n p → a ≡ refused n p
+unfolding readingOf _andThen_
+read-refused (accepted N) r n p e v = no-refusal (sym (ap answerOf (sym (ap (λ (x : Reading). x .verdict) e) ∙ v)))
+read-refused (refused m q) r n p e v = ap (λ x. answerOf x andThen refused 0 0) (sym (ap (λ (x : Reading). x .verdict) e) ∙ v)
+
+pub read-accepted : (a : Answer Network) (r : Reading) → r ≡ readingOf a → r .verdict ≡ Accepted → a ≡ accepted (recordsOf (r .network))
+unfolding readingOf
+read-accepted (accepted N) r e v = ap accepted (sym (ap (λ (x : Reading). recordsOf (x .network)) e ∙ records-of-network N))
+read-accepted (refused n p) r e v = no-refusal (ap answerOf (sym (ap (λ (x : Reading). x .verdict) e) ∙ v))
+
+-- ---- a refused text
+module _ (t : List ℕ) (n p : ℕ) (so : readText t ≡ refused n p) where
+  text-refused : (call : Network → Answer ℕ) → refused n p ≡ onRecords (readText t) call
+  unfolding onRecords
+  text-refused call = ap (λ a. onRecords a call) (sym so)
+
+  pub radiality-refused : (s : List ℕ) → refused n p ≡ textRadiality t s
+  unfolding textRadiality
+  radiality-refused s = text-refused _
+
+  pub loss-refused : (s : List ℕ) → refused n p ≡ textLoss t s
+  unfolding textLoss
+  loss-refused s = text-refused _
+
+  pub plan-refused : (present wanted out : List ℕ) → record { answer = refused n p; out = out } ≡ textPlan t present wanted out
+  unfolding textPlan planOn
+  plan-refused present wanted out = ap (λ a. planOn a present wanted out) (sym so)
+
+-- ---- an accepted text: the check of its records comes to nothing
+module _ (t : List ℕ) (N : Network) (so : readText t ≡ accepted N) where
+  call-answered : {A : Type 0} (f : A → ℕ) (check : Network → Answer (Unit {0})) (value : Network → A) (x : Answer A)
+      → x ≡ (checkRecords N andThen check N andThen accepted (value N))
+      → numbered f x ≡ onRecords (readText t) (λ M. check M andThen accepted (f (value M)))
+  unfolding onRecords _andThen_
+  call-answered f check value x h =
+      ap (numbered f) (h ∙ ap (λ c. c andThen check N andThen accepted (value N)) (claim .passed t N so))
+      ∙ numbered-then f (check N) (value N)
+      ∙ ap (λ a. onRecords a (λ M. check M andThen accepted (f (value M)))) (sym so)
+
+  pub radiality-answered : (s : List ℕ) (x : Answer Bool) → x ≡ (checkRecords N andThen checkState N s 0 andThen accepted (radialIn N s))
+      → numbered truthByte x ≡ textRadiality t s
+  unfolding textRadiality
+  radiality-answered s x = call-answered truthByte (λ M. checkState M s 0) (λ M. radialIn M s) x
+
+  pub loss-answered : (s : List ℕ) (x : Answer Float) → x ≡ (checkRecords N andThen checkState N s 0 andThen accepted (lossIn N s))
+      → numbered (toBits binary64) x ≡ textLoss t s
+  unfolding textLoss
+  loss-answered s x = call-answered (toBits binary64) (λ M. checkState M s 0) (λ M. lossIn M s) x
+
+  pub plan-answered : (present wanted out : List ℕ) → planned N present wanted out ≡ textPlan t present wanted out
+  unfolding textPlan planOn
+  plan-answered present wanted out = ap (λ a. planOn a present wanted out) (sym so)
+
+-- the answer's numbers beside what the slice holds
+pub numbers-beside : (a : CallAnswer) (x : Answer ℕ) (held : List ℕ) (p : Call ℕ) → a ≡ numbersOf x → record { answer = x; out = held } ≡ p
+    → record { answer = a; out = held } ≡ planNumbers p
+numbers-beside a x held p q h = ap (λ b. record { answer = b; out = held }) q ∙ ap planNumbers h

@@ -1,0 +1,48 @@
+-- What the calls on texts answer: the text's refusal, then the call's own on the records of the text, as numbers that C and Rust take.
+use mathlib.Core.List.{List}
+use Prim.Native.Nat.{ℕ}
+use lib.Ieee.{binary64, toBits}
+use Rattle.network.specs.Answers.{Answer, accepted, refused, _andThen_}
+use Rattle.network.specs.Live.{checkState}
+use Rattle.network.specs.Records.{Network}
+use Rattle.printing.specs.Calls.{Call}
+use Rattle.printing.specs.Printed.{truthByte}
+use Rattle.frames.specs.Text.{readText}
+use Rattle.graph.specs.Feeder.{radialIn}
+use Rattle.losses.specs.Loss.{lossIn}
+use Rattle.plan.specs.Plan.{planned}
+use Rattle.controller.specs.declared.answer.CallAnswer.{CallAnswer}
+
+-- number 0, place 0 and the value, or document 01's number and place and the value 0
+abbrev pub numbersOf : Answer ℕ → CallAnswer
+numbersOf (accepted value) = record { number = 0; place = 0; value = value }
+numbersOf (refused number place) = record { number = number; place = place; value = 0 }
+
+-- "Calls test the network": for a text that is its reading, and then comes what the call says of its records
+unfoldable pub onRecords : Answer Network → (Network → Answer ℕ) → Answer ℕ
+onRecords (accepted N) call = call N
+onRecords (refused number place) call = refused number place
+
+-- 1 where the state is radial, else 0, after refusal 10
+unfoldable pub textRadiality : List ℕ → List ℕ → Answer ℕ
+textRadiality text state = onRecords (readText text) (λ N. checkState N state 0 andThen accepted (truthByte (radialIn N state)))
+
+-- the bits of the loss in MW, after refusal 10
+unfoldable pub textLoss : List ℕ → List ℕ → Answer ℕ
+textLoss text state = onRecords (readText text) (λ N. checkState N state 0 andThen accepted (toBits binary64 (lossIn N state)))
+
+-- ---- a call that writes: what it answers, and what the lent slice holds then
+pub record CallWritten : Type 0 where
+  pub answer : CallAnswer
+  pub out : List ℕ
+
+-- how many pairs, after refusals 10 to 13, and the slice; "A refusal .. writes no lent byte"
+unfoldable pub planOn : Answer Network → List ℕ → List ℕ → List ℕ → Call ℕ
+planOn (accepted N) present wanted out = planned N present wanted out
+planOn (refused number place) present wanted out = record { answer = refused number place; out = out }
+
+unfoldable pub textPlan : List ℕ → List ℕ → List ℕ → List ℕ → Call ℕ
+textPlan text present wanted out = planOn (readText text) present wanted out
+
+abbrev pub planNumbers : Call ℕ → CallWritten
+planNumbers p = record { answer = numbersOf (p .answer); out = p .out }

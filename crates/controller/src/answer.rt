@@ -1,0 +1,92 @@
+// What a call answers, in numbers alone.
+ghost use mathlib.Core.Path.{_≡_};
+ghost use mathlib.Core.Bool.{not};
+ghost use lib.Dec.{T};
+ghost use lib.Ieee.{binary64, isNan, toBits};
+ghost use Rattle.network.specs.Answers.{accepted, refused};
+ghost use Rattle.printing.specs.Printed.{truthByte};
+ghost use Rattle.graph.specs.Answers.{radialityOf};
+ghost use Rattle.losses.specs.Answers.{lossAnswerOf};
+ghost use Rattle.plan.specs.Plan.{planAnswerOf};
+ghost use Rattle.answers.specs.Printing.{textAnswerOf};
+ghost use Rattle.controller.specs.Calls.{numbersOf};
+ghost use Rattle.controller.specs.CallLaws.{numbered, NoNan};
+use answers::printer::TextAnswer;
+use graph::radiality::Radiality;
+use losses::evaluation::LossAnswer;
+use plan::planner::PlanAnswer;
+
+// Number 0 with what was asked for, or document 01's refusal number and place.
+#[repr(C)]
+pub struct CallAnswer {
+    pub number: u8,
+    pub place: u16,
+    pub value: u64,
+}
+
+fn answered(value: u64) -> CallAnswer
+    ensures { λ r. ⌜ r ≡ numbersOf (accepted value) ⌝ }
+{
+    CallAnswer {
+        number: 0,
+        place: 0,
+        value,
+    }
+}
+
+pub(crate) fn refusal(number: u8, place: u16) -> CallAnswer
+    ensures { λ r. ⌜ r ≡ numbersOf (refused number place) ⌝ }
+{
+    CallAnswer {
+        number,
+        place,
+        value: 0,
+    }
+}
+
+fn truth_value(b: bool) -> u64
+    ensures { λ r. ⌜ r ≡ truthByte b ⌝ }
+{
+    if b {
+        return 1;
+    }
+    0
+}
+
+pub(crate) fn radiality_numbers(answer: Radiality) -> CallAnswer
+    ensures { λ r. ⌜ r ≡ numbersOf (numbered truthByte (radialityOf answer)) ⌝ }
+{
+    match answer {
+        Radiality::Refused { number, place } => refusal(number, place),
+        Radiality::Radial(radial) => answered(truth_value(radial)),
+    }
+}
+
+// No NaN has bits of its own, and no loss is a NaN.
+pub(crate) fn loss_numbers(answer: LossAnswer) -> CallAnswer
+    requires { ⌜ NoNan (lossAnswerOf answer) ⌝ }
+    ensures { λ r. ⌜ r ≡ numbersOf (numbered (toBits binary64) (lossAnswerOf answer)) ⌝ }
+{
+    match answer {
+        LossAnswer::Refused { number, place } => refusal(number, place),
+        LossAnswer::Loss(loss) => answered(f64::to_bits(loss)),
+    }
+}
+
+pub(crate) fn plan_numbers(answer: PlanAnswer) -> CallAnswer
+    ensures { λ r. ⌜ r ≡ numbersOf (planAnswerOf answer) ⌝ }
+{
+    match answer {
+        PlanAnswer::Refused { number, place } => refusal(number, place),
+        PlanAnswer::Pairs(count) => answered(count as u64),
+    }
+}
+
+pub(crate) fn text_numbers(answer: TextAnswer) -> CallAnswer
+    ensures { λ r. ⌜ r ≡ numbersOf (textAnswerOf answer) ⌝ }
+{
+    match answer {
+        TextAnswer::Refused { number, place } => refusal(number, place),
+        TextAnswer::Printed(count) => answered(count as u64),
+    }
+}

@@ -1,0 +1,136 @@
+//! The calls of include/feeder.h from Rust, on seeded feeders of every shape, damaged texts, and states that are radial, not radial and
+//! faulty: each answer and each byte of a lent slice against tests/oracle's independent reckoning of document 01.
+
+#![allow(dead_code)]
+
+#[path = "../oracle/src/damage.rs"]
+mod damage;
+#[path = "../oracle/src/feeder.rs"]
+mod feeder;
+#[path = "../timing/feeders.rs"]
+mod feeders;
+mod library;
+#[path = "../oracle/src/random.rs"]
+mod random;
+#[path = "../oracle/src/reckoning/mod.rs"]
+mod reckoning;
+#[path = "../oracle/src/shapes.rs"]
+mod shapes;
+#[path = "../oracle/src/states.rs"]
+mod states;
+#[path = "../oracle/src/values.rs"]
+mod values;
+
+use library::Answer;
+use random::Random;
+use reckoning::plan::{lines, plan, radial, well_formed};
+use reckoning::searches::Searches;
+use reckoning::{reader, Network, Refusal};
+use std::process::ExitCode;
+
+const CASES: usize = 4000;
+const GUARD: u8 = 0xAA;
+const MARGIN: usize = 16;
+const PAIR_LENGTH: usize = 11;
+const TEXT_LENGTH: usize = 7472;
+
+struct Checks {
+    count: usize,
+    refused: [usize; 14],
+}
+
+fn main() -> ExitCode {
+    let mut checks = Checks { count: 0, refused: [0; 14] };
+    let good = timed_feeders(&mut checks) && (0..CASES).all(|number| any_case(&mut checks, number));
+    for (number, count) in checks.refused.iter().enumerate().skip(1) {
+        println!("interface: Rust: {count:6} refused with {number}");
+    }
+    println!("interface: Rust: {} answers, {}", checks.count, if good { "0 wrong" } else { "1 wrong" });
+    if good { ExitCode::SUCCESS } else { ExitCode::FAILURE }
+}
+
+/// The triangle, 33 buses and the largest feeder, forward and back, with room for the plan, and one byte less.
+fn timed_feeders(checks: &mut Checks) -> bool {
+    feeders::all().iter().all(|timed| {
+        let text = timed.feeder.text();
+        let network = reader::read(&text).expect("acceptable");
+        let (a, b) = (&timed.first[..], &timed.second[..]);
+        let room = PAIR_LENGTH * plan(&network, a, b, usize::MAX).expect("two radial states").len();
+        [a, b].iter().all(|state| state_answers(checks, &text, state))
+            && [room, room - 1].iter().all(|&room| plan_answer(checks, &text, a, b, room) && plan_answer(checks, &text, b, a, room))
+    })
+}
+
+fn any_case(checks: &mut Checks, number: usize) -> bool {
+    let random = &mut Random::new(1, "interface", number);
+    let feeder = (shapes::SHAPES[random.below(shapes::SHAPES.len())].make)(random);
+    let text = if random.percent(10) { damage::damaged(random) } else { feeder.text() };
+    let network = reader::read(&text).or(reader::read(&feeder.text())).expect("shapes are acceptable");
+    let state = states::any_state(random, &network);
+    let (present, wanted, pairs) = states::any_plan(random, &network);
+    let room = (PAIR_LENGTH * pairs).saturating_sub(random.below(2));
+    state_answers(checks, &text, &state) && plan_answer(checks, &text, &present, &wanted, room) && text_answers(checks, &text)
+}
+
+/// A refused text prints its 8F line alone, another one begins with 81. A slice that is exactly full gets the same bytes, one byte less is 13 and untouched.
+fn text_answers(checks: &mut Checks, text: &[u8]) -> bool {
+    let mut long = vec![GUARD; TEXT_LENGTH];
+    let answer = library::answer_text(text, &mut long);
+    let length = answer.value as usize;
+    let right = match reader::read(text) {
+        Err(Refusal { number, place }) => long[..length] == *format!("8F{number:02X}{place:04X}\n").as_bytes(),
+        Ok(_) => long.starts_with(b"81"),
+    };
+    let mut full = vec![GUARD; length];
+    let mut short = vec![GUARD; length - 1];
+    let kept = long[length..].iter().all(|&b| b == GUARD);
+    let good = right && kept && library::answer_text(text, &mut full) == answer && full == long[..length];
+    if !good {
+        println!("interface: Rust: answer: {answer:?}, text:\n{}", String::from_utf8_lossy(text));
+    }
+    good && compare(checks, "answer", text, Err(Refusal { number: 13, place: 0 }), library::answer_text(text, &mut short))
+        && short.iter().all(|&b| b == GUARD)
+}
+
+fn state_answers(checks: &mut Checks, text: &[u8], state: &[u8]) -> bool {
+    let is_radial = |network: &Network| radial(network, &network.live(state)) as u64;
+    let loss = |network: &Network| Searches::new(network, None).loss(state).to_bits();
+    compare(checks, "radiality", text, on_state(text, state, is_radial), library::radiality(text, state))
+        && compare(checks, "loss", text, on_state(text, state, loss), library::loss(text, state))
+}
+
+/// What document 01 answers on a state of a text's network.
+fn on_state(text: &[u8], state: &[u8], value: impl Fn(&Network) -> u64) -> Result<u64, Refusal> {
+    let network = reader::read(text)?;
+    if well_formed(&network, state) { Ok(value(&network)) } else { Err(Refusal { number: 10, place: 0 }) }
+}
+
+/// The slice lies between guard bytes and is full of them.
+fn plan_answer(checks: &mut Checks, text: &[u8], present: &[u8], wanted: &[u8], room: usize) -> bool {
+    let mut bytes = vec![GUARD; MARGIN + room + MARGIN];
+    let mut right = bytes.clone();
+    let expected = reader::read(text).and_then(|network| {
+        let pairs = plan(&network, present, wanted, room / PAIR_LENGTH)?;
+        let written = lines(&network, &pairs).into_bytes();
+        right[MARGIN..MARGIN + written.len()].copy_from_slice(&written);
+        Ok(pairs.len() as u64)
+    });
+    let answer = library::plan(text, present, wanted, &mut bytes[MARGIN..MARGIN + room]);
+    if bytes != right {
+        println!("interface: Rust: plan: the lent bytes are wrong, text:\n{}", String::from_utf8_lossy(text));
+    }
+    bytes == right && compare(checks, "plan", text, expected, answer)
+}
+
+fn compare(checks: &mut Checks, call: &str, text: &[u8], expected: Result<u64, Refusal>, answer: Answer) -> bool {
+    let right = match expected {
+        Ok(value) => Answer { number: 0, place: 0, value },
+        Err(Refusal { number, place }) => Answer { number, place, value: 0 },
+    };
+    checks.count += 1;
+    checks.refused[usize::from(right.number)] += 1;
+    if answer != right {
+        println!("interface: Rust: {call}: {answer:?} for {right:?}, text:\n{}", String::from_utf8_lossy(text));
+    }
+    answer == right
+}

@@ -1,0 +1,105 @@
+//! The feeders that are timed: document 01's triangle, one of 33 buses, and the largest there may be. Each has two radial states, the first of
+//! them its base.
+
+use crate::feeder::{triangle, Feeder, OPERABLE, TIE};
+
+pub struct Timed {
+    pub name: &'static str,
+    pub feeder: Feeder,
+    pub first: Vec<u8>,
+    pub second: Vec<u8>,
+}
+
+pub fn all() -> Vec<Timed> {
+    vec![small(), middle(), full()]
+}
+
+/// The same feeders for each search. The largest one is searched by the exchange for one round, since the Rust takes seconds for each, and
+/// the exhaustive search wants at most ten ties.
+pub fn searched() -> Vec<(&'static str, Timed)> {
+    let with = |mut timed: Timed, method: u8, iterations: u16| {
+        timed.feeder.method = method;
+        timed.feeder.iterations = iterations;
+        timed
+    };
+    vec![
+        ("exchange", with(small(), 0, 100)),
+        ("exchange", with(middle(), 0, 100)),
+        ("exchange, 1 round", with(full(), 0, 1)),
+        ("tabu, 100 rounds", with(small(), 1, 100)),
+        ("tabu, 100 rounds", with(middle(), 1, 100)),
+        ("tabu, 100 rounds", with(full(), 1, 100)),
+        ("exhaustive, 1 tie", with(small(), 2, 100)),
+        ("exhaustive, 5 ties", with(middle(), 2, 100)),
+        ("exhaustive, 10 ties", with(with_ten_ties(full()), 2, 100)),
+    ]
+}
+
+/// From the eleventh tie on, branches are out of service and their switches closed.
+fn with_ten_ties(mut timed: Timed) -> Timed {
+    let ties: Vec<usize> = (0..timed.feeder.switches.len()).filter(|&i| timed.feeder.switches[i].flags & TIE != 0).collect();
+    for &i in &ties[10..] {
+        let switch = &mut timed.feeder.switches[i];
+        switch.flags &= !TIE;
+        timed.feeder.branches[usize::from(switch.branch)].status = 0;
+        timed.first[i] = 0;
+    }
+    timed
+}
+
+fn small() -> Timed {
+    Timed { name: "3 buses", feeder: triangle(), first: vec![0, 1], second: vec![1, 0] }
+}
+
+/// A trunk of 18 buses, laterals at buses 2, 3 and 6, and five ties: 37 branches, each with a switch.
+fn middle() -> Timed {
+    let mut ends: Vec<(u16, u16)> = (1..18).map(|bus| (bus, bus + 1)).collect();
+    for (at, first, last) in [(2, 19, 22), (3, 23, 25), (6, 26, 33)] {
+        ends.push((at, first));
+        ends.extend((first..last).map(|bus| (bus, bus + 1)));
+    }
+    let sections = ends.len();
+    ends.extend([(21, 8), (9, 15), (22, 12), (18, 33), (25, 29)]);
+    let feeder = feeder_of(33, &ends, sections, 10.0);
+    // Each closed tie is matched by an open branch of its loop.
+    let opened: Vec<usize> = [(7, 8), (9, 10), (14, 15), (32, 33), (28, 29)]
+        .iter()
+        .map(|&pair| ends.iter().position(|&e| e == pair).expect("a listed branch"))
+        .collect();
+    let first = state(&feeder, |branch| branch < sections);
+    let second = state(&feeder, |branch| !opened.contains(&branch));
+    Timed { name: "33 buses", feeder, first, second }
+}
+
+/// Two chains through all 256 buses without a common branch: from one to the other all 255 branches change.
+fn full() -> Timed {
+    let stride = |i: u16| i * 127 % 256 + 1;
+    let mut ends: Vec<(u16, u16)> = (1..256).map(|bus| (bus, bus + 1)).collect();
+    let sections = ends.len();
+    ends.extend((0..255).map(|i| (stride(i), stride(i + 1))));
+    let chains = ends.len();
+    ends.extend([(1, 200), (50, 250)]);
+    let feeder = feeder_of(256, &ends, sections, 100.0);
+    let first = state(&feeder, |branch| branch < sections);
+    let second = state(&feeder, |branch| sections <= branch && branch < chains);
+    Timed { name: "256 buses", feeder, first, second }
+}
+
+/// A switch on each branch, the ties normally open; loads and resistances that are no round numbers.
+fn feeder_of(buses: u16, ends: &[(u16, u16)], sections: usize, base_mva: f64) -> Feeder {
+    let mut feeder = Feeder { base_mva, method: 0, iterations: 100, ..Feeder::default() };
+    for bus in 1..=buses {
+        feeder.bus(bus, if bus == 1 { 0.0 } else { 0.05 + f64::from(bus * 37 % 101) / 300.0 });
+    }
+    for (branch, &(from, to)) in ends.iter().enumerate() {
+        feeder.branch(from, to, 0.001 + (branch * 53 % 97) as f64 / 7000.0);
+        let tie = if branch < sections { 0 } else { TIE };
+        feeder.switch(1000 + branch as u16, branch, OPERABLE | tie);
+    }
+    feeder
+}
+
+/// The state in which exactly these branches are live.
+fn state(feeder: &Feeder, live: impl Fn(usize) -> bool) -> Vec<u8> {
+    feeder.switches.iter().map(|s| !live(s.branch.into()) as u8).collect()
+}

@@ -1,0 +1,162 @@
+//! One driver for both sides: the Rust module, unchanged, and the proved static library, on the same inputs. What both answer is added up
+//! and must be the same; the least time of several samples is printed.
+
+#![allow(dead_code)]
+
+#[path = "../oracle/src/driver.rs"]
+mod driver;
+#[path = "../oracle/src/feeder.rs"]
+mod feeder;
+mod feeders;
+#[path = "../oracle/src/reckoning/mod.rs"]
+mod reckoning;
+
+use driver::Original;
+use feeders::Timed;
+use original::network::reconfiguration::{verify_radiality, NetworkConfiguration};
+use std::hint::black_box;
+use std::time::{Duration, Instant};
+
+/// Kinds of calls of `timing_rounds`, crates/timing/src/rounds.rt.
+const READING: u8 = 0;
+const RADIALITY: u8 = 1;
+const LOSS: u8 = 2;
+const PLAN: u8 = 3;
+const SEARCH: u8 = 4;
+
+const SAMPLES: usize = 15;
+const SAMPLE: Duration = Duration::from_millis(40);
+
+extern "C" {
+    fn timing_rounds(
+        kind: u8,
+        text: *const u8,
+        text_length: usize,
+        a: *const u8,
+        a_length: usize,
+        b: *const u8,
+        b_length: usize,
+        times: u64,
+    ) -> u64;
+}
+
+/// So many rounds of a call, the two states in turn, and the sum of what they answer.
+fn rattle(kind: u8, text: &[u8], a: &[u8], b: &[u8], times: u64) -> u64 {
+    unsafe { timing_rounds(kind, text.as_ptr(), text.len(), a.as_ptr(), a.len(), b.as_ptr(), b.len(), times) }
+}
+
+/// The Rust's side of a row, its configurations made before the time is taken.
+struct Rust {
+    original: Original,
+    configurations: [NetworkConfiguration; 2],
+}
+
+impl Rust {
+    fn new(timed: &Timed, text: &[u8]) -> Self {
+        let original = Original::new(&reckoning::reader::read(text).expect("the feeder is acceptable"));
+        let configurations = [original.configuration(&timed.first), original.configuration(&timed.second)];
+        Self { original, configurations }
+    }
+
+    fn rounds(&self, times: u64, call: impl Fn(&NetworkConfiguration) -> u64) -> u64 {
+        (0..times).fold(0, |sum: u64, i| sum.wrapping_add(call(black_box(&self.configurations[(i % 2) as usize]))))
+    }
+
+    fn radiality(&self, times: u64) -> u64 {
+        let switches = &self.original.solver.config.switches;
+        self.rounds(times, |configuration| verify_radiality(&self.original.network, configuration, switches) as u64)
+    }
+
+    fn loss(&self, times: u64) -> u64 {
+        let network = &self.original.network;
+        let loss = |configuration: &_| self.original.solver.evaluate_config(network, configuration);
+        self.rounds(times, |configuration| loss(configuration).expect("every switch is listed").to_bits())
+    }
+
+    /// The best loss of a search.
+    fn search(&self, times: u64) -> u64 {
+        let search = || self.original.solver.solve(black_box(&self.original.network)).expect("every text is solved");
+        (0..times).fold(0, |sum: u64, _| sum.wrapping_add(search().optimized_losses_mw.to_bits()))
+    }
+}
+
+fn main() {
+    println!("| call | feeder | Rust | Rattle | Rust ÷ Rattle |");
+    println!("|---|---|---|---|---|");
+    let timed = feeders::all();
+    for timed in &timed {
+        row("reading a text", timed, None, READING);
+    }
+    for timed in &timed {
+        row("radiality of a state", timed, Some(Rust::radiality), RADIALITY);
+    }
+    for timed in &timed {
+        row("loss of a state", timed, Some(Rust::loss), LOSS);
+    }
+    for timed in &timed {
+        row("plan", timed, None, PLAN);
+    }
+    for (name, timed) in &feeders::searched() {
+        row(name, timed, Some(Rust::search), SEARCH);
+    }
+}
+
+/// A line of the table. The Rust has no reader and no planner.
+fn row(call: &str, timed: &Timed, rust: Option<fn(&Rust, u64) -> u64>, kind: u8) {
+    let text = timed.feeder.text();
+    let side = Rust::new(timed, &text);
+    let ours = Sampled::new(|times| rattle(kind, &text, &timed.first, &timed.second, times));
+    let (theirs, ours) = match rust {
+        None => (None, ours.least(None::<Sampled<fn(u64) -> u64>>).0),
+        Some(rust) => {
+            let rounds = |times| rust(&side, times);
+            assert_eq!(rounds(2), (ours.rounds)(2), "{call}, {}: the two answer differently", timed.name);
+            let (ours, theirs) = ours.least(Some(Sampled::new(rounds)));
+            (theirs, ours)
+        }
+    };
+    let ratio = theirs.map_or(String::new(), |theirs| format!("{:.1}", theirs / ours));
+    println!("| {call} | {} | {} | {} | {ratio} |", timed.name, theirs.map_or("none".to_string(), shown), shown(ours));
+}
+
+/// Rounds of a call, and how many of them take long enough to be timed.
+struct Sampled<F: Fn(u64) -> u64> {
+    rounds: F,
+    times: u64,
+}
+
+impl<F: Fn(u64) -> u64> Sampled<F> {
+    fn new(rounds: F) -> Self {
+        let mut sampled = Self { rounds, times: 1 };
+        while sampled.sample() * sampled.times as f64 <= SAMPLE.as_secs_f64() {
+            sampled.times *= 2;
+        }
+        sampled
+    }
+
+    /// The time of one round, in seconds.
+    fn sample(&self) -> f64 {
+        let start = Instant::now();
+        black_box((self.rounds)(black_box(self.times)));
+        start.elapsed().as_secs_f64() / self.times as f64
+    }
+
+    /// The least of several samples, the two sides in turn: other work on the machine then slows down both. One sample of what takes a second.
+    fn least<G: Fn(u64) -> u64>(&self, other: Option<Sampled<G>>) -> (f64, Option<f64>) {
+        let mut least = (self.sample(), other.as_ref().map(Sampled::sample));
+        let long = least.0.max(least.1.unwrap_or(0.0)) > 1.0;
+        for _ in 1..if long { 1 } else { SAMPLES } {
+            least.0 = least.0.min(self.sample());
+            least.1 = other.as_ref().map(|other| other.sample().min(least.1.expect("there is a first sample")));
+        }
+        least
+    }
+}
+
+fn shown(seconds: f64) -> String {
+    match seconds {
+        s if s < 1e-3 => format!("{:.2} µs", s * 1e6),
+        s if s < 1.0 => format!("{:.2} ms", s * 1e3),
+        s => format!("{s:.2} s"),
+    }
+}
