@@ -1,0 +1,131 @@
+-- The rounds by the calls on records.
+use mathlib.Core.Path.{_≡_, refl, sym, ap, subst, _∙_}
+use mathlib.Core.Bool.{Bool, true, false, cond, not}
+use mathlib.Core.List.{List}
+use Prim.Native.Nat.{ℕ, zero, suc, _+_, _%_, _^_}
+use lib.Dec.{T, eqb}
+use lib.Ieee.{Float, binary64, isNan, toBits}
+use lib.ListN.{length, getD, replicate}
+use borrow.Author.Tests.{eq-eqb, ne-eqb}
+use Rattle.numbers.specs.UpTo.{upTo, upTo-more}
+use Rattle.numbers.specs.TableLaws.{length-table}
+use Rattle.network.specs.Answers.{Answer, accepted, refused, _andThen_}
+use Rattle.network.specs.AnswerLaws.{then-iff}
+use Rattle.network.specs.Check.{checkRecords}
+use Rattle.network.specs.Live.{checkState}
+use Rattle.network.specs.Records.{Network, noBus, noBranch, noSwitch, recordsOf}
+use Rattle.network.specs.declared.topology.PowerNetwork.{PowerNetwork}
+use Rattle.printing.specs.Printed.{truthByte}
+use Rattle.frames.specs.Text.{readText}
+use Rattle.graph.specs.Feeder.{radialIn}
+use Rattle.losses.specs.Accepted.{loss-finite}
+use Rattle.losses.specs.Loss.{lossIn}
+use Rattle.printing.specs.Calls.{checkRoom, Call, answered, called}
+use Rattle.plan.specs.Plan.{planned}
+use Rattle.reconfiguration.specs.Answers.{best-loss}
+use Rattle.reconfiguration.specs.Solve.{best, Result, result, solved}
+use Rattle.controller.specs.Calls.{onRecords, textRadiality, textLoss, textPlan}
+use Rattle.controller.specs.CallLaws.{numbered, NoNan, radiality-answered, loss-answered, plan-answered, radiality-refused, loss-refused, plan-refused}
+use Rattle.timing.specs.Rounds.{valueOf, recordCount, searchValue, asked, total}
+
+-- ---- how many records a text has
+pub count-refused : (t : List ℕ) (n p : ℕ) → readText t ≡ refused n p → 0 ≡ valueOf (onRecords (readText t) (λ N. accepted (recordCount N)))
+unfolding onRecords
+count-refused t n p e = ap (λ x. valueOf (onRecords x (λ N. accepted (recordCount N)))) (sym e)
+
+pub count-accepted : (t : List ℕ) (n : PowerNetwork) → readText t ≡ accepted (recordsOf n)
+    → n .«bus_count» + n .«branch_count» + n .«switch_count» ≡ valueOf (onRecords (readText t) (λ N. accepted (recordCount N)))
+unfolding onRecords recordCount recordsOf
+count-accepted t n e =
+    sym (rw (length-table (λ i. getD (n .buses) i noBus) (n .«bus_count»), length-table (λ i. getD (n .branches) i noBranch) (n .«branch_count»), length-table (λ i. getD (n .switches) i noSwitch) (n .«switch_count»)))
+    ∙ ap (λ x. valueOf (onRecords x (λ N. accepted (recordCount N)))) (sym e)
+
+-- ---- the calls by their kind
+module _ (kind : ℕ) (t a b : List ℕ) where
+  pub asked-reading : kind ≡ 0 → onRecords (readText t) (λ N. accepted (recordCount N)) ≡ asked kind t a b
+  unfolding asked
+  asked-reading e = ap (λ k. asked k t a b) (sym e)
+
+  pub asked-nothing : (kind ≡ 0 → ⊥) → (kind ≡ 1 → ⊥) → (kind ≡ 2 → ⊥) → (kind ≡ 3 → ⊥) → (kind ≡ 4 → ⊥) → refused 0 0 ≡ asked kind t a b
+  unfolding asked
+  asked-nothing n₀ n₁ n₂ n₃ n₄ = rw (ne-eqb kind 0 n₀, ne-eqb kind 1 n₁, ne-eqb kind 2 n₂, ne-eqb kind 3 n₃, ne-eqb kind 4 n₄)
+
+  module _ (N : Network) where
+    pub asked-radiality : kind ≡ 1 → readText t ≡ accepted N
+        → numbered truthByte (checkRecords N andThen checkState N a 0 andThen accepted (radialIn N a)) ≡ asked kind t a b
+    unfolding asked
+    asked-radiality e so = radiality-answered t N so a _ refl ∙ ap (λ k. asked k t a b) (sym e)
+
+    pub asked-loss : kind ≡ 2 → readText t ≡ accepted N
+        → numbered (toBits binary64) (checkRecords N andThen checkState N a 0 andThen accepted (lossIn N a)) ≡ asked kind t a b
+    unfolding asked
+    asked-loss e so = loss-answered t N so a _ refl ∙ ap (λ k. asked k t a b) (sym e)
+
+    pub asked-pairs : kind ≡ 3 → readText t ≡ accepted N → planned N a b (replicate 2805 0) .answer ≡ asked kind t a b
+    unfolding asked
+    asked-pairs e so = ap (λ (p : Call ℕ). p .answer) (plan-answered t N so a b (replicate 2805 0)) ∙ ap (λ k. asked k t a b) (sym e)
+
+    pub asked-search : kind ≡ 4 → readText t ≡ accepted N → searchValue N ≡ asked kind t a b
+    unfolding asked onRecords
+    asked-search e so = ap (λ x. onRecords x searchValue) (sym so) ∙ ap (λ k. asked k t a b) (sym e)
+
+-- ---- a best loss has bits
+abbrev pub lossOf : Answer Result → Answer Float
+lossOf (accepted r) = accepted (r .best-loss)
+lossOf (refused n p) = refused n p
+
+bits-if-accepted : (c : Answer (Unit {0})) (r : Result) (bytes out : List ℕ) → (c ≡ accepted tt → T (not (isNan (r .best-loss)))) → NoNan (lossOf (answered c r bytes out .answer))
+bits-if-accepted (accepted u) r bytes out h = h refl
+bits-if-accepted (refused n p) r bytes out h = tt
+
+pub search-no-nan : (N : Network) (out : List ℕ) (x : Answer Result) → x ≡ solved N out .answer → NoNan (lossOf x)
+unfolding solved called result
+search-no-nan N out x e =
+    let room = checkRoom (length (best N .state)) (length out) in
+    let bits : checkRecords N ≡ accepted tt → T (not (isNan (best N .loss))) =
+    λ ok. subst (λ y. T (not (isNan y))) (sym (best-loss N)) (loss-finite N ok (best N .state) .2) in
+    subst (λ y. NoNan (lossOf y)) (sym e)
+    (bits-if-accepted (checkRecords N andThen room) (result N) (best N .state) out (λ ok. bits (then-iff (checkRecords N) room .0 ok .0)))
+
+-- ---- the rounds
+pub in-even : (i x y : ℕ) → i % 2 ≡ 0 → x ≡ cond (eqb (i % 2) 0) x y
+in-even i x y e = rw (eq-eqb (i % 2) 0 e)
+
+pub in-odd : (i x y : ℕ) → (i % 2 ≡ 0 → ⊥) → y ≡ cond (eqb (i % 2) 0) x y
+in-odd i x y n = rw (ne-eqb (i % 2) 0 n)
+
+pub total-none : (even odd : ℕ) → 0 ≡ total even odd 0
+unfolding total upTo
+total-none even odd = refl
+
+pub total-more : (even odd i sum value sum′ i′ : ℕ) → sum ≡ total even odd i → value ≡ cond (eqb (i % 2) 0) even odd → sum′ ≡ (sum + value) % 2 ^ 64 → i′ ≡ i + 1
+    → sum′ ≡ total even odd i′
+unfolding total
+total-more even odd i sum value sum′ i′ h v s e = rw (e, s, h, v) (sym (upTo-more _ 0 i))
+
+-- ---- a refused text: every round counts for nothing
+either-nothing : (b : Bool) (u v : Answer ℕ) → valueOf u ≡ 0 → valueOf v ≡ 0 → valueOf (cond b u v) ≡ 0
+either-nothing true u v hu hv = hu
+either-nothing false u v hu hv = hv
+
+value-refused : (kind : ℕ) (t a b : List ℕ) (n p : ℕ) → readText t ≡ refused n p → valueOf (asked kind t a b) ≡ 0
+unfolding asked onRecords
+value-refused kind t a b n p so =
+    either-nothing (eqb kind 0) _ _ (sym (count-refused t n p so))
+    (either-nothing (eqb kind 1) _ _ (ap valueOf (sym (radiality-refused t n p so a)))
+    (either-nothing (eqb kind 2) _ _ (ap valueOf (sym (loss-refused t n p so a)))
+    (either-nothing (eqb kind 3) _ _ (ap (λ (q : Call ℕ). valueOf (q .answer)) (sym (plan-refused t n p so a b (replicate 2805 0))))
+    (either-nothing (eqb kind 4) _ _ (ap (λ x. valueOf (onRecords x searchValue)) so) refl))))
+
+same-either-way : (b : Bool) → _≡_ {A = ℕ} (cond b 0 0) 0
+same-either-way true = refl
+same-either-way false = refl
+
+total-of-nothing : (n : ℕ) → 0 ≡ total 0 0 n
+unfolding total upTo
+total-of-nothing zero = refl
+total-of-nothing (suc n) = rw (← total-of-nothing n, same-either-way (eqb (n % 2) 0))
+
+pub total-refused : (kind : ℕ) (t a b : List ℕ) (n p times : ℕ) → readText t ≡ refused n p
+    → 0 ≡ total (valueOf (asked kind t a b)) (valueOf (asked kind t b a)) times
+total-refused kind t a b n p times so = rw (value-refused kind t a b n p so, value-refused kind t b a n p so) (total-of-nothing times)

@@ -1,0 +1,3 @@
+// Repeated calls for tests/benchmark. The rounds run here, so that a call on records is measured without the reading of their text.
+pub mod rounds;
+mod values;

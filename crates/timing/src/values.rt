@@ -1,0 +1,93 @@
+// What a call counts for: the number that it answers, and 0 for a refusal.
+ghost use mathlib.Core.Path.{_≡_};
+ghost use lib.Ieee.{binary64, toBits};
+ghost use lib.ListN.{replicate};
+ghost use Rattle.network.specs.Answers.{accepted, _andThen_};
+ghost use Rattle.network.specs.Check.{checkRecords};
+ghost use Rattle.network.specs.Live.{checkState};
+ghost use Rattle.network.specs.Records.{recordsOf};
+ghost use Rattle.printing.specs.Printed.{truthByte};
+ghost use Rattle.frames.specs.Text.{readText};
+ghost use Rattle.graph.specs.Feeder.{radialIn};
+ghost use Rattle.losses.specs.Loss.{lossIn};
+ghost use Rattle.plan.specs.Plan.{planned};
+ghost use Rattle.controller.specs.Calls.{onRecords};
+ghost use Rattle.controller.specs.CallLaws.{numbered};
+ghost use Rattle.timing.specs.Rounds.{valueOf, recordCount, searchValue};
+use frames::reader::read_text;
+use graph::radiality::Radiality;
+use graph::radiality::verify_radiality;
+use losses::evaluation::LossAnswer;
+use losses::evaluation::evaluate_config;
+use network::error::Verdict;
+use network::topology::PowerNetwork;
+use plan::planner::PlanAnswer;
+use plan::planner::plan;
+use reconfiguration::solve::SolveAnswer;
+use reconfiguration::solve::solve;
+
+// How many records a text has.
+pub(crate) fn reading(text: &[u8]) -> u64
+    ensures { λ r. ⌜ r ≡ valueOf (onRecords (readText (now (text .entry))) (λ N. accepted (recordCount N))) ⌝ }
+{
+    let reading = read_text(text);
+    let verdict = reading.verdict;
+    if let Verdict::Refused { number, place } = verdict {
+        return 0;
+    }
+    let network = reading.network;
+    network.bus_count as u64 + network.branch_count as u64 + network.switch_count as u64
+}
+
+fn truth_value(b: bool) -> u64
+    ensures { λ r. ⌜ r ≡ truthByte b ⌝ }
+{
+    if b {
+        return 1;
+    }
+    0
+}
+
+// 1 for a radial state.
+pub(crate) fn radiality(network: PowerNetwork, state: &[u8]) -> u64
+    ensures { λ r. ⌜ r ≡ valueOf (numbered truthByte (checkRecords (recordsOf network) andThen checkState (recordsOf network) (now (state .entry)) 0
+        andThen accepted (radialIn (recordsOf network) (now (state .entry))))) ⌝ }
+{
+    match verify_radiality(network, state) {
+        Radiality::Refused { number, place } => 0,
+        Radiality::Radial(radial) => truth_value(radial),
+    }
+}
+
+// The bits of a loss.
+pub(crate) fn loss(network: PowerNetwork, state: &[u8]) -> u64
+    ensures { λ r. ⌜ r ≡ valueOf (numbered (toBits binary64) (checkRecords (recordsOf network) andThen checkState (recordsOf network) (now (state .entry)) 0
+        andThen accepted (lossIn (recordsOf network) (now (state .entry))))) ⌝ }
+{
+    match evaluate_config(network, state) {
+        LossAnswer::Refused { number, place } => 0,
+        LossAnswer::Loss(loss) => f64::to_bits(loss),
+    }
+}
+
+// How many pairs a plan has; 255 have room.
+pub(crate) fn pairs(network: PowerNetwork, present: &[u8], wanted: &[u8]) -> u64
+    ensures { λ r. ⌜ r ≡ valueOf (planned (recordsOf network) (now (present .entry)) (now (wanted .entry)) (replicate 2805 0) .answer) ⌝ }
+{
+    let mut out = [0u8; 2805];
+    match plan(network, present, wanted, &mut out) {
+        PlanAnswer::Refused { number, place } => 0,
+        PlanAnswer::Pairs(count) => count as u64,
+    }
+}
+
+// The bits of the best loss that the network's search finds.
+pub(crate) fn search(network: PowerNetwork) -> u64
+    ensures { λ r. ⌜ r ≡ valueOf (searchValue (recordsOf network)) ⌝ }
+{
+    let mut best = [0u8; 512];
+    match solve(network, &mut best) {
+        SolveAnswer::Refused { number, place } => 0,
+        SolveAnswer::Solved(result) => f64::to_bits(result.optimized_losses_mw),
+    }
+}
