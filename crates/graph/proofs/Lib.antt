@@ -5,4 +5,5 @@ pub mod Expanding
 pub mod Leading
 pub mod Noting
 pub mod Resolving
+pub mod Skipping
 pub mod Turning

@@ -5,6 +5,7 @@ pub mod Feeder
 pub mod Answers
 pub mod Rows
 pub mod FeederRows
+pub mod Skips
 pub mod Chains
 pub mod Paths
 pub mod Forests
@@ -25,6 +26,7 @@ pub mod FeederRowLaws
 pub mod RowsHold
 pub mod RowsNeighbours
 pub mod RowsWalk
+pub mod SkipLaws
 pub mod RowsTriangle
 pub mod Walking
 pub mod Examples

@@ -4,5 +4,6 @@ pub mod path;
 pub mod radial;
 pub mod radiality;
 pub mod rows;
+pub mod skips;
 pub mod walk;
 pub mod walks;

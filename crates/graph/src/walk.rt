@@ -3,7 +3,7 @@
 ghost use mathlib.Core.Path.{_≡_};
 ghost use mathlib.Core.List.{List};
 ghost use Rattle.graph.specs.Walk.{Visit, walkBy, enterAll};
-ghost use Rattle.graph.specs.Rows.{rowNeighbours, rowFrom, leads, walked};
+ghost use Rattle.graph.specs.Rows.{rowLeads, rowNeighbours, rowFrom, leads, walked};
 ghost use Rattle.graph.specs.Walking.{Walking, enterLive};
 use crate::rows::Graph;
 use crate::walks::Walk;
@@ -76,13 +76,18 @@ fn expand(
     end
 }
 
-// The buses that a walk from start reaches without entering the barred one, in the order in which it reaches them.
-pub fn walk(graph: Graph, live: [bool; 512], start: u8, barred: u8) -> Walk
-    ensures { λ r. ⌜ r ≡ walked (walkBy (rowNeighbours graph live) start barred) ⌝ }
+// The buses that a walk from start reaches without entering the barred one, in the order in which it reaches them. The rows are lent, for callers that
+// walk often.
+pub fn walk_rows(
+    far: &[u8; 1024],
+    first: &[u16; 256],
+    next: &[u16; 1024],
+    live: &[bool; 512],
+    start: u8,
+    barred: u8,
+) -> Walk
+    ensures { λ r. ⌜ r ≡ walked (walkBy (rowLeads (now (far .entry)) (now (first .entry)) (now (next .entry)) (now (live .entry))) start barred) ⌝ }
 {
-    let far = graph.far;
-    let first = graph.first;
-    let next = graph.next;
     let mut seen = [false; 256];
     let mut bus = [0u8; 256];
     let mut by = [0u16; 256];
@@ -95,9 +100,9 @@ pub fn walk(graph: Graph, live: [bool; 512], start: u8, barred: u8) -> Walk
         let turn = wide16(head);
         let u = wide8(bus[turn]);
         count = expand(
-            &far,
-            &next,
-            &live,
+            far,
+            next,
+            live,
             first[u],
             barred,
             &mut seen,
@@ -108,4 +113,14 @@ pub fn walk(graph: Graph, live: [bool; 512], start: u8, barred: u8) -> Walk
         head += 1;
     }
     Walk { count, bus, by }
+}
+
+// The same on a graph.
+pub fn walk(graph: Graph, live: [bool; 512], start: u8, barred: u8) -> Walk
+    ensures { λ r. ⌜ r ≡ walked (walkBy (rowNeighbours graph live) start barred) ⌝ }
+{
+    let far = graph.far;
+    let first = graph.first;
+    let next = graph.next;
+    walk_rows(&far, &first, &next, &live, start, barred)
 }

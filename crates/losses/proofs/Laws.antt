@@ -1,23 +1,27 @@
 -- The code's arrays and the definitions' lists: a walk's load, and a turn of each loop.
-use mathlib.Core.Path.{_≡_, refl, sym, _∙_}
+use mathlib.Core.Path.{_≡_, refl, sym, ap, fun-ext, _∙_}
 use mathlib.Core.Bool.{Bool, true, false}
 use mathlib.Core.List.{List, [], _∷_, _++_, map}
 use Prim.Native.Nat.{ℕ, zero, suc, _+_, _-_, _≤_, _<_, min}
 use native.Mathlib.Omega.{arith}
 use lib.ListN.{length, getD, replicate, length-append, length-map, length-replicate, List·getD-append, List·getD-map, List·getD-eq-default}
 use borrow.Author.Tests.{eq-eqb, ne-eqb}
-use lib.Ieee.{Float, nan, binary64, add}
-use Rattle.numbers.specs.UpTo.{upTo, upTo-more, upTo-cong, upTo-idle}
+use lib.Ieee.{Float, binary64, add}
+use Rattle.numbers.specs.UpTo.{upTo, upTo-more, upTo-cong, upTo-idle, table}
+use Rattle.numbers.specs.TableLaws.{as-table, map-table}
 use Rattle.numbers.specs.Constants.{zero64}
 use Rattle.network.specs.declared.branch.Branch.{Branch}
 use Rattle.network.specs.declared.bus.Power.{Power}
 use Rattle.network.specs.Records.{noBranch}
 use Rattle.graph.specs.declared.rows.Graph.{Graph}
+use Rattle.graph.specs.declared.skips.LiveRows.{LiveRows}
 use Rattle.graph.specs.declared.walks.Walk.{Walk}
 use Rattle.graph.specs.Walk.{Visit, startAt}
-use Rattle.graph.specs.Rows.{filled, walked}
+use Rattle.graph.specs.Rows.{flag, filled, walked}
+use Rattle.graph.specs.Skips.{skipped}
+use Rattle.graph.specs.SkipLaws.{skipped-walk}
 use Rattle.losses.specs.Loss.{walkLoad, termOf, totalOf}
-use Rattle.losses.specs.RowLoss.{noPower, loadAt, arrayLoad, rowLoad, rowTotal, rowLoss}
+use Rattle.losses.specs.RowLoss.{noPower, powers, loadAt, arrayLoad, loadBehind, rowTotal, rowLoss}
 
 -- inside a list it does not matter what stands behind its end
 pub getD-inside : {A : Type 0} (l : List A) (i : ℕ) (a b : A) → i < length l → getD l i a ≡ getD l i b
@@ -26,10 +30,21 @@ getD-inside (x ∷ l) zero a b h = refl
 getD-inside (x ∷ l) (suc i) a b h = getD-inside l i a b (omega arith)
 
 -- ---- loads
-pub load-more : (loads : List Power) (bus : List ℕ) (i u : ℕ) (t : Float) → u < length loads → u ≡ getD bus i 0 → t ≡ arrayLoad loads bus i
-    → add binary64 t (getD loads u (record { 0 = nan }) .0) ≡ arrayLoad loads bus (i + 1)
-unfolding arrayLoad
-load-more loads bus i u t h e k = rw (getD-inside loads u (record { 0 = nan }) noPower h, k, e, upTo-more)
+pub load-inside : (loads : List Power) (i : ℕ) (d : Power) → i < length loads → getD loads i d .0 ≡ getD loads i noPower .0
+load-inside loads i d h = ap (λ (p : Power). p .0) (getD-inside loads i d noPower h)
+
+-- loads taken out one by one are the loads put back
+pub all-powers : (loads : List Power) (mw : List Float) → length loads ≡ 256 → mw ≡ table (λ i. getD loads i noPower .0) 256 → powers mw ≡ loads
+unfolding powers
+all-powers loads mw long e =
+    rw (e, map-table {B = Power} (λ (x : Float). record { 0 = x }) (λ i. getD loads i noPower .0) 256) (sym (as-table (λ i. getD loads i noPower) 256 noPower loads long (λ i l. refl)))
+
+pub load-more : (mw : List Float) (bus : List ℕ) (i u : ℕ) (t d : Float) → u < length mw → u ≡ getD bus i 0 → t ≡ arrayLoad (powers mw) bus i
+    → add binary64 t (getD mw u d) ≡ arrayLoad (powers mw) bus (i + 1)
+unfolding arrayLoad powers
+load-more mw bus i u t d h e k =
+    let same : getD mw u d ≡ loadAt (powers mw) u = getD-inside mw u d zero64 h ∙ sym (ap (λ (p : Power). p .0) (List·getD-map (λ (x : Float). record { 0 = x }) mw u zero64)) in
+    rw (same, k, e, upTo-more)
 
 abbrev busOf : Visit → ℕ
 busOf v = v .bus
@@ -52,29 +67,42 @@ walked-load loads o w e = rw e (upTo-cong _ _ _ (length o) (λ t i l. rw (at i l
         List·getD-append (map busOf o) _ 0 i h ∙ List·getD-map busOf o i (startAt 0)
 
 -- ---- totals
-module _ (g : Graph) (loads : List Power) (branches : List Branch) (base : Float) (live : List Bool) where
-  pub total-none : zero64 ≡ rowTotal g loads branches base live 0
+module _ (far first next : List ℕ) (loads : List Power) (branches : List Branch) (base : Float) (live : List Bool) where
+  pub total-none : zero64 ≡ rowTotal far first next loads branches base live 0
   unfolding rowTotal totalOf upTo
   total-none = refl
 
-  pub total-live : (k : ℕ) (d : Branch) (t x t′ : Float) → k < length branches → t ≡ rowTotal g loads branches base live k → getD live k false ≡ true
-      → x ≡ termOf (getD branches k d .r) (rowLoad g loads live k) base → t′ ≡ add binary64 t x → t′ ≡ rowTotal g loads branches base live (k + 1)
+  pub total-live : (k : ℕ) (d : Branch) (t x t′ : Float) → k < length branches → t ≡ rowTotal far first next loads branches base live k → getD live k false ≡ true
+      → x ≡ termOf (getD branches k d .r) (loadBehind far first next live loads k) base → t′ ≡ add binary64 t x → t′ ≡ rowTotal far first next loads branches base live (k + 1)
   unfolding rowTotal totalOf
   total-live k d t x t′ l e h p q = rw (q, p, e, getD-inside branches k d noBranch l, upTo-more, h)
 
-  pub total-dead : (k : ℕ) (t t′ : Float) → t ≡ rowTotal g loads branches base live k → getD live k false ≡ false → t′ ≡ t → t′ ≡ rowTotal g loads branches base live (k + 1)
+  pub total-dead : (k : ℕ) (t t′ : Float) → t ≡ rowTotal far first next loads branches base live k → getD live k false ≡ false → t′ ≡ t → t′ ≡ rowTotal far first next loads branches base live (k + 1)
   unfolding rowTotal totalOf
   total-dead k t t′ e h q = rw (q, e, upTo-more, h)
 
+module _ (g : Graph) (loads : List Power) (branches : List Branch) (base : Float) (live : List Bool) where
   pub loss-none : g .«bus_count» ≡ 0 → zero64 ≡ rowLoss g loads branches base live
   unfolding rowLoss
   loss-none e = rw (eq-eqb (g .«bus_count») 0 e)
 
-  pub loss-all : (k : ℕ) (t : Float) → (g .«bus_count» ≡ 0 → ⊥) → k ≡ min (g .«branch_count») (length live) → t ≡ rowTotal g loads branches base live k → t ≡ rowLoss g loads branches base live
+  -- rows that skip dead half-branches give the same total
+  abbrev liveRows : LiveRows
+  liveRows = skipped (g .first) (g .next) live (min (g .«bus_count») 256) (min (g .«branch_count») 512)
+
+  total-skipped : (mw : List Power) (k : ℕ) → length (g .next) ≡ 1024
+      → rowTotal (g .far) (liveRows .first) (liveRows .next) mw branches base live k ≡ rowTotal (g .far) (g .first) (g .next) mw branches base live k
+  unfolding rowTotal loadBehind
+  total-skipped mw k long =
+      ap (λ load. totalOf (flag live) (λ j. getD branches j noBranch .r) load base k)
+      (fun-ext (λ j. ap (walkLoad (loadAt mw)) (skipped-walk (g .far) (g .first) (g .next) live (min (g .«bus_count») 256) (min (g .«branch_count») 512) _ _ long (omega arith))))
+
+  pub loss-all : (k : ℕ) (t : Float) (mw : List Power) (rows : LiveRows) → (g .«bus_count» ≡ 0 → ⊥) → k ≡ min (g .«branch_count») (length live) → mw ≡ loads
+      → length (g .next) ≡ 1024 → rows ≡ liveRows → t ≡ rowTotal (g .far) (rows .first) (rows .next) mw branches base live k → t ≡ rowLoss g loads branches base live
   unfolding rowLoss rowTotal totalOf
-  loss-all k t n e p =
-      rw (ne-eqb (g .«bus_count») 0 n)
-      (p ∙ sym (upTo-idle _ zero64 k (g .«branch_count») (omega arith) (λ i a b. rw (List·getD-eq-default live false (past i a b)))))
+  loss-all k t mw rows n e same long made p =
+      rw (ne-eqb (g .«bus_count») 0 n, ← same)
+      (p ∙ rw made (total-skipped mw k long) ∙ sym (upTo-idle _ zero64 k (g .«branch_count») (omega arith) (λ i a b. rw (List·getD-eq-default live false (past i a b)))))
     where
       -- behind the last flag nothing is added
       past : (i : ℕ) → k ≤ i → i < g .«branch_count» → length live ≤ i

@@ -1,7 +1,7 @@
 -- The loss as the code takes it: over the rows of a graph, with arrays for the loads, the branches and the flags of the live ones.
 use mathlib.Core.Bool.{Bool, cond}
-use mathlib.Core.List.{List}
-use Prim.Native.Nat.{ℕ}
+use mathlib.Core.List.{List, map}
+use Prim.Native.Nat.{ℕ, _+_, _*_}
 use lib.Dec.{eqb}
 use lib.ListN.{getD}
 use lib.Ieee.{Float, binary64, add}
@@ -13,11 +13,15 @@ use Rattle.network.specs.declared.topology.PowerNetwork.{PowerNetwork}
 use Rattle.network.specs.Records.{noBus, noBranch}
 use Rattle.graph.specs.declared.rows.Graph.{Graph}
 use Rattle.graph.specs.Walk.{walkBy}
-use Rattle.graph.specs.Rows.{flag, rowNet, rowNeighbours}
+use Rattle.graph.specs.Rows.{flag, rowLeads}
 use Rattle.losses.specs.Loss.{walkLoad, totalOf}
 
 abbrev pub noPower : Power
 noPower = record { 0 = zero64 }
+
+-- plain numbers as loads
+unfoldable pub powers : List Float → List Power
+powers mw = map (λ (x : Float). record { 0 = x }) mw
 
 -- the load at a bus
 abbrev pub loadAt : List Power → ℕ → Float
@@ -27,16 +31,17 @@ loadAt loads b = getD loads b noPower .0
 unfoldable pub arrayLoad : List Power → List ℕ → ℕ → Float
 arrayLoad loads bus n = upTo (λ t i. add binary64 t (loadAt loads (getD bus i 0))) zero64 n
 
--- the load behind branch k
-unfoldable pub rowLoad : Graph → List Power → List Bool → ℕ → Float
-rowLoad g loads live k = walkLoad (loadAt loads) (walkBy (rowNeighbours g live) (rowNet g .to k) (rowNet g .from k))
+-- the load behind branch k, by rows
+unfoldable pub loadBehind : List ℕ → List ℕ → List ℕ → List Bool → List Power → ℕ → Float
+loadBehind far first next live loads k = walkLoad (loadAt loads) (walkBy (rowLeads far first next live) (getD far (2 * k) 0) (getD far (2 * k + 1) 0))
 
 -- the total of the live ones among the first n branches
-unfoldable pub rowTotal : Graph → List Power → List Branch → Float → List Bool → ℕ → Float
-rowTotal g loads branches base live n = totalOf (flag live) (λ k. getD branches k noBranch .r) (rowLoad g loads live) base n
+unfoldable pub rowTotal : List ℕ → List ℕ → List ℕ → List Power → List Branch → Float → List Bool → ℕ → Float
+rowTotal far first next loads branches base live n =
+    totalOf (flag live) (λ k. getD branches k noBranch .r) (loadBehind far first next live loads) base n
 
 unfoldable pub rowLoss : Graph → List Power → List Branch → Float → List Bool → Float
-rowLoss g loads branches base live = cond (eqb (g .«bus_count») 0) zero64 (rowTotal g loads branches base live (g .«branch_count»))
+rowLoss g loads branches base live = cond (eqb (g .«bus_count») 0) zero64 (rowTotal (g .far) (g .first) (g .next) loads branches base live (g .«branch_count»))
 
 -- the loads of a feeder by bus position, as the code has them
 abbrev pub loadsOf : PowerNetwork → List Power

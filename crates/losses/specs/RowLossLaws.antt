@@ -16,7 +16,7 @@ use Rattle.graph.specs.RowsHold.{far-hold}
 use Rattle.graph.specs.RowsWalk.{Positions, row-walk-is-walk}
 use Rattle.losses.specs.Loss.{walkLoad, downstream, loss}
 use Rattle.losses.specs.LossSame.{total-same}
-use Rattle.losses.specs.RowLoss.{loadAt, rowLoad, rowTotal, rowLoss}
+use Rattle.losses.specs.RowLoss.{loadAt, loadBehind, rowTotal, rowLoss}
 
 -- a flag that is set stands in its array
 flag-inside : (live : List Bool) (k : ℕ) → flag live k ≡ true → k < length live
@@ -25,8 +25,10 @@ flag-inside (b ∷ live) zero e = omega arith
 flag-inside (b ∷ live) (suc k) e = omega (arith, flag-inside live k e)
 
 module _ (n m : ℕ) (from to : List ℕ) (live : List Bool) (p : Positions from to) (l : length live ≤ 512) where
-  load-behind : (loads : List Power) (k : ℕ) → flag live k ≡ true → rowLoad (graphOf n m from to) loads live k ≡ walkLoad (loadAt loads) (downstream (netOf n m from to) (flag live) k)
-  unfolding rowLoad downstream graphOf
+  load-behind : (loads : List Power) (k : ℕ) → flag live k ≡ true
+      → loadBehind (graphOf n m from to .far) (graphOf n m from to .first) (graphOf n m from to .next) live loads k
+      ≡ walkLoad (loadAt loads) (downstream (netOf n m from to) (flag live) k)
+  unfolding loadBehind downstream graphOf
   load-behind loads k e =
       let f = far-hold m from to 512 (omega arith) k (omega arith) (omega (arith, flag-inside live k e)) in
       rw (f .0, f .1) (ap (walkLoad (loadAt loads)) (row-walk-is-walk n m from to live p l (getD to k 0) (getD from k 0) (p .to-small k)))

@@ -1,10 +1,12 @@
 // Translated and changed from src/network/reconfiguration.rs of oxigrid. Copyright 2024-2026 COOLJAPAN OU (Team Kitasan), Apache License 2.0.
 ghost use mathlib.Core.Path.{_≡_};
 ghost use Prim.Native.Nat.{_≤_, _<_};
+ghost use lib.ListN.{length};
 ghost use Rattle.losses.specs.Loss.{termOf};
-ghost use Rattle.losses.specs.RowLoss.{arrayLoad, rowLoad, rowLoss};
+ghost use Rattle.losses.specs.RowLoss.{powers, arrayLoad, loadBehind, rowLoss};
 use graph::rows::Graph;
-use graph::walk::walk;
+use graph::skips::skip_dead;
+use graph::walk::walk_rows;
 use graph::walks::Walk;
 use network::branch::Branch;
 use network::bus::Power;
@@ -12,10 +14,23 @@ use numbers::at_most;
 use numbers::wide8;
 use numbers::wide16;
 
+// The loads as plain numbers: an array of these can be lent.
+fn megawatts(loads: [Power; 256]) -> [f64; 256]
+    ensures { λ r. ⌜ powers r ≡ loads ⌝ }
+{
+    let mut mw = [0.0; 256];
+    let mut i = 0usize;
+    while i < 256 {
+        mw[i] = loads[i].0;
+        i += 1;
+    }
+    mw
+}
+
 // The load of the buses of a walk, added in its order.
-fn downstream_load_mw(loads: [Power; 256], walk: Walk) -> Power
-    requires { ⌜ walk .count ≤ 256 ⌝ }
-    ensures { λ r. ⌜ r ≡ record { 0 = arrayLoad loads (walk .bus) (walk .count) } ⌝ }
+fn downstream_load_mw(mw: &[f64; 256], walk: Walk) -> Power
+    requires { ⌜ (length (now mw) ≡ 256) × (walk .count ≤ 256) ⌝ }
+    ensures { λ r. ⌜ r ≡ record { 0 = arrayLoad (powers (now (mw .entry))) (walk .bus) (walk .count) } ⌝ }
 {
     let bus = walk.bus;
     let n = wide16(walk.count);
@@ -23,7 +38,7 @@ fn downstream_load_mw(loads: [Power; 256], walk: Walk) -> Power
     let mut i = 0usize;
     while i < n {
         let at = wide8(bus[i]);
-        total = total + loads[at].0;
+        total = total + mw[at];
         i += 1;
     }
     Power(total)
@@ -37,26 +52,27 @@ fn branch_term(branch: Branch, load: Power, base_mva: f64) -> f64
     branch.r * p * p * base_mva
 }
 
-// The loss in live branch k.
+// The loss in live branch k. Rows and loads are lent: no walk copies them.
 fn branch_loss(
-    graph: Graph,
-    loads: [Power; 256],
+    far: &[u8; 1024],
+    first: &[u16; 256],
+    next: &[u16; 1024],
+    live: &[bool; 512],
+    mw: &[f64; 256],
     branch: Branch,
     base_mva: f64,
-    live: [bool; 512],
     k: usize,
 ) -> f64
-    requires { ⌜ k < 512 ⌝ }
-    ensures { λ r. ⌜ r ≡ termOf (branch .r) (rowLoad graph loads live k) «base_mva» ⌝ }
+    requires { ⌜ (length (now mw) ≡ 256) × (k < 512) ⌝ }
+    ensures { λ r. ⌜ r ≡ termOf (branch .r) (loadBehind (now (far .entry)) (now (first .entry)) (now (next .entry)) (now (live .entry)) (powers (now (mw .entry))) k) «base_mva» ⌝ }
 {
-    let far = graph.far;
     let to = far[2 * k];
     let from = far[2 * k + 1];
-    let load = downstream_load_mw(loads, walk(graph, live, to, from));
+    let load = downstream_load_mw(mw, walk_rows(far, first, next, live, to, from));
     branch_term(branch, load, base_mva)
 }
 
-// The loss of a state, in megawatts: live branches by rising position.
+// The loss of a state, in megawatts: live branches by rising position. Dead branches are taken out of the rows once, not met in each walk.
 pub fn compute_losses_estimate(
     graph: Graph,
     loads: [Power; 256],
@@ -70,11 +86,24 @@ pub fn compute_losses_estimate(
         return 0.0;
     }
     let n = at_most(wide16(graph.branch_count), 512);
+    let far = graph.far;
+    let all_first = graph.first;
+    let all_next = graph.next;
+    let rows = skip_dead(
+        all_first,
+        all_next,
+        live,
+        graph.bus_count,
+        graph.branch_count,
+    );
+    let first = rows.first;
+    let next = rows.next;
+    let mw = megawatts(loads);
     let mut total = 0.0;
     let mut k = 0usize;
     while k < n {
         if live[k] {
-            total = total + branch_loss(graph, loads, branches[k], base_mva, live, k);
+            total = total + branch_loss(&far, &first, &next, &live, &mw, branches[k], base_mva, k);
         }
         k += 1;
     }

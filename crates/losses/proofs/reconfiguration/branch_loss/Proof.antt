@@ -1,17 +1,17 @@
 -- `branch_loss` meets its contract: the walk's array is as long as the walk, at most 256, and the load in it is the walk's load.
 use mathlib.Core.Path.{_≡_}
 use lib.ListN.{length}
-use borrow.Author.Needs.{needs}
-use Rattle.losses.specs.RowLoss.{rowLoad}
+use Rattle.losses.specs.RowLoss.{loadBehind}
 use Rattle.losses.proofs.Laws.{walked-short, walked-load}
+use borrow.Author.Needs.{needs}
 use Rattle.losses.proofs.reconfiguration.branch_loss.Statement.{statement}
 use Rattle.losses.proofs.reconfiguration.branch_loss.Tie as tie
 
 mul-to : tie.Need-mul-to
 mul-to c = search needs
 
-array-read-to : tie.Need-array-read-to
-array-read-to c = search needs
+element-copy-out-to : tie.Need-element-copy-out-to
+element-copy-out-to c = search needs
 
 mul-from : tie.Need-mul-from
 mul-from c = search needs
@@ -19,36 +19,36 @@ mul-from c = search needs
 add-from : tie.Need-add-from
 add-from c = search needs
 
-array-read-from : tie.Need-array-read-from
-array-read-from c = search needs
+element-copy-out-from : tie.Need-element-copy-out-from
+element-copy-out-from c = search needs
 
-walk-requires : tie.Need-walk-requires
-walk-requires c κs = search needs
+walk-rows-requires : tie.Need-walk-rows-requires
+walk-rows-requires c κs = search needs
 
 downstream-load-mw-requires : tie.Need-downstream-load-mw-requires
 downstream-load-mw-requires c κs =
-    let long : length (c .walk .result .bus) ≡ 256 = search needs in
-    walked-short _ (c .walk .result) (c .walk .ensures) long
+    let long : length (c .walk-rows .result .bus) ≡ 256 = search needs in
+    (c .before .before .before .pre .0, walked-short _ (c .walk-rows .result) (c .walk-rows .ensures) long)
 
 branch-term-requires : tie.Need-branch-term-requires
 branch-term-requires c κs = search needs
 
 returns : tie.Need-returns
-unfolding rowLoad
+unfolding loadBehind
 returns c =
     let load = c .before in
-    rw (c .branch-term .ensures, load .downstream-load-mw .ensures, walked-load _ _ _ (load .before .walk .ensures))
+    rw (c .branch-term .ensures, load .downstream-load-mw .ensures, walked-load _ _ _ (load .before .walk-rows .ensures))
 
 pub branch-loss-spec : {M : Type 1} → statement M
 branch-loss-spec =
     tie.close
     (tie.spec
     mul-to
-    array-read-to
+    element-copy-out-to
     mul-from
     add-from
-    array-read-from
-    walk-requires
+    element-copy-out-from
+    walk-rows-requires
     downstream-load-mw-requires
     branch-term-requires
     returns)

@@ -5,16 +5,16 @@ use Prim.Native.Nat.{_≤_, _<_, _-_, min}
 use native.Mathlib.Omega.{arith}
 use lib.ListN.{length}
 use borrow.Author.Needs.{needs}
-use Rattle.losses.specs.RowLoss.{rowTotal}
+use Rattle.losses.specs.RowLoss.{powers, rowTotal}
 use Rattle.losses.proofs.Laws.{total-none, total-live, total-dead, loss-none, loss-all}
 use Rattle.losses.proofs.reconfiguration.compute_losses_estimate.Statement.{statement}
 use Rattle.losses.proofs.reconfiguration.compute_losses_estimate.Tie as tie
 
 abbrev Inv-loop : tie.InvT-loop
-Inv-loop graph loads base-mva branches live n total₀ k₀ total k = (k ≤ n) × (total ≡ rowTotal graph loads branches base-mva live k)
+Inv-loop base-mva branches live n far first next mw total₀ k₀ total k = (k ≤ n) × (total ≡ rowTotal far first next (powers mw) branches base-mva live k)
 
 abbrev μ-loop : tie.MeasureT-loop
-μ-loop graph loads base-mva branches live n total₀ k₀ total k = n - k
+μ-loop base-mva branches live n far first next mw total₀ k₀ total k = n - k
 
 returns : tie.Need-returns Inv-loop μ-loop
 returns c = loss-none _ _ _ _ _ (c .if1 .taken)
@@ -25,8 +25,14 @@ wide16-requires c κs = tt
 at-most-requires : tie.Need-at-most-requires Inv-loop μ-loop
 at-most-requires c κs = tt
 
+skip-dead-requires : tie.Need-skip-dead-requires Inv-loop μ-loop
+skip-dead-requires c κs = tt
+
+megawatts-requires : tie.Need-megawatts-requires Inv-loop μ-loop
+megawatts-requires c κs = tt
+
 loop-holds : tie.Need-loop-holds Inv-loop μ-loop
-loop-holds c = (omega arith, total-none _ _ _ _ _)
+loop-holds c = (omega arith, total-none _ _ _ _ _ _ _)
 
 array-read-if2 : tie.Need-array-read-if2 Inv-loop μ-loop
 array-read-if2 c = omega arith
@@ -38,7 +44,7 @@ array-copy-out-branch-loss : tie.Need-array-copy-out-branch-loss Inv-loop μ-loo
 array-copy-out-branch-loss c = omega arith
 
 branch-loss-requires : tie.Need-branch-loss-requires Inv-loop μ-loop
-branch-loss-requires c κs = omega arith
+branch-loss-requires c κs = (search needs, omega arith)
 
 add-k : tie.Need-add-k Inv-loop μ-loop
 add-k c = omega arith
@@ -46,24 +52,40 @@ add-k c = omega arith
 loop-less : tie.Need-loop-less Inv-loop μ-loop
 loop-less c = omega arith
 
+branches-long : (s : tie.Start Inv-loop μ-loop) → length (s .args .t3) ≡ 512
+branches-long s = search needs
+
+live-long : (s : tie.Start Inv-loop μ-loop) → length (s .args .t5) ≡ 512
+live-long s = search needs
+
+rows-long : (s : tie.Start Inv-loop μ-loop) → length (s .args .graph .next) ≡ 1024
+rows-long s = search needs
+
 loop-again : tie.Need-loop-again Inv-loop μ-loop
 loop-again c =
     let loop = c .before .before in
-    let args = loop .before .before .before .before .before .args in
-    let long : length (args .t3) ≡ 512 = search needs in
+    let skips = loop .before .before .before .before in
+    let start = skips .before .before .before .before .before .before .before .before in
+    let args = start .args in
+    let long : length (args .t3) ≡ 512 = branches-long start in
     let inside : loop .loop .k < length (args .t3) = omega arith in (
       omega arith,
-      ⊎-elim (λ w. total-live _ _ _ _ _ _ _ _ _ _ inside (loop .loop .inv .1) (w .0 .taken) (w .2 .ensures) (w .3)) (λ w. total-dead _ _ _ _ _ _ _ _ (loop .loop .inv .1) (w .0 .left) (w .1))
+      ⊎-elim (λ w. total-live _ _ _ _ _ _ _ _ _ _ _ _ inside (loop .loop .inv .1) (w .0 .taken) (w .7 .ensures) (w .8)) (λ w. total-dead _ _ _ _ _ _ _ _ _ _ (loop .loop .inv .1) (w .0 .left) (w .1))
           (c .if2 .came),
     )
 
 returns-2 : tie.Need-returns-2 Inv-loop μ-loop
 returns-2 c =
     let loop = c .before in
-    let args = loop .before .before .before .before .before .args in
-    let long : length (args .t5) ≡ 512 = search needs in
-    let end : loop .loop .k ≡ min (args .graph .«branch_count») (length (args .t5)) = omega arith in
-    loss-all _ _ _ _ _ _ _ (loop .before .before .before .if1 .left) end (loop .loop .inv .1)
+    let skips = loop .before .before .before .before in
+    let count = skips .before .before .before .before in
+    let tested = count .before .before in
+    let start = tested .before .before in
+    let args = start .args in
+    let long : length (args .t5) ≡ 512 = live-long start in
+    let rows : length (args .graph .next) ≡ 1024 = rows-long start in
+    let end : loop .loop .k ≡ min (args .graph .«branch_count») (length (args .t5)) = omega (arith, count .at-most .ensures, count .before .wide16 .ensures .0, loop .loop .inv .0, c .loop-test .left, long) in
+    loss-all _ _ _ _ _ _ _ _ _ (tested .if1 .left) end (loop .before .megawatts .ensures) rows (skips .skip-dead .ensures) (loop .loop .inv .1)
 
 pub compute-losses-estimate-spec : {M : Type 1} → statement M
 compute-losses-estimate-spec =
@@ -74,6 +96,8 @@ compute-losses-estimate-spec =
     returns
     wide16-requires
     at-most-requires
+    skip-dead-requires
+    megawatts-requires
     loop-holds
     array-read-if2
     mul-branch-loss

@@ -5,16 +5,16 @@ use native.Mathlib.Omega.{arith}
 use lib.ListN.{length}
 use borrow.Author.Needs.{needs}
 use Rattle.numbers.specs.UpTo.{upTo}
-use Rattle.losses.specs.RowLoss.{arrayLoad}
+use Rattle.losses.specs.RowLoss.{powers, arrayLoad}
 use Rattle.losses.proofs.Laws.{load-more}
 use Rattle.losses.proofs.reconfiguration.downstream_load_mw.Statement.{statement}
 use Rattle.losses.proofs.reconfiguration.downstream_load_mw.Tie as tie
 
 abbrev Inv-loop : tie.InvT-loop
-Inv-loop loads bus n total₀ i₀ total i = (i ≤ n) × (total ≡ arrayLoad loads bus i)
+Inv-loop mw bus n total₀ i₀ total i = (i ≤ n) × (total ≡ arrayLoad (powers mw) bus i)
 
 abbrev μ-loop : tie.MeasureT-loop
-μ-loop loads bus n total₀ i₀ total i = n - i
+μ-loop mw bus n total₀ i₀ total i = n - i
 
 wide16-requires : tie.Need-wide16-requires Inv-loop μ-loop
 wide16-requires c κs = tt
@@ -43,11 +43,12 @@ loop-less c = omega arith
 
 loop-again : tie.Need-loop-again Inv-loop μ-loop
 loop-again c =
-    let loop = c .before .before in
-    let loads = loop .before .before .before .args .t1 in
-    let long : length loads ≡ 256 = search needs in
-    let inside : c .wide8 .result < length loads = omega arith in
-    (omega arith, load-more loads _ _ _ _ inside (c .wide8 .ensures .0) (loop .loop .inv .1))
+    let read = c .before in
+    let loop = read .before .before in
+    let start = loop .before .before .before in
+    let long : length (start .args .mw .now) ≡ 256 = start .pre .0 in
+    let inside : read .wide8 .result < length (start .args .mw .now) = omega arith in
+    (omega arith, load-more _ _ _ _ _ _ inside (read .wide8 .ensures .0) (loop .loop .inv .1))
 
 returns : tie.Need-returns Inv-loop μ-loop
 returns c =

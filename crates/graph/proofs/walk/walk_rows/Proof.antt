@@ -1,16 +1,16 @@
--- `walk` meets its contract. The invariant: the arrays hold the visits after as many turns as buses had theirs; the step is `one-turned`.
+-- `walk_rows` meets its contract. The invariant: the arrays hold the visits after as many turns as buses had theirs; the step is `one-turned`.
 use Prim.Native.Nat.{_-_, _≤_}
 use native.Mathlib.Omega.{arith}
 use lib.Dec.{lit<}
 use Rattle.graph.proofs.Turning.{Turning, none-turned, turned-few, one-turned, all-turned}
-use Rattle.graph.proofs.walk.walk.Statement.{statement}
-use Rattle.graph.proofs.walk.walk.Tie as tie
+use Rattle.graph.proofs.walk.walk_rows.Statement.{statement}
+use Rattle.graph.proofs.walk.walk_rows.Tie as tie
 
 abbrev Inv-loop : tie.InvT-loop
-Inv-loop start barred live far first next seen₀ bus₀ by₀ at count₀ head₀ seen bus by count head = Turning far first next live start barred seen bus by count head
+Inv-loop far first next live start barred seen₀ bus₀ by₀ at count₀ head₀ seen bus by count head = Turning far first next live start barred seen bus by count head
 
 abbrev μ-loop : tie.MeasureT-loop
-μ-loop start barred live far first next seen₀ bus₀ by₀ at count₀ head₀ seen bus by count head = 256 - head
+μ-loop far first next live start barred seen₀ bus₀ by₀ at count₀ head₀ seen bus by count head = 256 - head
 
 wide8-requires : tie.Need-wide8-requires Inv-loop μ-loop
 wide8-requires c κs = tt
@@ -34,16 +34,16 @@ wide8-requires-2 : tie.Need-wide8-requires-2 Inv-loop μ-loop
 wide8-requires-2 c κs = tt
 
 mul-expand : tie.Need-mul-expand Inv-loop μ-loop
-mul-expand c = omega (arith, c .before .before .before .wide82 .ensures .1)
+mul-expand c = omega (arith, c .wide82 .ensures .1)
 
-array-read-expand : tie.Need-array-read-expand Inv-loop μ-loop
-array-read-expand c = c .before .before .before .wide82 .ensures .1
+element-copy-out-expand : tie.Need-element-copy-out-expand Inv-loop μ-loop
+element-copy-out-expand c = c .wide82 .ensures .1
 
 expand-requires : tie.Need-expand-requires Inv-loop μ-loop
-expand-requires c κs = (_, c .before .before .before .before .before .before .before .before .before .loop .inv .walking)
+expand-requires c κs = (_, c .before .before .before .before .before .before .before .loop .inv .walking)
 
-few-turned : (c : tie.After-expand Inv-loop μ-loop) → c .before .before .before .before .before .before .before .before .before .before .loop .count ≤ 256
-few-turned c = turned-few _ _ _ _ _ _ (c .before .before .before .before .before .before .before .before .before .before .loop .inv)
+few-turned : (c : tie.After-expand Inv-loop μ-loop) → c .before .before .before .before .before .before .before .before .loop .count ≤ 256
+few-turned c = turned-few _ _ _ _ _ _ (c .before .before .before .before .before .before .before .before .loop .inv)
 
 add-head : tie.Need-add-head Inv-loop μ-loop
 add-head c = omega (arith, few-turned c)
@@ -53,7 +53,7 @@ loop-less c = omega (arith, few-turned c)
 
 loop-again : tie.Need-loop-again Inv-loop μ-loop
 loop-again c =
-    let u = c .before .before .before .before .before .before .before in
+    let u = c .before .before .before .before .before in
     let t = u .before in
     one-turned _ _ _ _ _ _ (t .before .before .loop .inv) _ _ (t .wide16 .ensures .0) (u .wide82 .ensures .0) (t .before .loop-test .taken)
     (c .expand .ensures)
@@ -61,8 +61,8 @@ loop-again c =
 returns : tie.Need-returns Inv-loop μ-loop
 returns c = all-turned _ _ _ _ _ _ (c .before .loop .inv) (c .loop-test .left)
 
-pub walk-spec : {M : Type 1} → statement M
-walk-spec =
+pub walk-rows-spec : {M : Type 1} → statement M
+walk-rows-spec =
     tie.close
     (tie.spec
     Inv-loop
@@ -75,7 +75,7 @@ walk-spec =
     array-read-wide8
     wide8-requires-2
     mul-expand
-    array-read-expand
+    element-copy-out-expand
     expand-requires
     add-head
     loop-less
