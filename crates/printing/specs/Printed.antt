@@ -5,6 +5,7 @@ use Prim.Native.Nat.{ℕ}
 use lib.Dec.{leb}
 use lib.ListN.{length, drop}
 use Rattle.printing.specs.declared.writer.SwitchAction.{SwitchAction}
+use Rattle.printing.specs.declared.writer.SwitchOperation.{SwitchOperation}
 use Rattle.printing.specs.declared.writer.SwitchAction.the-variants.{Open, Close}
 use Rattle.frames.specs.Text.{Frame}
 use Rattle.frames.specs.Acceptable.{frameText}
@@ -37,8 +38,8 @@ abbrev pub actionByte : SwitchAction → ℕ
 actionByte Open = 0
 actionByte Close = 1
 
-unfoldable pub operationText : ℕ → SwitchAction → List ℕ
-operationText switchId action = frameText operation (switchId, (actionByte action, tt))
+unfoldable pub operationText : SwitchOperation → List ℕ
+operationText o = frameText operation (o .«switch_id», (actionByte (o .action), tt))
 
 -- ---- 83
 -- "id closed, id opened"

@@ -15,8 +15,8 @@ line w n = digits w n ++ (10 ∷ [])
 -- the best state is radial; losses 4 and 1, 75 percent less; 2 rounds, converged. Switch 10 opens, switch 11 closes
 triangle-printed :
     (answerText true 0x4010000000000000 0x3FF0000000000000 0x4052C00000000000 2 true ≡ line 58 0x810140100000000000003FF00000000000004052C00000000000000201)
-    × (operationText 10 Open ≡ line 8 0x82000A00)
-    × (operationText 11 Close ≡ line 8 0x82000B01)
+    × (operationText (record { «switch_id» = 10; action = Open }) ≡ line 8 0x82000A00)
+    × (operationText (record { «switch_id» = 11; action = Close }) ≡ line 8 0x82000B01)
     × (pairText 11 10 ≡ line 10 0x83000B000A)
 unfolding answerText operationText pairText frameText writeFields digits digit
 triangle-printed = (refl, refl, refl, refl)

@@ -1,5 +1,5 @@
 // The frames that are printed, and bytes, written at the front of a lent slice. What stands behind them stays, and a slice too short stays as it is.
-// `SwitchAction` is translated from src/network/reconfiguration.rs of oxigrid. Copyright 2024-2026 COOLJAPAN OU (Team Kitasan), Apache License 2.0.
+// `SwitchAction` and `SwitchOperation` are translated from src/network/reconfiguration.rs of oxigrid. Copyright 2024-2026 COOLJAPAN OU (Team Kitasan), Apache License 2.0.
 ghost use mathlib.Core.Path.{_≡_};
 ghost use Prim.Native.Nat.{_+_, _<_, _≤_, _^_};
 ghost use lib.ListN.{length};
@@ -11,6 +11,12 @@ ghost use Rattle.printing.specs.Printed.{written, truthByte, actionByte,
 pub enum SwitchAction {
     Open,
     Close,
+}
+
+// A switch by its id, and what is done to it.
+pub struct SwitchOperation {
+    pub switch_id: u16,
+    pub action: SwitchAction,
 }
 
 // The bytes of each frame's line, its line feed included.
@@ -113,14 +119,15 @@ pub fn write_answer(
 }
 
 // The frame 82: a switch, and what is done to it.
-pub fn write_operation(out: &mut [u8], switch_id: u16, action: SwitchAction)
-    ensures { λ _. ⌜ now (out .exit) ≡ written (operationText «switch_id» action) (now (out .entry)) ⌝ }
+pub fn write_operation(out: &mut [u8], operation: SwitchOperation)
+    ensures { λ _. ⌜ now (out .exit) ≡ written (operationText operation) (now (out .entry)) ⌝ }
 {
     if out.len() < OPERATION_LENGTH {
         return;
     }
     write_field(out, 0, 2, 0x82);
-    write_field(out, 2, 4, switch_id as u64);
+    let action = operation.action;
+    write_field(out, 2, 4, operation.switch_id as u64);
     write_field(out, 6, 2, action_byte(action) as u64);
     out[8] = 10;
 }

@@ -14,25 +14,25 @@ use Rattle.numbers.specs.UpTo.{upTo, upTo-more}
 use Rattle.numbers.specs.Counts.{count, count-yes, count-no, eqb-true, eqb-false}
 use Rattle.network.specs.declared.switch.Switch.{Switch}
 use Rattle.network.specs.Records.{Network}
-use Rattle.printing.specs.declared.writer.SwitchAction.{SwitchAction}
+use Rattle.printing.specs.declared.writer.SwitchOperation.{SwitchOperation}
 use Rattle.printing.specs.Printed.{operation, operationText, written}
 use Rattle.printing.specs.LineTexts as Texts
 use Rattle.printing.specs.WrittenLaws.{sets-append, written-sets, written-part, length-frame}
 use Rattle.plan.specs.Plan.{State, byte}
 use Rattle.reconfiguration.specs.Switches.{size, switch}
-use Rattle.reconfiguration.specs.Operations.{Operation, operationOf, operations, operationsText}
-use Rattle.reconfiguration.specs.OperationValues.{differs, actionTo, lineOf}
+use Rattle.reconfiguration.specs.Operations.{operationTo, operationOf, operations, operationsText}
+use Rattle.reconfiguration.specs.OperationValues.{differs, lineOf}
 
 -- ---- lines
-length-line : (id : ℕ) (action : SwitchAction) → length (operationText id action) ≡ 9
+length-line : (o : SwitchOperation) → length (operationText o) ≡ 9
 unfolding operationText
-length-line id action = length-frame operation (id, (_, tt))
+length-line o = length-frame operation (_, (_, tt))
 
-pub length-text : (l : List Operation) → length (operationsText l) ≡ 9 * length l
+pub length-text : (l : List SwitchOperation) → length (operationsText l) ≡ 9 * length l
 unfolding operationsText
-length-text l = Texts.length-lines _ 9 (λ o. length-line (o .switch-id) (o .action)) l
+length-text l = Texts.length-lines _ 9 length-line l
 
-text-more : (l : List Operation) (o : Operation) → operationsText (l ++ (o ∷ [])) ≡ operationsText l ++ operationText (o .switch-id) (o .action)
+text-more : (l : List SwitchOperation) (o : SwitchOperation) → operationsText (l ++ (o ∷ [])) ≡ operationsText l ++ operationText o
 unfolding operationsText
 text-more l o = Texts.lines-more _ l o
 
@@ -42,20 +42,20 @@ module _ (w : Switch) (from to : ℕ) where
   unfolding lineOf
   stays e = rw (eqb-true e)
 
-  changes : (from ≡ to → ⊥) → lineOf w from to ≡ operationText (w .id) (actionTo to)
+  changes : (from ≡ to → ⊥) → lineOf w from to ≡ operationText (operationTo w to)
   unfolding lineOf
   changes d = rw (eqb-false from to d)
 
   length-change : (from ≡ to → ⊥) → length (lineOf w from to) ≡ 9
-  length-change d = ap length (changes d) ∙ length-line (w .id) (actionTo to)
+  length-change d = ap length (changes d) ∙ length-line (operationTo w to)
 
   module _ (out : List ℕ) (at : ℕ) where
     pub change-none : from ≡ to → (out ≡ sets out at (lineOf w from to)) × (at ≡ at + length (lineOf w from to))
     change-none e = (rw (stays e), rw (stays e, add-zero))
 
     -- the line is written into the part from `at` on
-    pub change-written : (from ≡ to → ⊥) → at + length (lineOf w from to) ≤ length out → {action : SwitchAction} → action ≡ actionTo to
-        → {part : List ℕ} → part ≡ written (operationText (w .id) action) (take (length out - at) (drop at out))
+    pub change-written : (from ≡ to → ⊥) → at + length (lineOf w from to) ≤ length out → {o : SwitchOperation} → o ≡ operationTo w to
+        → {part : List ℕ} → part ≡ written (operationText o) (take (length out - at) (drop at out))
         → (putMid at (length out - at) out part ≡ sets out at (lineOf w from to)) × (at + 9 ≡ at + length (lineOf w from to))
     change-written d room a e =
         let long = length-change d in
@@ -71,11 +71,11 @@ module _ (from to : State) (i : ℕ) where
 
 -- ---- by rising position
 module _ (N : Network) (from to : State) where
-  abbrev more : List Operation → ℕ → List Operation
+  abbrev more : List SwitchOperation → ℕ → List SwitchOperation
   more l i = cond (eqb (byte from i) (byte to i)) l (l ++ (operationOf N to i ∷ []))
 
   -- the operations on the first i switches
-  first : ℕ → List Operation
+  first : ℕ → List SwitchOperation
   first i = upTo more [] i
 
   first-more : (i : ℕ) → first (i + 1) ≡ more (first i) i
@@ -104,10 +104,10 @@ module _ (N : Network) (from to : State) where
   text i = operationsText (first i)
 
   text-next : (i : ℕ) → text (i + 1) ≡ text i ++ lineOf (switch N i) (byte from i) (byte to i)
-  unfolding text lineOf operationOf
+  unfolding text lineOf
   text-next i = ap operationsText (first-more i) ∙ go (eqb (byte from i) (byte to i))
     where
-      go : (b : Bool) → operationsText (cond b (first i) (first i ++ (operationOf N to i ∷ []))) ≡ text i ++ cond b [] (operationText (switch N i .id) (actionTo (byte to i)))
+      go : (b : Bool) → operationsText (cond b (first i) (first i ++ (operationOf N to i ∷ []))) ≡ text i ++ cond b [] (operationText (operationOf N to i))
       go true = sym (append-nil (operationsText (first i)))
       go false = text-more (first i) (operationOf N to i)
 

@@ -7,10 +7,9 @@ use lib.Dec.{eqb}
 use lib.ListN.{length}
 use Rattle.network.specs.declared.switch.Switch.{Switch}
 use Rattle.network.specs.declared.topology.PowerNetwork.{PowerNetwork}
-use Rattle.printing.specs.declared.writer.SwitchAction.{SwitchAction}
-use Rattle.printing.specs.declared.writer.SwitchAction.the-variants.{Open, Close}
 use Rattle.printing.specs.Printed.{operationText}
 use Rattle.plan.specs.Plan.{State, byte}
+use Rattle.reconfiguration.specs.Operations.{operationTo}
 
 -- a byte for each listed switch in both states
 abbrev pub Stated : PowerNetwork → State → State → Type 0
@@ -20,10 +19,6 @@ Stated n from to = (length from ≡ n .«switch_count») × (length to ≡ n .«
 abbrev pub differs : State → State → ℕ → Bool
 differs from to i = not (eqb (byte from i) (byte to i))
 
--- what is done to a switch so that it stands as the byte says
-abbrev pub actionTo : ℕ → SwitchAction
-actionTo to = cond (eqb to 1) Open Close
-
 -- the line of a switch that stands as `from` and is to stand as `to`; none where it stands so
 unfoldable pub lineOf : Switch → ℕ → ℕ → List ℕ
-lineOf switch from to = cond (eqb from to) [] (operationText (switch .id) (actionTo to))
+lineOf switch from to = cond (eqb from to) [] (operationText (operationTo switch to))

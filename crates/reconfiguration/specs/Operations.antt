@@ -9,7 +9,8 @@ use Rattle.network.specs.Records.{Network}
 use Rattle.network.specs.Answers.{Answer, accepted, refused, _andThen_}
 use Rattle.network.specs.Check.{checkRecords}
 use Rattle.network.specs.Live.{checkState}
-use Rattle.printing.specs.declared.writer.SwitchAction.{SwitchAction}
+use Rattle.network.specs.declared.switch.Switch.{Switch}
+use Rattle.printing.specs.declared.writer.SwitchOperation.{SwitchOperation}
 use Rattle.printing.specs.declared.writer.SwitchAction.the-variants.{Open, Close}
 use Rattle.printing.specs.Printed.{operationText}
 use Rattle.printing.specs.Calls.{Call, called}
@@ -18,22 +19,20 @@ use Rattle.reconfiguration.specs.declared.operations.OperationsAnswer.{O
 use Rattle.reconfiguration.specs.declared.operations.OperationsAnswer.the-variants.{Operations, Refused}
 use Rattle.reconfiguration.specs.Switches.{size, switch}
 
--- a switch by its id, and what is done to it
-pub record Operation : Type 0 where
-  pub switch-id : ℕ
-  pub action : SwitchAction
+-- what is done to a switch so that it stands as its byte in a state says
+unfoldable pub operationTo : Switch → ℕ → SwitchOperation
+operationTo w state = record { «switch_id» = w .id; action = cond (eqb state 1) Open Close }
 
--- what is done to switch i so that it stands as in the state `to`
-unfoldable pub operationOf : Network → State → ℕ → Operation
-operationOf N to i = record { switch-id = switch N i .id; action = cond (eqb (byte to i) 1) Open Close }
+abbrev pub operationOf : Network → State → ℕ → SwitchOperation
+operationOf N to i = operationTo (switch N i) (byte to i)
 
 -- "The operation list follows switch order": an operation for every switch that stands otherwise
-unfoldable pub operations : Network → State → State → List Operation
+unfoldable pub operations : Network → State → State → List SwitchOperation
 operations N from to = upTo (λ l i. cond (eqb (byte from i) (byte to i)) l (l ++ (operationOf N to i ∷ []))) [] (size N)
 
 -- "82: switch id, 00 open or 01 close", a line for each
-unfoldable pub operationsText : List Operation → List ℕ
-operationsText operations = flatMap (λ o. operationText (o .switch-id) (o .action)) operations
+unfoldable pub operationsText : List SwitchOperation → List ℕ
+operationsText operations = flatMap operationText operations
 
 -- how many operations, and a line for each at the front of the slice. "Calls test the network, then 10 (present first)"
 unfoldable pub listed : Network → State → State → List ℕ → Call ℕ

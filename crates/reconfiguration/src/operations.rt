@@ -10,8 +10,8 @@ ghost use Rattle.network.specs.Answers.{answerOf, _andThen_};
 ghost use Rattle.network.specs.Check.{checkRecords};
 ghost use Rattle.network.specs.Live.{checkState};
 ghost use Rattle.network.specs.Records.{recordsOf};
-ghost use Rattle.reconfiguration.specs.Operations.{operations, operationsText, listed, operationsAnswerOf};
-ghost use Rattle.reconfiguration.specs.OperationValues.{Stated, differs, actionTo, lineOf};
+ghost use Rattle.reconfiguration.specs.Operations.{operationTo, operations, operationsText, listed, operationsAnswerOf};
+ghost use Rattle.reconfiguration.specs.OperationValues.{Stated, differs, lineOf};
 use network::check::check;
 use network::configuration::NetworkConfiguration;
 use network::configuration::check_state;
@@ -21,6 +21,7 @@ use network::topology::PowerNetwork;
 use numbers::wide16;
 use printing::writer::OPERATION_LENGTH;
 use printing::writer::SwitchAction;
+use printing::writer::SwitchOperation;
 use printing::writer::write_operation;
 
 // How many operations the list has, or document 01's refusal number and place.
@@ -47,13 +48,19 @@ fn check_states(network: PowerNetwork, from: &[u8], to: &[u8]) -> Verdict
 }
 
 // What is done to a switch so that it stands as its byte in a state says.
-fn action_to(state: u8) -> SwitchAction
-    ensures { λ r. ⌜ r ≡ actionTo state ⌝ }
+fn operation_to(switch: Switch, state: u8) -> SwitchOperation
+    ensures { λ r. ⌜ r ≡ operationTo switch state ⌝ }
 {
     if state == NetworkConfiguration::OPEN {
-        return SwitchAction::Open;
+        return SwitchOperation {
+            switch_id: switch.id,
+            action: SwitchAction::Open,
+        };
     }
-    SwitchAction::Close
+    SwitchOperation {
+        switch_id: switch.id,
+        action: SwitchAction::Close,
+    }
 }
 
 // How many switches stand otherwise in the two states.
@@ -80,7 +87,7 @@ fn write_change(out: &mut [u8], at: usize, switch: Switch, from: u8, to: u8) -> 
     if from == to {
         return at;
     }
-    write_operation(&mut out[at..], switch.id, action_to(to));
+    write_operation(&mut out[at..], operation_to(switch, to));
     at + OPERATION_LENGTH
 }
 

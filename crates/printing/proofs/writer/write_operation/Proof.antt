@@ -19,6 +19,9 @@ write-field-requires c κs = search needs
 write-field-requires-2 : tie.Need-write-field-requires-2
 write-field-requires-2 c κs = search needs
 
+cast-write-field-2 : tie.Need-cast-write-field-2
+cast-write-field-2 c = search needs
+
 action-byte-requires : tie.Need-action-byte-requires
 action-byte-requires c κs = search needs
 
@@ -44,9 +47,10 @@ write-operation-spec =
     (tie.spec
     returns
     write-field-requires
+    cast-write-field
     write-field-requires-2
     action-byte-requires
-    cast-write-field
+    cast-write-field-2
     write-field-requires-3
     slice-write-out
     same-length

@@ -16,8 +16,8 @@ part-write-operation-start c = search needs
 part-write-operation-end : tie.Need-part-write-operation-end
 part-write-operation-end c = search needs
 
-action-to-requires : tie.Need-action-to-requires
-action-to-requires c κs = search needs
+operation-to-requires : tie.Need-operation-to-requires
+operation-to-requires c κs = search needs
 
 write-operation-requires : tie.Need-write-operation-requires
 write-operation-requires c κs = search needs
@@ -33,7 +33,7 @@ returns-2 c =
     let w = c .before .before in
     let a = w .before in
     let i = a .before .before in
-    change-written _ _ _ _ _ (i .if1 .left) (i .before .before .pre) (a .action-to .ensures) (w .write-operation .ensures)
+    change-written _ _ _ _ _ (i .if1 .left) (i .before .before .pre) (a .operation-to .ensures) (w .write-operation .ensures)
 
 pub write-change-spec : {M : Type 1} → statement M
 write-change-spec =
@@ -43,7 +43,7 @@ write-change-spec =
     sub-write-operation
     part-write-operation-start
     part-write-operation-end
-    action-to-requires
+    operation-to-requires
     write-operation-requires
     add-result
     same-length
