@@ -1,186 +1,243 @@
-//! Questions on calls that `feeder` doesn't show: radiality and loss of any state, the best state in a lent slice, plans
-//! between any two states. A program under test answers them from a file, one line each.
-//!
-//! A question is a line with a letter and lengths (u16, 4 digits), then the text, then the states' bytes as digits and a
-//! line feed:
-//!   S text state                    radiality and loss of the state
-//!   B text slice                    the best state in a slice of that length, each byte of it AA before
-//!   P text present wanted room      the plan, with room for that many pairs
-//! An answer is a line: `A` and what is answered, or `R`, number byte and place; for B the slice's bytes follow both.
+//! Questions on calls that `feeder` doesn't show: radiality and loss of any state, the best state in a lent slice,
+//! operations and plans between any two states. A question is a case of the program `call_cases`
+//! (crates/call_cases/src/calls.rt), its answer what that program is to print.
 
-use crate::damage;
+use crate::cases::{Case, Cases};
+use crate::compare::Right;
 use crate::driver::Original;
 use crate::random::Random;
 use crate::reckoning::plan::{self, plan, well_formed};
-use crate::reckoning::{judge, reader, Network, Refusal};
-use crate::shapes::SHAPES;
-use crate::states::{any_plan, any_state, near};
-use std::collections::BTreeMap;
+use crate::reckoning::{judge, reader, searches, Network, Refusal};
+use crate::states::{any_plan, any_state, near, OPERATION_LENGTH};
+use crate::{damage, shapes};
 
-const FILLER: u8 = 0xAA;
-
+/// One question of a program under test.
 struct Question {
+    name: String,
     text: Vec<u8>,
     call: Call,
+    /// A fault that the records get once they are read, a hyphen for none.
+    change: char,
+    present: Vec<u8>,
+    wanted: Vec<u8>,
+    /// Length of the lent slice.
+    room: usize,
 }
 
+#[derive(Clone, Copy, PartialEq)]
 enum Call {
-    State(Vec<u8>),
-    Best(usize),
-    Plan { present: Vec<u8>, wanted: Vec<u8>, room: usize },
+    State,
+    Best,
+    Operations,
+    Plan,
 }
 
-pub fn questions(count: usize, seed: u64) -> Vec<u8> {
-    (0..count).flat_map(|number| any_question(&mut Random::new(seed, "questions", number)).written()).collect()
+/// The letter of each call, and what is asked.
+const CALLS: [(char, Call, &str); 4] = [
+    ('S', Call::State, "radiality and loss of a state"),
+    ('B', Call::Best, "the best state in a slice"),
+    ('O', Call::Operations, "operations in a slice"),
+    ('P', Call::Plan, "a plan in a slice"),
+];
+
+/// What an answered call prints: its fields, and what it writes into the slice.
+struct Answer {
+    fields: String,
+    written: String,
 }
 
-fn any_question(random: &mut Random) -> Question {
-    let shape = &SHAPES[random.below(SHAPES.len())];
-    let feeder = (shape.make)(random);
+/// What the program is to print for a question, and which answer or refusal that is.
+pub struct Printed {
+    output: String,
+    result: String,
+}
+
+impl Right for Printed {
+    fn output(&self) -> String {
+        self.output.clone()
+    }
+
+    fn fault(&self, output: &[u8]) -> Option<String> {
+        (output != self.output.as_bytes()).then(|| "the call answers otherwise".to_string())
+    }
+
+    fn results(&self) -> Vec<(String, usize)> {
+        vec![(self.result.clone(), 1)]
+    }
+}
+
+pub fn questions(count: usize, seed: u64) -> Cases {
+    Box::new((0..count).map(move |number| any_question(&mut Random::new(seed, "questions", number), number)))
+}
+
+fn any_question(random: &mut Random, number: usize) -> Case {
+    let (letter, call, kind) = CALLS[random.pick(&[0, 0, 1, 2, 3, 3])];
+    let feeder = match call {
+        // The original's searches would take minutes there.
+        Call::State | Call::Operations | Call::Plan if random.percent(2) => shapes::full_size(random, 0, 10, 100),
+        _ => (shapes::SHAPES[random.below(shapes::SHAPES.len())].make)(random),
+    };
     let text = if random.percent(3) { damage::damaged(random) } else { feeder.text() };
     let network = reader::read(&text).or(reader::read(&feeder.text())).expect("shapes are acceptable");
-    let call = match random.below(5) {
-        0 | 1 => Call::State(any_state(random, &network)),
-        2 => Call::Best(near(random, network.switches.len())),
-        _ => {
-            let (present, wanted, room) = any_plan(random, &network);
-            Call::Plan { present, wanted, room }
-        }
+    let (present, wanted, room) = match call {
+        Call::State => (any_state(random, &network), Vec::new(), 0),
+        Call::Best => (Vec::new(), Vec::new(), near(random, network.switches.len())),
+        Call::Operations => any_operations(random, &network),
+        Call::Plan => any_plan(random, &network),
     };
-    Question { text, call }
+    let name = format!("{letter}{number}");
+    Case { kind, text: Question { name, text, call, change: '-', present, wanted, room }.written() }
 }
 
-fn digits(bytes: &[u8]) -> String {
-    bytes.iter().map(|byte| format!("{byte:02X}")).collect()
+/// Any two states, and a slice about as long as their operations.
+fn any_operations(random: &mut Random, network: &Network) -> (Vec<u8>, Vec<u8>, usize) {
+    let (present, wanted) = (any_state(random, network), any_state(random, network));
+    let differing = present.iter().zip(&wanted).filter(|(before, after)| before != after).count();
+    (present, wanted, near(random, OPERATION_LENGTH * differing))
+}
+
+/// A digit for each byte; a byte above 9 is 255.
+fn digits(state: &[u8]) -> String {
+    state.iter().map(|&byte| if byte < 10 { char::from(b'0' + byte) } else { 'F' }).collect()
+}
+
+fn bytes(digits: &[u8]) -> Vec<u8> {
+    digits.iter().map(|&digit| if digit.is_ascii_digit() { digit - b'0' } else { 255 }).collect()
 }
 
 impl Question {
     fn written(&self) -> Vec<u8> {
-        let (letter, lengths, states) = match &self.call {
-            Call::State(state) => ('S', vec![state.len()], digits(state)),
-            Call::Best(slice) => ('B', vec![*slice], String::new()),
-            Call::Plan { present, wanted, room } => {
-                ('P', vec![present.len(), wanted.len(), *room], digits(present) + &digits(wanted))
-            }
+        let head = format!("{} {}\n", self.text.len(), self.name);
+        let first = format!("\n{}{} {}\n", self.letter(), self.change, digits(&self.present));
+        let rest = format!("{}\n{}\n", digits(&self.wanted), ".".repeat(self.room));
+        [head.as_bytes(), &self.text, first.as_bytes(), rest.as_bytes()].concat()
+    }
+
+    fn letter(&self) -> char {
+        CALLS.into_iter().find(|listed| listed.1 == self.call).expect("each call is listed").0
+    }
+
+    fn printed(&self) -> Printed {
+        let answer = reader::read(&changed(&self.text, self.change)).and_then(|network| self.answer(&network));
+        let (result, fields, written) = match answer {
+            Ok(answer) => ("answered".to_string(), answer.fields, answer.written),
+            Err(Refusal { number, place }) => (format!("refused {number}"), self.refusal(number, place), String::new()),
         };
-        let lengths: String = lengths.iter().map(|length| format!("{length:04X}")).collect();
-        let head = format!("{letter}{:04X}{lengths}\n", self.text.len());
-        [head.as_bytes(), &self.text, states.as_bytes(), b"\n"].concat()
-    }
-
-    fn answer(&self) -> String {
-        let filler = match self.call {
-            Call::Best(length) => digits(&vec![FILLER; length]),
-            _ => String::new(),
+        let slice = match self.call {
+            Call::State => String::new(),
+            _ => format!(" [{written}{}]", ".".repeat(self.room - written.len())),
         };
-        let answer = reader::read(&self.text).and_then(|network| self.call.answer(&network));
-        match answer {
-            Ok(answer) => format!("A{answer}\n"),
-            Err(refusal) => format!("R{:02X}{:04X}{filler}\n", refusal.number, refusal.place),
-        }
+        Printed { output: format!("{}{fields}{slice}\n", self.name), result: format!("{} {result}", self.letter()) }
+    }
+
+    /// Radiality and loss are two calls, which refuse alike.
+    fn refusal(&self, number: u8, place: u16) -> String {
+        format!(" refused {number} {place}").repeat(if self.call == Call::State { 2 } else { 1 })
+    }
+
+    fn answer(&self, network: &Network) -> Result<Answer, Refusal> {
+        let answer = match self.call {
+            Call::State => state_answer(network, &self.present)?,
+            Call::Best => best_answer(network),
+            Call::Operations => operations_answer(network, &self.present, &self.wanted)?,
+            Call::Plan => plan_answer(network, &self.present, &self.wanted)?,
+        };
+        refused_unless(answer.written.len() <= self.room, 13, 0)?;
+        Ok(answer)
     }
 }
 
-impl Call {
-    fn answer(&self, network: &Network) -> Result<String, Refusal> {
-        match self {
-            Call::State(state) if !well_formed(network, state) => Err(Refusal { number: 10, place: 0 }),
-            Call::State(state) => {
-                let original = Original::new(network);
-                Ok(format!("{:02X}{:016X}", original.radial(state) as u8, original.loss(state).to_bits()))
-            }
-            Call::Best(slice) => {
-                let best = Original::new(network).solve().best;
-                let tail = slice.checked_sub(best.len()).ok_or(Refusal { number: 13, place: 0 })?;
-                Ok(digits(&best) + &digits(&vec![FILLER; tail]))
-            }
-            Call::Plan { present, wanted, room } => {
-                let pairs = plan(network, present, wanted, *room)?;
-                assert_eq!(
-                    judge::fault(network, present, wanted, &pairs),
-                    None,
-                    "the judge refuses the reckoning's plan"
-                );
-                Ok(plan::lines(network, &pairs).lines().map(|line| &line[2..]).collect())
-            }
-        }
+fn refused_unless(holds: bool, number: u8, place: u16) -> Result<(), Refusal> {
+    if holds {
+        Ok(())
+    } else {
+        Err(Refusal { number, place })
     }
 }
 
-/// The answers to a file of questions, each with its line feed.
-pub fn answers(questions: &[u8]) -> Vec<String> {
-    read(questions).iter().map(|(_, question)| question.answer()).collect()
+fn state_answer(network: &Network, state: &[u8]) -> Result<Answer, Refusal> {
+    refused_unless(well_formed(network, state), 10, 0)?;
+    let original = Original::new(network);
+    let fields = format!(" {:02x} {:016x}", original.radial(state) as u8, original.loss(state).to_bits());
+    Ok(Answer { fields, written: String::new() })
 }
 
-/// The questions of a file, each with its letter.
-fn read(questions: &[u8]) -> Vec<(char, Question)> {
+/// The fields of the original's 81 line.
+fn best_answer(network: &Network) -> Answer {
+    let answer = Original::new(network).solve();
+    let ends = [2, 4, 20, 36, 52, 56, 58];
+    let fields = ends.windows(2).map(|field| format!(" {}", answer.lines[field[0]..field[1]].to_ascii_lowercase()));
+    Answer { fields: fields.collect(), written: digits(&answer.best) }
+}
+
+fn operations_answer(network: &Network, present: &[u8], wanted: &[u8]) -> Result<Answer, Refusal> {
+    refused_unless(well_formed(network, present), 10, 0)?;
+    refused_unless(well_formed(network, wanted), 10, 1)?;
+    let written = searches::operations(network, present, wanted);
+    Ok(Answer { fields: format!(" {:04x}", written.len() / OPERATION_LENGTH), written })
+}
+
+fn plan_answer(network: &Network, present: &[u8], wanted: &[u8]) -> Result<Answer, Refusal> {
+    let pairs = plan(network, present, wanted, usize::MAX)?;
+    assert_eq!(judge::fault(network, present, wanted, &pairs), None, "the judge refuses the reckoning's plan");
+    Ok(Answer { fields: format!(" {:04x}", pairs.len()), written: plan::lines(network, &pairs) })
+}
+
+/// Document 01: "Records handed over without text are checked as their lines would be." The text of the records with the
+/// fault: 1,001 iterations, only two buses, or 513 switches in the head.
+fn changed(text: &[u8], change: char) -> Vec<u8> {
+    let mut lines: Vec<Vec<u8>> = text.split_inclusive(|&c| c == b'\n').map(<[u8]>::to_vec).collect();
+    match change {
+        'I' => lines[0][32..36].copy_from_slice(b"03E9"),
+        'U' => {
+            lines[0][2..6].copy_from_slice(b"0002");
+            let mut buses = 0;
+            lines.retain(|line| {
+                buses += line.starts_with(b"02") as usize;
+                !line.starts_with(b"02") || buses <= 2
+            });
+        }
+        'W' => lines[0][10..14].copy_from_slice(b"0201"),
+        _ => (),
+    }
+    lines.concat()
+}
+
+/// What the program is to print for a file of questions.
+pub fn answers(questions: &[u8]) -> String {
+    read(questions).iter().map(|question| question.printed().output).collect()
+}
+
+/// What the program is to print for one question.
+pub fn expected(question: &[u8]) -> Printed {
+    read(question).pop().expect("a question").printed()
+}
+
+fn read(questions: &[u8]) -> Vec<Question> {
     let mut found = Vec::new();
     let mut rest = questions;
     while !rest.is_empty() {
-        let mut cursor = Cursor(rest);
-        found.push(cursor.question().unwrap_or_else(|| crate::fail("the questions are damaged")));
-        rest = cursor.0;
+        found.push(question(&mut rest).unwrap_or_else(|| crate::fail("the questions are damaged")));
     }
     found
 }
 
-struct Cursor<'a>(&'a [u8]);
-
-impl<'a> Cursor<'a> {
-    fn take(&mut self, count: usize) -> Option<&'a [u8]> {
-        let (taken, rest) = self.0.split_at_checked(count)?;
-        self.0 = rest;
-        Some(taken)
-    }
-
-    fn number(&mut self, count: usize) -> Option<usize> {
-        usize::from_str_radix(std::str::from_utf8(self.take(count)?).ok()?, 16).ok()
-    }
-
-    fn bytes(&mut self, count: usize) -> Option<Vec<u8>> {
-        (0..count).map(|_| self.number(2).map(|byte| byte as u8)).collect()
-    }
-
-    fn question(&mut self) -> Option<(char, Question)> {
-        let letter = char::from(self.take(1)?[0]);
-        let count = if letter == 'P' { 4 } else { 2 };
-        let lengths: Vec<usize> = (0..count).map(|_| self.number(4)).collect::<Option<_>>()?;
-        self.take(1)?;
-        let text = self.take(lengths[0])?.to_vec();
-        let call = match letter {
-            'S' => Call::State(self.bytes(lengths[1])?),
-            'B' => Call::Best(lengths[1]),
-            _ => Call::Plan { present: self.bytes(lengths[1])?, wanted: self.bytes(lengths[2])?, room: lengths[3] },
-        };
-        self.take(1)?;
-        Some((letter, Question { text, call }))
-    }
+fn question(rest: &mut &[u8]) -> Option<Question> {
+    let head = std::str::from_utf8(line(rest)?).ok()?;
+    let (length, name) = head.split_once(' ')?;
+    let (text, behind) = rest.split_at_checked(length.parse().ok()?)?;
+    *rest = behind.strip_prefix(b"\n")?;
+    let (first, wanted, slice) = (line(rest)?, line(rest)?, line(rest)?);
+    let (&[letter, change, b' '], present) = first.split_first_chunk()? else { return None };
+    let call = CALLS.into_iter().find(|listed| listed.0 == char::from(letter))?.1;
+    let change = char::from(change);
+    let (present, wanted, room) = (bytes(present), bytes(wanted), slice.len());
+    Some(Question { name: name.to_string(), text: text.to_vec(), call, change, present, wanted, room })
 }
 
-/// Whether a program's answers are the oracle's; the counts and the first difference are printed.
-pub fn compare(questions: &[u8], answers: &[u8]) -> bool {
-    let mut given = answers.split_inclusive(|&c| c == b'\n');
-    let mut counts: BTreeMap<String, usize> = BTreeMap::new();
-    for (number, (letter, question)) in read(questions).into_iter().enumerate() {
-        let (right, found) = (question.answer(), given.next().unwrap_or_default());
-        if found != right.as_bytes() {
-            println!("DIFFERENCE at question {} ({letter})", number + 1);
-            println!(
-                "{}expected: {right}found: {}",
-                String::from_utf8_lossy(&question.written()),
-                String::from_utf8_lossy(found)
-            );
-            return false;
-        }
-        let kind = if right.starts_with('A') { "answered".to_string() } else { format!("refused {}", &right[1..3]) };
-        *counts.entry(format!("{letter} {kind}")).or_default() += 1;
-    }
-    counts.iter().for_each(|(kind, count)| println!("{count:9}  {kind}"));
-    let more = given.next().is_some();
-    println!(
-        "{} answers compared, {}",
-        counts.values().sum::<usize>(),
-        if more { "MORE FOLLOW" } else { "no difference" }
-    );
-    !more
+fn line<'a>(rest: &mut &'a [u8]) -> Option<&'a [u8]> {
+    let end = rest.iter().position(|&c| c == b'\n')?;
+    let line = &rest[..end];
+    *rest = &rest[end + 1..];
+    Some(line)
 }

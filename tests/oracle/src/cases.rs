@@ -18,13 +18,16 @@ pub struct Size {
     pub damaged: usize,
     pub three_buses: usize,
     pub full: usize,
+    pub questions: usize,
 }
 
 impl Size {
     pub fn named(name: &str) -> Option<Self> {
         match name {
-            "small" => Some(Size { each_shape: 250, damaged: 4_000, three_buses: 2_000, full: 3 }),
-            "large" => Some(Size { each_shape: 10_000, damaged: 200_000, three_buses: 200_000, full: 30 }),
+            "small" => Some(Size { each_shape: 250, damaged: 4_000, three_buses: 2_000, full: 3, questions: 20_000 }),
+            "large" => {
+                Some(Size { each_shape: 10_000, damaged: 200_000, three_buses: 200_000, full: 30, questions: 200_000 })
+            }
             _ => None,
         }
     }

@@ -1,7 +1,8 @@
-//! Runs the program under test on every text of a set and holds its output against the expected one.
+//! Runs a program under test on every case of a set, texts of `feeder` or questions of `call_cases`, and holds its output
+//! against the expected one.
 
 use crate::cases::{Case, Cases};
-use crate::expected::{expected, Answered, Expected};
+use crate::expected::{Answered, Expected};
 use crate::program::Running;
 use std::collections::BTreeMap;
 use std::sync::atomic::{AtomicBool, Ordering};
@@ -12,7 +13,16 @@ const SAVED: &str = "target/oracle/difference.txt";
 /// One text in so many comes in two pieces.
 const IN_PIECES: usize = 97;
 
-/// How many texts of each kind were compared.
+/// What a program is to print for a case.
+pub trait Right {
+    fn output(&self) -> String;
+    /// What is wrong with an output; none if nothing is.
+    fn fault(&self, output: &[u8]) -> Option<String>;
+    /// The results that are counted, and how often.
+    fn results(&self) -> Vec<(String, usize)>;
+}
+
+/// How many cases of each kind were compared.
 #[derive(Default)]
 pub struct Tally {
     pub kinds: Vec<(&'static str, usize)>,
@@ -20,34 +30,14 @@ pub struct Tally {
 }
 
 impl Tally {
-    pub fn add(&mut self, kind: &'static str, expected: &Expected) {
+    pub fn add(&mut self, kind: &'static str, right: &impl Right) {
         match self.kinds.iter_mut().find(|(name, _)| *name == kind) {
             Some((_, count)) => *count += 1,
             None => self.kinds.push((kind, 1)),
         }
-        match expected {
-            Expected::Refused(refusal) => self.count(format!("refused {}", refusal.number), 1),
-            Expected::Answered(answered) => self.add_answer(answered),
+        for (result, more) in right.results() {
+            *self.results.entry(result).or_default() += more;
         }
-    }
-
-    fn add_answer(&mut self, answered: &Answered) {
-        let method = ["exchange", "tabu", "exhaustive"][usize::from(answered.network.method)];
-        let base = if answered.pairs.is_some() { "radial base" } else { "base not radial" };
-        self.count(format!("answered, {method}, {base}"), 1);
-        if answered.best != answered.network.base() {
-            self.count(format!("answered, {method}, {base}: switches moved"), 1);
-        }
-        let pairs = answered.pairs.as_ref().map_or(0, Vec::len);
-        if pairs > 0 {
-            let several = if pairs > 1 { "plans of several pairs" } else { "plans of one pair" };
-            self.count(several.to_string(), 1);
-            self.count("pairs judged".to_string(), pairs);
-        }
-    }
-
-    fn count(&mut self, result: String, more: usize) {
-        *self.results.entry(result).or_default() += more;
     }
 
     pub fn lines(&self) -> String {
@@ -61,6 +51,45 @@ impl Tally {
     }
 }
 
+impl Right for Expected {
+    fn output(&self) -> String {
+        self.output()
+    }
+
+    fn fault(&self, output: &[u8]) -> Option<String> {
+        self.fault(output)
+    }
+
+    fn results(&self) -> Vec<(String, usize)> {
+        match self {
+            Expected::Refused(refusal) => vec![(format!("refused {}", refusal.number), 1)],
+            Expected::Answered(answered) => answer_results(answered),
+        }
+    }
+}
+
+fn answer_results(answered: &Answered) -> Vec<(String, usize)> {
+    let method = ["exchange", "tabu", "exhaustive"][usize::from(answered.network.method)];
+    let base = if answered.pairs.is_some() { "radial base" } else { "base not radial" };
+    let mut results = vec![(format!("answered, {method}, {base}"), 1)];
+    if answered.best != answered.network.base() {
+        results.push((format!("answered, {method}, {base}: switches moved"), 1));
+    }
+    let pairs = answered.pairs.as_ref().map_or(0, Vec::len);
+    if pairs > 0 {
+        let several = if pairs > 1 { "plans of several pairs" } else { "plans of one pair" };
+        results.extend([(several.to_string(), 1), ("pairs judged".to_string(), pairs)]);
+    }
+    results
+}
+
+/// What is compared, by its name, and what is expected of a case.
+pub struct Compared<R> {
+    pub name: &'static str,
+    pub cases: Cases,
+    pub expected: fn(&[u8]) -> R,
+}
+
 struct Difference {
     number: usize,
     case: Case,
@@ -69,8 +98,9 @@ struct Difference {
     output: String,
 }
 
-/// Whether all texts got their expected output; the counts and the first difference are printed.
-pub fn compare(cases: Cases, program: &[String], workers: usize) -> bool {
+/// Whether all cases got their expected output; the counts and the first difference are printed.
+pub fn compare<R: Right>(compared: Compared<R>, program: &[String], workers: usize) -> bool {
+    let Compared { name, cases, expected } = compared;
     let queue = Mutex::new(cases.enumerate());
     let tally = Mutex::new(Tally::default());
     let first = Mutex::new(None);
@@ -78,7 +108,7 @@ pub fn compare(cases: Cases, program: &[String], workers: usize) -> bool {
     let running: Vec<Running> = (0..workers).map(|_| Running::default()).collect();
     std::thread::scope(|scope| {
         let work: Vec<_> =
-            running.iter().map(|own| scope.spawn(|| worker(own, program, &queue, &tally, &first))).collect();
+            running.iter().map(|own| scope.spawn(|| worker(own, program, expected, &queue, &tally, &first))).collect();
         scope.spawn(|| watch(&running, &done));
         work.into_iter().for_each(|worker| worker.join().expect("a worker panicked"));
         done.store(true, Ordering::Relaxed);
@@ -87,11 +117,11 @@ pub fn compare(cases: Cases, program: &[String], workers: usize) -> bool {
     println!("{}", tally.lines());
     match first.into_inner().expect("the workers are done") {
         None => {
-            println!("{} texts compared, no difference", tally.total());
+            println!("{} {name} compared, no difference", tally.total());
             true
         }
         Some(difference) => {
-            report(&difference);
+            report(name, &difference);
             false
         }
     }
@@ -104,10 +134,11 @@ fn watch(running: &[Running], done: &AtomicBool) {
     }
 }
 
-/// Takes texts until there are none or a difference is found. The earliest difference is kept.
-fn worker(
+/// Takes cases until there are none or a difference is found. The earliest difference is kept.
+fn worker<R: Right>(
     own: &Running,
     program: &[String],
+    expected: fn(&[u8]) -> R,
     queue: &Mutex<std::iter::Enumerate<Cases>>,
     tally: &Mutex<Tally>,
     first: &Mutex<Option<Difference>>,
@@ -132,10 +163,10 @@ fn worker(
     }
 }
 
-fn report(difference: &Difference) {
-    println!("DIFFERENCE at text {} ({}): {}", difference.number, difference.case.kind, difference.fault);
+fn report(name: &str, difference: &Difference) {
+    println!("DIFFERENCE in {name} at {} ({}): {}", difference.number, difference.case.kind, difference.fault);
     match std::fs::write(SAVED, &difference.case.text) {
-        Ok(()) => println!("the text is saved in {SAVED} ({} bytes)", difference.case.text.len()),
+        Ok(()) => println!("its input is saved in {SAVED} ({} bytes)", difference.case.text.len()),
         Err(error) => println!("{SAVED}: {error}"),
     }
     println!("expected:\n{}found:\n{}", difference.expected, shortened(&difference.output));

@@ -23,6 +23,7 @@ mod values;
 mod wrong;
 
 use cases::Size;
+use compare::Compared;
 use std::io::{Read, Write};
 use std::process::ExitCode;
 
@@ -30,6 +31,8 @@ const USAGE: &str = "usage:
   oracle expected                          text on standard input: what feeder is to print
   oracle solve                             records on standard input: the expected output of each, as records
   oracle compare SIZE SEED PROGRAM [ARG]   runs the program on the set of that size (small, large) and seed
+  oracle compare-calls SIZE SEED PROGRAM [ARG]
+                                           runs the program on that many questions
   oracle check                             document 01's worked examples, on the original
   oracle agree SIZE SEED                   document 01's steps, as reckoned, against the original
   oracle flat                              the original's sensitivities at flat voltage
@@ -39,9 +42,8 @@ const USAGE: &str = "usage:
   oracle smallest NAME                     the smallest feeder that shows a mistake
   oracle list SEED                         the fixed list of texts and expected outputs
   oracle entry FILE NUMBER                 one entry of such a list
-  oracle questions COUNT SEED              calls on states, slices and plans
-  oracle answers                           questions on standard input: their answers
-  oracle compare-answers QUESTIONS ANSWERS holds a program's answers against the oracle's";
+  oracle questions COUNT SEED              calls on states, slices, operations and plans
+  oracle answers                           questions on standard input: their answers";
 
 fn main() -> ExitCode {
     let arguments: Vec<String> = std::env::args().skip(1).collect();
@@ -49,7 +51,15 @@ fn main() -> ExitCode {
     let good = match words[..] {
         ["expected"] => print(expected::expected(&input()).output().as_bytes()),
         ["solve"] => print(&records::solve(&input())),
-        ["compare", size, seed, _, ..] => compare::compare(set(size, seed), &arguments[3..], workers()),
+        ["compare", size, seed, _, ..] => {
+            let texts = Compared { name: "texts", cases: set(size, seed), expected: expected::expected };
+            compare::compare(texts, &arguments[3..], workers())
+        }
+        ["compare-calls", size, seed, _, ..] => {
+            let cases = calls::questions(named(size).questions, number(seed));
+            let questions = Compared { name: "questions", cases, expected: calls::expected };
+            compare::compare(questions, &arguments[3..], workers())
+        }
         ["check"] => check::worked_examples(),
         ["agree", size, seed] => check::agree(set(size, seed)),
         ["flat"] => flat::all_equal(),
@@ -59,9 +69,10 @@ fn main() -> ExitCode {
         ["smallest", name] => print(&wrong::smallest(wrong::named(name))),
         ["list", seed] => print(&list::list(number(seed))),
         ["entry", file, entry] => list::print_entry(&read_file(file), number(entry) as usize),
-        ["questions", count, seed] => print(&calls::questions(number(count) as usize, number(seed))),
-        ["answers"] => print(calls::answers(&input()).join("").as_bytes()),
-        ["compare-answers", questions, answers] => calls::compare(&read_file(questions), &read_file(answers)),
+        ["questions", count, seed] => {
+            calls::questions(number(count) as usize, number(seed)).all(|question| print(&question.text))
+        }
+        ["answers"] => print(calls::answers(&input()).as_bytes()),
         _ => {
             eprintln!("{USAGE}");
             false
@@ -75,7 +86,11 @@ fn main() -> ExitCode {
 }
 
 fn set(size: &str, seed: &str) -> cases::Cases {
-    cases::cases(Size::named(size).unwrap_or_else(|| fail("the size is small or large")), number(seed))
+    cases::cases(named(size), number(seed))
+}
+
+fn named(size: &str) -> Size {
+    Size::named(size).unwrap_or_else(|| fail("the size is small or large"))
 }
 
 fn number(word: &str) -> u64 {

@@ -4,6 +4,10 @@ use crate::random::Random;
 use crate::reckoning::plan::{plan, radial};
 use crate::reckoning::{Network, CLOSED, OPEN};
 
+/// Bytes of an 82 line and of an 83 line.
+pub const OPERATION_LENGTH: usize = 9;
+const PAIR_LENGTH: usize = 11;
+
 /// A length at, one short of or above the one that fits, or 0.
 pub fn near(random: &mut Random, fitting: usize) -> usize {
     random.pick(&[fitting, fitting, fitting.saturating_sub(1), fitting + 1, fitting + 9, 0])
@@ -20,7 +24,7 @@ pub fn any_state(random: &mut Random, network: &Network) -> Vec<u8> {
         4 => {
             let mut state = bits(random);
             let at = random.below(count.max(1));
-            state.iter_mut().skip(at).take(1).for_each(|byte| *byte = random.pick(&[2, 0x80, 0xFF]));
+            state.iter_mut().skip(at).take(1).for_each(|byte| *byte = random.pick(&[2, 9, 0xFF]));
             state
         }
         5 | 6 => bits(random),
@@ -28,13 +32,13 @@ pub fn any_state(random: &mut Random, network: &Network) -> Vec<u8> {
     }
 }
 
-/// A present and a wanted state, mostly radial, and room for about as many pairs as their plan has.
+/// A present and a wanted state, mostly radial, and a slice about as long as their plan.
 pub fn any_plan(random: &mut Random, network: &Network) -> (Vec<u8>, Vec<u8>, usize) {
     let radial = |random: &mut Random| radial_state(random, network).unwrap_or_else(|| any_state(random, network));
     let present = if random.percent(15) { any_state(random, network) } else { radial(random) };
     let wanted = if random.percent(15) { any_state(random, network) } else { radial(random) };
     let pairs = plan(network, &present, &wanted, usize::MAX).map_or(0, |pairs| pairs.len());
-    (present, wanted, near(random, pairs))
+    (present, wanted, near(random, PAIR_LENGTH * pairs))
 }
 
 /// A state whose live branches are a tree: fixed branches first, then those with a switch in any order.

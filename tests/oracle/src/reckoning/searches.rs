@@ -154,7 +154,7 @@ impl<'a> Searches<'a> {
     /// The 81 line and the 82 lines.
     pub fn lines(&self, answer: &Answer) -> String {
         let radial_byte = radial(self.network, &self.network.live(&answer.best)) as u8;
-        let mut lines = format!(
+        let first = format!(
             "81{:02X}{:016X}{:016X}{:016X}{:04X}{:02X}\n",
             radial_byte,
             answer.base_loss.to_bits(),
@@ -163,12 +163,7 @@ impl<'a> Searches<'a> {
             answer.iterations,
             answer.converged as u8
         );
-        for ((switch, &before), &after) in self.network.switches.iter().zip(&self.network.base()).zip(&answer.best) {
-            if before != after {
-                lines += &format!("82{:04X}{:02X}\n", switch.id, if after == OPEN { 0 } else { 1 });
-            }
-        }
-        lines
+        first + &operations(self.network, &self.network.base(), &answer.best)
     }
 
     pub fn loss(&self, state: &[u8]) -> f64 {
@@ -433,6 +428,13 @@ impl<'a> Searches<'a> {
         }
         state
     }
+}
+
+/// The 82 lines: "the operation list follows switch order".
+pub fn operations(network: &Network, before: &[u8], after: &[u8]) -> String {
+    let differing =
+        network.switches.iter().zip(before.iter().zip(after)).filter(|(_, (before, after))| before != after);
+    differing.map(|(switch, (_, &byte))| format!("82{:04X}{:02X}\n", switch.id, (byte != OPEN) as u8)).collect()
 }
 
 fn other_end(ends: (usize, usize), bus: usize) -> Option<usize> {

@@ -1,0 +1,159 @@
+// The cases. A case is a line 'LENGTH NAME', a frame text, a line feed, and three lines: the letters CALL and CHANGE with a blank and PRESENT, then
+// WANTED, then SLICE. CALL is S (83) for radiality and loss of PRESENT, P (80) for the plan from PRESENT to WANTED, O (79) for the operations, B (66)
+// for the best state. CHANGE is I (73) for 1,001 iterations, U (85) for only two buses, W (87) for 513 switches in the records that O and B get, or a
+// hyphen for none. PRESENT and WANTED have a digit for each byte of the states, SLICE has a dot for each byte of the lent slice.
+ghost use mathlib.Core.Path.{_≡_};
+ghost use Prim.Native.Nat.{_≤_};
+ghost use lib.ListN.{length};
+use crate::output::print_count;
+use crate::output::print_numbers;
+use crate::output::print_refusal;
+use crate::output::print_result;
+use crate::output::print_slice;
+use cases::first_case;
+use cases::line_behind;
+use cases::part_of;
+use cases::state_bytes;
+use controller::calls::feeder_loss;
+use controller::calls::feeder_plan;
+use controller::calls::feeder_radiality;
+use frames::reader::read_text;
+use libc::STDOUT_FILENO;
+use network::error::Verdict;
+use network::topology::PowerNetwork;
+use numbers::at_most;
+use reconfiguration::operations::OperationsAnswer;
+use reconfiguration::operations::compute_switch_operations;
+use reconfiguration::solve::SolveAnswer;
+use reconfiguration::solve::solve;
+
+// A dot for each byte.
+fn dots() -> [u8; 8192]
+    ensures { λ r. ⌜ 8192 ≡ length r ⌝ }
+{
+    [46; 8192]
+}
+
+fn print_state(text: &[u8], state: &[u8]) {
+    print_numbers(feeder_radiality(text, state), 2);
+    print_numbers(feeder_loss(text, state), 16);
+    io::write_all(STDOUT_FILENO, b"\n");
+}
+
+fn print_plan(text: &[u8], present: &[u8], wanted: &[u8], room: usize)
+    requires { ⌜ room ≤ 8192 ⌝ }
+{
+    let mut out = dots();
+    print_numbers(feeder_plan(text, present, wanted, &mut out[0..room]), 4);
+    print_slice(out, room);
+}
+
+fn print_operations(network: PowerNetwork, from: &[u8], to: &[u8], room: usize)
+    requires { ⌜ room ≤ 8192 ⌝ }
+{
+    let mut out = dots();
+    match compute_switch_operations(network, from, to, &mut out[0..room]) {
+        OperationsAnswer::Operations(count) => print_count(count),
+        OperationsAnswer::Refused { number, place } => print_refusal(number, place),
+    }
+    print_slice(out, room);
+}
+
+fn print_best(network: PowerNetwork, room: usize)
+    requires { ⌜ room ≤ 8192 ⌝ }
+{
+    let mut out = dots();
+    match solve(network, &mut out[0..room]) {
+        SolveAnswer::Solved(result) => print_result(result),
+        SolveAnswer::Refused { number, place } => print_refusal(number, place),
+    }
+    print_slice(out, room);
+}
+
+// A fault that the records get once they are read: a text with it would not be.
+fn changed(mut network: PowerNetwork, change: u8) -> PowerNetwork {
+    if change == 73 {
+        network.max_iterations = 1001;
+    }
+    if change == 85 {
+        network.bus_count = 2;
+    }
+    if change == 87 {
+        network.switch_count = 513;
+    }
+    network
+}
+
+// The calls on records. A text that is refused keeps every byte of the slice.
+fn print_on_records(text: &[u8], line: &[u8], present: &[u8], wanted: &[u8], room: usize)
+    requires { ⌜ (room ≤ 8192) × (2 ≤ length (now line)) ⌝ }
+{
+    let reading = read_text(text);
+    let verdict = reading.verdict;
+    if let Verdict::Refused { number, place } = verdict {
+        print_refusal(number, place);
+        print_slice(dots(), room);
+        return;
+    }
+    let network = changed(reading.network, line[1]);
+    if line[0] == 66 {
+        print_best(network, room);
+        return;
+    }
+    print_operations(network, present, wanted, room);
+}
+
+fn print_call(text: &[u8], line: &[u8], wanted: &[u8], room: usize)
+    requires { ⌜ room ≤ 8192 ⌝ }
+{
+    if line.len() < 3 {
+        return;
+    }
+    let from = state_bytes(&line[3..]);
+    let to = state_bytes(wanted);
+    let n = at_most(line.len() - 3, 1024);
+    let m = at_most(wanted.len(), 1024);
+    match line[0] {
+        83 => print_state(text, &from[0..n]),
+        80 => print_plan(text, &from[0..n], &to[0..m], room),
+        _ => print_on_records(text, line, &from[0..n], &to[0..m], room),
+    }
+}
+
+// Prints what comes of the first case, and answers where it ends.
+fn print_case(input: &[u8]) -> usize
+    ensures { λ r. ⌜ r ≤ length (now (input .entry)) ⌝ }
+{
+    let case = first_case(input);
+    let line = line_behind(input, case.text.to);
+    let wanted = line_behind(input, line.to);
+    let slice = line_behind(input, wanted.to);
+    io::write_all(STDOUT_FILENO, part_of(input, case.name));
+    print_call(
+        part_of(input, case.text),
+        part_of(input, line),
+        part_of(input, wanted),
+        at_most(slice.to - slice.from, 8192),
+    );
+    slice.to
+}
+
+fn print_cases(input: &[u8]) {
+    let mut at = 0usize;
+    while at < input.len() {
+        at = at + print_case(&input[at..]) + 1;
+    }
+}
+
+// Room for all cases.
+fn buffer() -> [u8; 262144]
+    ensures { λ r. ⌜ 262144 ≡ length r ⌝ }
+{
+    [0; 262144]
+}
+
+pub(crate) fn print_input() {
+    let mut buffer = buffer();
+    let n = io::read_full(0, &mut buffer);
+    print_cases(&buffer[..n]);
+}

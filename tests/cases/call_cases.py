@@ -1,0 +1,190 @@
+#!/usr/bin/env python3
+"""Writes crates/call_cases/stdin and stdout: calls on feeders and states, and what they answer.
+
+usage: tests/cases/call_cases.py
+
+Each case of stdin is a line 'LENGTH NAME', a frame text, a line feed, and three lines: the letters CALL and CHANGE with a blank and PRESENT, then
+WANTED, then SLICE (crates/call_cases/src/calls.rt). Each case of stdout is 'NAME FIELDS [SLICE]' or 'NAME refused NUMBER PLACE [SLICE]', with
+the slice as the call leaves it; call S is two calls without a slice. Every answer is written by hand from document 01, and tests/oracle/self-test
+holds them against the original Rust.
+"""
+import os
+import struct
+
+ROOT = os.path.join(os.path.dirname(os.path.abspath(__file__)), '..', '..', 'crates', 'call_cases')
+EXCHANGE, TABU, EXHAUSTIVE = 0, 1, 2
+cases = []
+
+
+def bits(x):
+    return struct.unpack('>Q', struct.pack('>d', x))[0]
+
+
+class Feeder:
+    """Loads of buses 1, 2, ..; branches (from, to, r); switches (id, branch position, flags)."""
+
+    def __init__(self, loads, branches, switches):
+        self.loads, self.branches, self.switches = loads, branches, switches
+
+    def text(self, method=EXCHANGE, iterations=100):
+        lines = ['01%04X%04X%04X%016X%02X%04X' % (len(self.loads), len(self.branches), len(self.switches), bits(1.0), method, iterations)]
+        lines += ['02%04X%016X' % (i + 1, bits(load)) for i, load in enumerate(self.loads)]
+        lines += ['03%04X%04X%016X01' % (a, b, bits(r)) for a, b, r in self.branches]
+        lines += ['04%04X%04X%02X' % switch for switch in self.switches]
+        return ''.join(line + '\n' for line in lines)
+
+
+SIDES = [(1, 2, 0.25), (2, 3, 0.4375), (1, 3, 0.1875)]
+TRIANGLE = Feeder([0.0, 1.0, 2.0], SIDES, [(10, 1, 2), (11, 2, 3)])
+TURNED = Feeder([0.0, 1.0, 2.0], [(2, 1, 0.25)] + SIDES[1:], [(10, 1, 2), (11, 2, 3)])
+NO_BUSES = Feeder([], [], [])
+ONE_BUS = Feeder([3.0], [], [])
+OWN_LOOP = Feeder([3.0], [(1, 1, 0.5)], [])
+TWO_BUSES = Feeder([0.0, 2.0], [(1, 2, 0.25)], [])
+TIE_ONLY = Feeder([0.0, 2.0], [(1, 2, 0.25)], [(7, 0, 3)])
+PARALLEL = Feeder([0.0, 2.0], [(1, 2, 0.25), (1, 2, 0.5)], [(7, 1, 2)])
+# ids fall, and every second switch is a locked tie
+LARGEST = Feeder([0.0], [(1, 1, 0.0)] * 512, [(1000 - i, i, i % 2) for i in range(512)])
+
+
+def case(call, name, text, printed, present='', wanted='', room=0, change='-'):
+    cases.append((name, '%d %s\n%s\n%s%s %s\n%s\n%s\n' % (len(text), name, text, call, change, present, wanted, '.' * room), printed))
+
+
+def refused(number, place):
+    return 'refused %d %d' % (number, place)
+
+
+def slice_case(call, name, text, room, fields, written, **more):
+    case(call, name, text, '%s [%s]' % (fields, written + '.' * (room - len(written))), room=room, **more)
+
+
+def best(name, feeder, room, radial, base, least, rounds, converged, state, method=EXCHANGE, iterations=100):
+    reduction = (base - least) / base * 100 if base > 1e-12 else 0.0
+    fields = '%02x %016x %016x %016x %04x %02x' % (radial, bits(base), bits(least), bits(reduction), rounds, converged)
+    slice_case('B', 'best-' + name, feeder.text(method, iterations), room, fields, state)
+
+
+def operations(name, feeder, present, wanted, room, known):
+    """Of an operation: the id, and 00 open or 01 close."""
+    lines = ''.join('82%04X%02X\n' % operation for operation in known)
+    slice_case('O', 'operations-' + name, feeder.text(), room, '%04x' % len(known), lines, present=present, wanted=wanted)
+
+
+def state(name, feeder, bytes_, radial, loss):
+    case('S', 'state-' + name, feeder.text(), '%02x %016x' % (radial, bits(loss)), present=bytes_)
+
+
+def plan(name, present, wanted, room, known):
+    lines = ''.join('83%04X%04X\n' % pair for pair in known)
+    slice_case('P', 'plan-' + name, TRIANGLE.text(), room, '%04x' % len(known), lines, present=present, wanted=wanted)
+
+
+def best_states():
+    for name, room in [('no-slice', 0), ('one-byte', 1)]:
+        slice_case('B', 'best-triangle-' + name, TRIANGLE.text(), room, refused(13, 0), '')
+    for name, room in [('exactly-full', 2), ('one-byte-longer', 3), ('ten-bytes-longer', 12)]:
+        best('triangle-' + name, TRIANGLE, room, 1, 4.0, 1.0, 2, 1, '10')
+    best('exchange-0-rounds', TRIANGLE, 2, 1, 4.0, 4.0, 0, 0, '01', iterations=0)
+    best('exchange-1-round', TRIANGLE, 2, 1, 4.0, 1.0, 1, 0, '10', iterations=1)
+    best('exchange-2-rounds', TRIANGLE, 2, 1, 4.0, 1.0, 2, 0, '10', iterations=2)
+    best('exchange-3-rounds', TRIANGLE, 2, 1, 4.0, 1.0, 2, 1, '10', iterations=3)
+    best('exhaustive', TRIANGLE, 2, 1, 4.0, 4.0, 1, 1, '01', EXHAUSTIVE)
+    best('tabu-100-rounds', TRIANGLE, 2, 1, 4.0, 4.0, 100, 1, '01', TABU)
+    # exchanged it loses 0.25 x 2 x 2 + 0.1875 x 2 x 2, which is not below 1.75
+    best('branch-0-turned', TURNED, 2, 1, 1.75, 1.75, 1, 1, '01')
+    for method, iterations, on_radial, on_loop in [(EXCHANGE, 100, 1, 1), (TABU, 100, 100, 100), (EXHAUSTIVE, 100, 1, 0)]:
+        best('no-buses-method-%d' % method, NO_BUSES, 2 * method, 1, 0.0, 0.0, on_radial, 1, '', method, iterations)
+        best('one-bus-method-%d' % method, ONE_BUS, 0, 1, 0.0, 0.0, on_radial, 1, '', method, iterations)
+        best('two-buses-method-%d' % method, TWO_BUSES, 1, 1, 1.0, 1.0, on_radial, 1, '', method, iterations)
+        best('own-loop-method-%d' % method, OWN_LOOP, 0, 0, 4.5, 4.5, on_loop, 1, '', method, iterations)
+
+
+def moved_bytes():
+    """Bases that are not radial: exhaustive closes the tie though nothing was lost before, and tabu opens one of two parallel branches."""
+    best('tie-only-exchange', TIE_ONLY, 1, 0, 0.0, 0.0, 1, 1, '1')
+    best('tie-only-tabu', TIE_ONLY, 1, 0, 0.0, 0.0, 100, 1, '1', TABU)
+    best('tie-only-exhaustive', TIE_ONLY, 1, 1, 0.0, 1.0, 1, 1, '0', EXHAUSTIVE)
+    best('parallel-exchange', PARALLEL, 1, 0, 3.0, 3.0, 1, 1, '0')
+    best('parallel-tabu', PARALLEL, 2, 1, 3.0, 1.0, 2, 1, '1', TABU, 2)
+    best('parallel-exhaustive', PARALLEL, 1, 0, 3.0, 3.0, 0, 1, '0', EXHAUSTIVE)
+
+
+def listed_operations():
+    there, back = [(10, 0), (11, 1)], [(10, 1), (11, 0)]
+    operations('exactly-full', TRIANGLE, '01', '10', 18, there)
+    operations('one-byte-longer', TRIANGLE, '01', '10', 19, there)
+    operations('back', TRIANGLE, '10', '01', 18, back)
+    operations('both-open', TRIANGLE, '00', '11', 18, [(10, 0), (11, 0)])
+    operations('both-closed', TRIANGLE, '11', '00', 27, [(10, 1), (11, 1)])
+    operations('one', TRIANGLE, '01', '11', 9, [(10, 0)])
+    operations('equal-states-no-slice', TRIANGLE, '01', '01', 0, [])
+    operations('equal-states', TRIANGLE, '11', '11', 5, [])
+    operations('no-buses', NO_BUSES, '', '', 3, [])
+    operations('locked', Feeder([0.0, 2.0], [(1, 2, 0.25)], [(7, 0, 0)]), '0', '1', 9, [(7, 0)])
+    operations('switch-order', Feeder([0.0, 1.0, 2.0], SIDES, [(11, 2, 3), (10, 1, 2)]), '10', '01', 18, [(11, 1), (10, 0)])
+    for name, present, wanted, room in [('one-byte-short', '01', '10', 17), ('room-for-one', '01', '10', 9), ('no-slice', '01', '10', 0), ('one-of-8', '01', '11', 8)]:
+        slice_case('O', 'operations-' + name, TRIANGLE.text(), room, refused(13, 0), '', present=present, wanted=wanted)
+
+
+def refused_states():
+    for name, bytes_ in [('empty', ''), ('too-short', '0'), ('too-long', '010'), ('byte-02', '02'), ('byte-FF', 'F1')]:
+        for room in (0, 18):
+            slice_case('O', 'operations-present-%s-%d' % (name, room), TRIANGLE.text(), room, refused(10, 0), '', present=bytes_, wanted='10')
+            slice_case('O', 'operations-wanted-%s-%d' % (name, room), TRIANGLE.text(), room, refused(10, 1), '', present='01', wanted=bytes_)
+        slice_case('O', 'operations-both-' + name, TRIANGLE.text(), 18, refused(10, 0), '', present=bytes_, wanted=bytes_)
+        case('S', 'state-' + name, TRIANGLE.text(), refused(10, 0) + ' ' + refused(10, 0), present=bytes_)
+
+
+def network_refusals():
+    """Before 10 and 13: 1,001 iterations (I), an end of branch 1 that is not among two buses (U), 513 switches (W)."""
+    for change, fault in [('I', (3, 1)), ('U', (6, 5)), ('W', (4, 1))]:
+        for room in (0, 1, 2):
+            slice_case('B', 'best-change-%s-%d' % (change, room), TRIANGLE.text(), room, refused(*fault), '', change=change)
+        for states, present, wanted in [('good', '01', '10'), ('02', '02', '20')]:
+            slice_case('O', 'operations-change-%s-%s' % (change, states), TRIANGLE.text(), 18, refused(*fault), '', present=present, wanted=wanted, change=change)
+    slice_case('B', 'best-of-no-text', '0G\n', 2, refused(1, 1), '')
+    slice_case('O', 'operations-of-no-text', '0G\n', 18, refused(1, 1), '', present='01', wanted='10')
+    slice_case('P', 'plan-of-no-text', '0G\n', 11, refused(1, 1), '', present='01', wanted='10')
+    case('S', 'state-of-no-text', '0G\n', refused(1, 1) + ' ' + refused(1, 1), present='01')
+
+
+def states_and_plans():
+    state('no-buses', NO_BUSES, '', 1, 0.0)
+    state('one-bus', ONE_BUS, '', 1, 0.0)
+    state('own-loop', OWN_LOOP, '', 0, 4.5)
+    state('two-buses', TWO_BUSES, '', 1, 1.0)
+    state('two-parallel', PARALLEL, '0', 0, 3.0)
+    state('base', TRIANGLE, '01', 1, 4.0)
+    state('exchanged', TRIANGLE, '10', 1, 1.0)
+    state('all-closed', TRIANGLE, '00', 0, 5.6875)
+    state('branch-0-turned', TURNED, '01', 1, 1.75)
+    plan('exactly-full', '01', '10', 11, [(11, 10)])
+    plan('one-byte-longer', '01', '10', 12, [(11, 10)])
+    plan('equal-states', '01', '01', 0, [])
+    slice_case('P', 'plan-one-byte-short', TRIANGLE.text(), 10, refused(13, 0), '', present='01', wanted='10')
+    slice_case('P', 'plan-all-closed', TRIANGLE.text(), 11, refused(11, 0), '', present='00', wanted='10')
+
+
+def largest():
+    best('512-switches', LARGEST, 512, 0, 0.0, 0.0, 1, 1, '01' * 256)
+    slice_case('B', 'best-512-switches-one-byte-short', LARGEST.text(), 511, refused(13, 0), '')
+    operations('512', LARGEST, '0' * 512, '1' * 512, 4608, [(1000 - i, 0) for i in range(512)])
+    slice_case('O', 'operations-512-one-byte-short', LARGEST.text(), 4607, refused(13, 0), '', present='0' * 512, wanted='1' * 512)
+
+
+def main():
+    for make in (best_states, moved_bytes, listed_operations, refused_states, network_refusals, states_and_plans, largest):
+        make()
+    names = [name for name, _, _ in cases]
+    assert len(names) == len(set(names)), 'a name stands twice'
+    os.makedirs(ROOT, exist_ok=True)
+    with open(os.path.join(ROOT, 'stdin'), 'w') as out:
+        out.write(''.join(question for _, question, _ in cases))
+        assert out.tell() <= 262144, 'the program has no room for the cases'
+    with open(os.path.join(ROOT, 'stdout'), 'w') as out:
+        out.write(''.join('%s %s\n' % (name, printed) for name, _, printed in cases))
+    print('%d cases' % len(cases))
+
+
+main()
