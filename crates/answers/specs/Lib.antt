@@ -1,3 +1,5 @@
 pub mod Printing
 pub mod PrintingValues
 pub mod PrintingLaws
+pub mod Full
+pub mod Examples

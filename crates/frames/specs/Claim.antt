@@ -6,15 +6,21 @@ use mathlib.Core.List.{List}
 use Prim.Native.Nat.{ℕ}
 use lib.Dec.{lit≤}
 use lib.ListN.{take, drop}
+use mir.Val.{Val}
+use denote.Laws.{Is}
+use Rattle.network.proofs.topology.PowerNetwork.{the-row}
+use Rattle.network.specs.declared.topology.PowerNetwork.{PowerNetwork}
 use Rattle.network.specs.Answers.{accepted, _andThen_}
-use Rattle.network.specs.Records.{Network}
+use Rattle.network.specs.Records.{Network, recordsOf}
 use Rattle.network.specs.Check.{checkRecords}
 use Rattle.network.specs.Inside.{Each, Inside}
 use Rattle.network.specs.InsideLaws.{check-inside}
 use Rattle.frames.specs.Text.{cut, readText}
-use Rattle.frames.specs.Acceptable.{textOf, Writable, Acceptable}
+use Rattle.frames.specs.Acceptable.{textOf, Writable, Typed, Acceptable}
 use Rattle.frames.specs.Conditions.{conditions, judgeLines, verdictOf, LowestWins}
 use Rattle.frames.specs.ReadLaws.{read-written, accepted-written}
+use Rattle.frames.specs.HandedOver.{typed-writable}
+use Rattle.frames.specs.TypedValues.{value-typed}
 use Rattle.frames.specs.FirstFault.{first-fault}
 use Rattle.frames.specs.LowerNumber.{lowest-wins}
 use Rattle.frames.specs.Early.{read-early}
@@ -31,6 +37,9 @@ pub record Claim : Type 0 where
   pub checked : (N : Network) → (checkRecords N ≡ accepted tt) ↔ Inside N
   -- "Records handed over without text are checked as their lines would be": with the number and the place that their text would get
   pub alike : (N : Network) → Writable N → readText (textOf N) ≡ (checkRecords N andThen accepted N)
+  -- so are those of a value whose fields are u16 and f64; and every value of the code is one: `Is the-row n vs` says that the machine's values vs stand for n
+  pub handed-over : (n : PowerNetwork) → Typed n → readText (textOf (recordsOf n)) ≡ (checkRecords (recordsOf n) andThen accepted (recordsOf n))
+  pub every-value : (n : PowerNetwork) (vs : List Val) → Is the-row n vs → Typed n
   -- so records that came from a text are not refused afterwards
   pub passed : (t : List ℕ) (N : Network) → readText t ≡ accepted N → checkRecords N ≡ accepted tt
   -- a program that reads 32,768 bytes of a longer text gives the refusal that the whole text would get
@@ -52,6 +61,8 @@ claim = record {
   lower = lowest-wins;
   checked = check-inside;
   alike = read-written;
+  handed-over = λ n t. read-written (recordsOf n) (typed-writable n t);
+  every-value = value-typed;
   passed = λ t N e. accepted-written t N e .2;
   early = λ t. read-early 32768 t (lit≤ tt);
 }

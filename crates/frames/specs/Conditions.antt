@@ -15,7 +15,7 @@ use Rattle.frames.specs.Text.{Line, lineFaults, Frame, head, bus, branch
 abbrev pub missing : List Fault
 missing = (2 if true) ∷ []
 
--- of n lines of a kind, a list of conditions each
+-- Of n lines of a kind, a list of conditions each. Behind a missing line nothing counts any more, so there the lists of later kinds may stand at other places (`FirstFault.first-fault`)
 unfoldable pub kindConditions : {A : Type 0} → (F : Frame) → (Fields (F .widths) → A) → (List A → Fields (F .widths) → List Fault) → List A → ℕ → List Line → List (List Fault)
 kindConditions F make faults before zero ls = []
 kindConditions F make faults before (suc n) [] = missing ∷ []

@@ -15,7 +15,7 @@ use Rattle.frames.specs.Acceptable.{frameText, textOf}
 use Rattle.frames.specs.Conditions.{verdictOf}
 
 -- a line of w digits, written as one number, and its line feed
-abbrev row : ℕ → ℕ → List ℕ
+abbrev pub row : ℕ → ℕ → List ℕ
 row w n = digits w n ++ (10 ∷ [])
 
 digits-are-ascii : row 4 0x09AF ≡ 48 ∷ 57 ∷ 65 ∷ 70 ∷ 10 ∷ []
@@ -59,7 +59,7 @@ triangle = record {
       ∷ [];
 }
 
-triangle-read : readText triangleText ≡ accepted triangle
+pub triangle-read : readText triangleText ≡ accepted triangle
 unfolding readText readLines readOne readRun readEnd without judge _andThen_ follow pure cut put every lineFaults looks fieldsOf methodOf number value digit digits isDigit readFields headFaults busFaults branchFaults switchFaults okBase okLoad okR among ties ofBits le neg
 triangle-read = refl
 

@@ -8,6 +8,8 @@ pub mod HexLaws
 pub mod LineLaws
 pub mod RecordLaws
 pub mod ReadLaws
+pub mod HandedOver
+pub mod TypedValues
 pub mod FirstFault
 pub mod Early
 pub mod LowerNumber

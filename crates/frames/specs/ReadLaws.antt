@@ -234,7 +234,7 @@ joined-lines N =
     rw (joined-append b-lines (r-lines ++ s-lines), joined-append r-lines s-lines, joined-records busKind (N .buses), joined-records branchKind (N .branches), joined-records switchKind (N .switches))
     (sym (append-assoc (lineOf head (headKind .fields (check.headOf N)) .chars) (10 ∷ []) _))
 
-each-append : {A : Type 0} (P : A → Type 0) (xs ys : List A) → Each P xs → Each P ys → Each P (xs ++ ys)
+pub each-append : {A : Type 0} (P : A → Type 0) (xs ys : List A) → Each P xs → Each P ys → Each P (xs ++ ys)
 each-append P [] ys h k = k
 each-append P (x ∷ xs) ys h k = (h .0, each-append P xs ys (h .1) k)
 

@@ -25,7 +25,8 @@ unfoldable pub put : ℕ → List Line → List Line
 put c [] = record { chars = c ∷ []; ended = false } ∷ []
 put c (l ∷ ls) = record { chars = c ∷ l .chars; ended = l .ended } ∷ ls
 
--- a text's lines: a line feed (10) ends one; a last one without is not ended; nothing after the last line feed is no line
+-- a text's lines: a line feed (10) ends one; a last one without is not ended; nothing after the last line feed is no line.
+-- Joined they are the text again, and lines that are joined are cut into the same lines (`LineLaws.joined-cut`, `cut-joined`)
 unfoldable pub cut : List ℕ → List Line
 cut [] = []
 cut (c ∷ t) = cond (eqb c 10) (record { chars = []; ended = true } ∷ cut t) (put c (cut t))
@@ -75,7 +76,7 @@ unfoldable pub fieldsOf : (F : Frame) → Line → Fields (F .widths)
 fieldsOf F l = readFields (layout F) (l .chars) .1
 
 -- ---- the record that the fields make
--- "Methods: 00 exchange, 01 tabu, 02 exhaustive"
+-- "Methods: 00 exchange, 01 tabu, 02 exhaustive": for these three bytes the method of the byte (`RecordLaws.method-kept`). A greater byte is 3 (`headLineFaults`), and its method counts nowhere
 unfoldable pub methodOf : ℕ → ReconfigAlgorithm
 methodOf zero = BranchExchange
 methodOf (suc zero) = TabuSearch

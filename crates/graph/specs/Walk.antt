@@ -44,7 +44,7 @@ enterAll barred o (v ∷ vs) = enterAll barred (enter barred o v) vs
 unfoldable pub turn : (ℕ → List Visit) → ℕ → List Visit → ℕ → List Visit
 turn next barred o h = cond (ltb h (length o)) (enterAll barred o (next (getD o h (startAt 0) .bus))) o
 
--- the buses in the order in which they are reached, each with its branch: bus after bus takes its turn, 256 at most.
+-- the buses in the order in which they are reached, each with its branch: bus after bus takes its turn. 256 turns reach every bus that is joined with the start past the barred one (`WalkLaws.walk-reaches`).
 -- To bar nothing, bar the start: it is reached from the first
 unfoldable pub walkBy : (ℕ → List Visit) → ℕ → ℕ → List Visit
 walkBy next start barred = upTo (turn next barred) (startAt start ∷ []) 256
@@ -52,7 +52,7 @@ walkBy next start barred = upTo (turn next barred) (startAt start ∷ []) 256
 unfoldable pub walk : Net → (ℕ → Bool) → ℕ → ℕ → List Visit
 walk N E start barred = walkBy (neighbours N E) start barred
 
--- the branch by which a bus was reached
+-- the branch by which a bus was reached. The start, and a bus that was not reached, have the 0 of none: a path asks for neither (`WalkLaws.bfs-path`, `tree-bfs-path`)
 unfoldable pub byOf : ℕ → List Visit → ℕ
 byOf b [] = 0
 byOf b (v ∷ o) = cond (eqb b (v .bus)) (v .by) (byOf b o)

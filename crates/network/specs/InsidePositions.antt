@@ -16,7 +16,7 @@ use Rattle.network.specs.Inside.{Each, Distinct, Inside}
 use Rattle.network.specs.Positions.{each-at, index-own}
 
 -- where the default passes too, of any position
-each-anywhere : {A : Type 0} (P : A → Type 0) (l : List A) (d : A) → Each P l → P d → (i : ℕ) → P (getD l i d)
+pub each-anywhere : {A : Type 0} (P : A → Type 0) (l : List A) (d : A) → Each P l → P d → (i : ℕ) → P (getD l i d)
 each-anywhere P [] d h p i = p
 each-anywhere P (a ∷ l) d h p zero = h .0
 each-anywhere P (a ∷ l) d h p (suc i) = each-anywhere P l d (h .1) p i

@@ -2,6 +2,7 @@ pub mod UpTo
 pub mod Counts
 pub mod Choose
 pub mod Constants
+pub mod ConstantLaws
 pub mod Parts
 pub mod TableLaws
 pub mod Tests

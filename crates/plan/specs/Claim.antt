@@ -5,12 +5,12 @@ use mathlib.Core.Logic.{_↔_, _≢_}
 use mathlib.Core.Bool.{Bool, true, false, cond, _&&_}
 use mathlib.Core.List.{List, [], _∷_, _++_, map, List·Memᴰ}
 use mathlib.Core.Option.{Option, none, some}
-use Prim.Native.Nat.{ℕ, zero, suc, pred, _≤_}
+use Prim.Native.Nat.{ℕ, zero, suc, pred, _≤_, _<_}
 use lib.Dec.{eqb}
-use lib.ListN.{length, set, getElem?}
+use lib.ListN.{length, set, getD, getElem?}
 use Rattle.numbers.specs.UpTo.{table}
 use Rattle.numbers.specs.Choose.{indexOf}
-use Rattle.network.specs.Records.{Network}
+use Rattle.network.specs.Records.{Network, noBranch}
 use Rattle.network.specs.Answers.{accepted}
 use Rattle.network.specs.Faults.{switchId}
 use Rattle.network.specs.Live.{live}
@@ -75,6 +75,11 @@ after N present wanted xs = run N (plan N present wanted) xs (record { state = p
 abbrev pub SameLive : Network → State → State → Type 0
 SameLive N s t = (k : ℕ) → live N s k ≡ live N t k
 
+-- one byte 00 or 01 for each switch
+pub record GoodState (N : Network) (s : State) : Type 0 where
+  pub long : length s ≡ length (N .switches)
+  pub bytes : (i : ℕ) → i < length (N .switches) → byte s i ≤ 1
+
 -- from s to t branch e becomes live, branch f ceases to be, and every other stays as it is
 pub record Exchanged (N : Network) (s t : State) (e f : ℕ) : Type 0 where
   pub before : (live N s e ≡ false) × (live N s f ≡ true)
@@ -128,8 +133,9 @@ module _ (N : Network) (present wanted : State) where
   pub record SwitchingPlan : Type 0 where
     -- for any two lists, the live branches reached are equal exactly when equally many pairs stand done
     pub same : (xs ys : List Step) → SameLive N (reached xs) (reached ys) ↔ (done xs ≡ done ys)
-    -- after every list the state is radial
+    -- after every list the state is radial, and one byte 00 or 01 for each switch
     pub radial : (xs : List Step) → Tree (feeder N) (LiveIn N (reached xs))
+    pub good : (xs : List Step) → GoodState N (reached xs)
     -- a step carries out what it finds, and counts it
     pub moves : (xs : List Step) (x : Step) (q : Moves) → Carries xs x q
         → after N present wanted (xs ++ (x ∷ [])) ≡ record { state = carriedOut N q (reached xs); done = counted x (done xs) }
@@ -141,6 +147,9 @@ module _ (N : Network) (present wanted : State) where
     pub operable-only : (xs : List Step) (x : Step) (q : Moves) → Carries xs x q → (operable N (switchAt N (q .closes)) ≡ true) × (operable N (switchAt N (q .opens)) ≡ true)
     pub others-stay : (xs : List Step) (x : Step) (q : Moves) → Carries xs x q
         → (i : ℕ) → i ≢ switchAt N (q .closes) → i ≢ switchAt N (q .opens) → byte (carriedOut N q (reached xs)) i ≡ byte (reached xs) i
+    -- after every list a switch whose branch is live in both states or in neither has its present byte; so "Switches on out-of-service branches are left as found"
+    pub untouched : (xs : List Step) (i : ℕ) → live N present (branchOf N i) ≡ live N wanted (branchOf N i) → byte (reached xs) i ≡ byte present i
+    pub as-found : (xs : List Step) (i : ℕ) → getD (N .branches) (branchOf N i) noBranch .status ≡ false → byte (reached xs) i ≡ byte present i
     -- with all pairs done the live branches are the wanted ones, with none the present ones
     pub all-done : (xs : List Step) → done xs ≡ length (plan N present wanted) → SameLive N (reached xs) wanted
     pub none-done : (xs : List Step) → done xs ≡ 0 → SameLive N (reached xs) present

@@ -26,9 +26,9 @@ use Rattle.graph.specs.Walk.{far, neighbours, reached, enter, enterAll, turn, w
 use Rattle.graph.specs.Walk as Walk
 use Rattle.graph.specs.Radial.{radial}
 use Rattle.graph.specs.Feeder.{position, feeder, radialIn}
-use Rattle.plan.specs.Plan.{State, closings, pathBefore, opening, exchanged, pairsFrom, pairs, switchOn, plan, checkRadial, differing, lockedDifferences, checkLocked, checkPlan, planText, planned}
+use Rattle.plan.specs.Plan.{State, byte, closings, pathBefore, opening, exchanged, pairsFrom, pairs, switchOn, plan, checkRadial, differing, lockedDifferences, checkLocked, checkPlan, planText, planned}
 use Rattle.plan.specs.Proof.{demand3}
-use Rattle.plan.specs.Claim.{closed, carriedOut, forward, back, found, taken, run, after, SwitchingPlan}
+use Rattle.plan.specs.Claim.{closed, carriedOut, Step, forward, back, found, taken, run, after, SwitchingPlan}
 
 -- records with loads and resistances by their bits
 bus : ℕ → ℕ → Bus
@@ -98,6 +98,11 @@ triangle-steps = rw (computed .2)
 -- so the hypothesis of demand 3 can be met
 triangle-holds : SwitchingPlan triangle present wanted
 triangle-holds = demand3 triangle present wanted (computed .1)
+
+-- switch 24 stands as the present state has it after every list of steps, and not as the wanted one has it
+row-as-found : (xs : List Step) → byte (after row row-present row-wanted xs .state) 4 ≡ 1
+unfolding row row-present branch switch
+row-as-found xs = demand3 row row-present row-wanted (computed .3) .as-found xs 4 refl
 
 -- ---- the call
 -- the triangle with switch 10 locked

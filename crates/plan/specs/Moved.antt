@@ -139,10 +139,10 @@ module _ {N : Network} (regular : Regular N) {s : State} {E : ℕ → Bool} {q :
       was-closed = byte-closed N s f o (r .opening .on) (h .good .bytes o (r .opening .on .listed)) (h .flags f ∙ opened-live (r .fits) .1)
 
   -- what demand 3 says of a pair that is carried out
-  closed-on : branchOf N (switchAt N (m .closes)) ≡ e
+  pub closed-on : branchOf N (switchAt N (m .closes)) ≡ e
   closed-on = ap (branchOf N) (regular .resolved (r .closing .on)) ∙ r .closing .on .here
 
-  opened-on : branchOf N (switchAt N (m .opens)) ≡ f
+  pub opened-on : branchOf N (switchAt N (m .opens)) ≡ f
   opened-on = ap (branchOf N) (regular .resolved (r .opening .on)) ∙ r .opening .on .here
 
   pub pair-exchanges : Exchanged N s (carriedOut N m s) (branchOf N (switchAt N (m .closes))) (branchOf N (switchAt N (m .opens)))

@@ -37,7 +37,7 @@ pub record Pair : Type 0 where
   pub closed : ℕ
   pub opened : ℕ
 
--- "Take branches live in the wanted state only, by switch order"
+-- "Take branches live in the wanted state only, by switch order": each once, for a branch has one switch, and one without is live in both states or in neither (`Planner.pairs-lead`)
 unfoldable pub closings : Network → State → State → List ℕ
 closings N present wanted =
     map (branchOf N) (those (λ i. live N wanted (branchOf N i) && not (live N present (branchOf N i))) (length (N .switches)))
@@ -46,7 +46,7 @@ closings N present wanted =
 unfoldable pub pathBefore : Network → (ℕ → Bool) → ℕ → List ℕ
 pathBefore N E e = bfsPath (feeder N) E (feeder N .from e) (feeder N .to e)
 
--- "open the first branch there that the wanted state doesn't have live"
+-- "open the first branch there that the wanted state doesn't have live": between radial states there is one (`Planner.found`), so that no pair takes the 0
 unfoldable pub opening : Network → State → (ℕ → Bool) → ℕ → ℕ
 opening N wanted E e = firstOf (λ k. not (live N wanted k)) 0 (pathBefore N E e)
 

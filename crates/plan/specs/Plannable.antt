@@ -10,6 +10,7 @@ use Rattle.graph.specs.Graph.{Sound, Tree}
 use Rattle.graph.specs.Feeder.{feeder, LiveIn}
 use Rattle.plan.specs.Plan.{State, byte, branchOf, operable, switchOn}
 use Rattle.plan.specs.Claim.{switchAt}
+pub use Rattle.plan.specs.Claim.{GoodState}
 use Rattle.plan.specs.LiveLaws.{On}
 
 pub record Regular (N : Network) : Type 0 where
@@ -21,10 +22,6 @@ pub record Regular (N : Network) : Type 0 where
   pub alone : {k i j : ℕ} → On N k i → On N k j → i ≡ j
   -- the id of the switch on a branch leads back to it
   pub resolved : {k i : ℕ} → On N k i → switchAt N (switchOn N k) ≡ i
-
-pub record GoodState (N : Network) (s : State) : Type 0 where
-  pub long : length s ≡ length (N .switches)
-  pub bytes : (i : ℕ) → i < length (N .switches) → byte s i ≤ 1
 
 -- the differing switch of a branch that is live in one of the two states only is operable
 abbrev pub Free : Network → State → State → Type 0

@@ -1,24 +1,24 @@
 -- Demand 3 for every network and states that the planner accepts: each part from the state with the first `done` pairs carried out.
 use mathlib.Core.Path.{_≡_, refl, sym, ap, _∙_}
 use mathlib.Core.Logic.{_↔_}
-use mathlib.Core.Bool.{Bool}
+use mathlib.Core.Bool.{Bool, false}
 use mathlib.Core.List.{List, [], _∷_, _++_, map}
 use mathlib.Core.Option.{Option, none, some}
 use Prim.Native.Nat.{ℕ, zero, suc, _+_, _≤_, _<_}
 use native.Mathlib.Omega.{arith}
-use lib.ListN.{length, drop, getElem?, length-drop, length-map}
+use lib.ListN.{length, getD, drop, getElem?, length-drop, length-map}
 use lib.Seq.{drop-length}
-use Rattle.numbers.specs.Tests.{same-test}
-use Rattle.network.specs.Records.{Network}
+use Rattle.numbers.specs.Tests.{clash, not-so, same-test}
+use Rattle.network.specs.Records.{Network, noBranch}
 use Rattle.network.specs.Live.{live}
 use Rattle.graph.specs.Feeder.{feeder}
-use Rattle.plan.specs.Plan.{State, Pair, pairs, Moves, movesOf, plan}
+use Rattle.plan.specs.Plan.{State, byte, branchOf, Pair, pairs, Moves, movesOf, plan}
 use Rattle.plan.specs.Claim.{turnedIf, Step, back, found, Point, taken, run, after, SameLive, SwitchingPlan, Demand3}
-use Rattle.plan.specs.LiveLaws.{live-listed}
+use Rattle.plan.specs.LiveLaws.{live-so, live-listed}
 use Rattle.plan.specs.Plannable.{Regular, Plannable}
 use Rattle.plan.specs.Moved.{Shows, shows-tree, pair-exchanges, pair-on-loop, pair-operable, other-bytes}
 use Rattle.plan.specs.Missing.{missing, missing-same, missing-none, others-missing}
-use Rattle.plan.specs.Stages.{Leads, there, leads-tree, leads-missing, stage, Due, leads-at, At, run-at, found-due}
+use Rattle.plan.specs.Stages.{Leads, there, leads-tree, leads-missing, stage, stage-byte, Due, leads-at, At, run-at, found-due}
 use Rattle.plan.specs.Accepted.{accepted-plannable}
 use Rattle.plan.specs.Planner.{pairs-lead}
 
@@ -37,6 +37,10 @@ run-more N P (y ∷ xs) x p = run-more N P xs x _
 same-live : (N : Network) (s t : State) → ((k : ℕ) → k < feeder N .branches → live N s k ≡ live N t k) → SameLive N s t
 unfolding feeder
 same-live N s t h k = same-test _ _ (λ e. sym (h k (live-listed N s k e)) ∙ e) (λ e. h k (live-listed N t k e) ∙ e)
+
+-- a branch that is out of service is not live
+out-of-service : (N : Network) (s : State) (k : ℕ) → getD (N .branches) k noBranch .status ≡ false → live N s k ≡ false
+out-of-service N s k e = not-so _ (λ h. clash (live-so N s k h .0) e)
 
 module _ (N : Network) (present wanted : State) (given : Plannable N present wanted) where
   abbrev Q : List Pair
@@ -88,6 +92,9 @@ module _ (N : Network) (present wanted : State) (given : Plannable N present wan
       let (D, l, s) = reach xs in
       same-live N _ wanted (λ k b. s .flags k ∙ final (rw (e ∙ as-many, drop-length Q) at l) k b)
 
+  keeps : (xs : List Step) (i : ℕ) → live N present (branchOf N i) ≡ live N wanted (branchOf N i) → byte (after N present wanted xs .state) i ≡ byte present i
+  keeps xs i e = ap (λ s. byte s i) (at xs .here) ∙ stage-byte regular lead start (after N present wanted xs .done) i e
+
   back-finds : (d : ℕ) → d ≤ length P → (found P back d ≡ none) ↔ (d ≡ 0)
   unfolding found
   back-finds zero l = (λ e. refl, λ e. refl)
@@ -108,11 +115,14 @@ module _ (N : Network) (present wanted : State) (given : Plannable N present wan
       λ e k. ap (λ s. live N s k) (same-state xs ys e),
     );
     radial = λ xs. let (D, l, s) = reach xs in shows-tree s (leads-tree l);
+    good = λ xs. let (D, l, s) = reach xs in s .good;
     moves = λ xs x m e. unfold after in run-more N P xs x _ ∙ unfold taken in ap (taken N x (after N present wanted xs)) e;
     exchanges = λ xs x m e. let d = due xs x m e in rw (d .moves) (pair-exchanges regular (d .shows) (d .ready));
     on-loop = λ xs x m e. let d = due xs x m e in rw (d .moves) (pair-on-loop regular (d .shows) (d .ready));
     operable-only = λ xs x m e. let d = due xs x m e in rw (d .moves) (pair-operable regular (d .shows) (d .ready));
     others-stay = λ xs x m e. other-bytes N m (after N present wanted xs .state);
+    untouched = keeps;
+    as-found = λ xs i o. keeps xs i (out-of-service N present (branchOf N i) o ∙ sym (out-of-service N wanted (branchOf N i) o));
     all-done = arrives;
     none-done = λ xs e k. unfold after run in ap (λ s. live N s k) (same-state xs [] e);
     at-most-all = low;

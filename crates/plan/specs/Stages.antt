@@ -1,20 +1,22 @@
 -- The plan pair by pair: the state after any list of steps is the state with the first `done` pairs carried out, and in each such
 -- state the pair that a step finds can be carried out. One induction, over any list of pairs that leads to the wanted branches.
 use mathlib.Core.Path.{_≡_, refl, sym, ap, _∙_}
+use mathlib.Core.Logic.{_≢_}
 use mathlib.Core.Bool.{Bool, true, false}
 use mathlib.Core.List.{List, [], _∷_, map}
 use mathlib.Core.Option.{Option, none, some}
 use Prim.Native.Nat.{ℕ, zero, suc, _≤_, _<_}
 use native.Mathlib.Omega.{arith}
 use lib.ListN.{length, drop, getElem?}
+use Rattle.numbers.specs.Tests.{clash}
 use Rattle.network.specs.Records.{Network}
 use Rattle.graph.specs.Graph.{Live, Tree}
 use Rattle.graph.specs.Feeder.{feeder}
-use Rattle.plan.specs.Plan.{State, Pair, exchanged, Moves, movesOf}
+use Rattle.plan.specs.Plan.{State, byte, branchOf, Pair, exchanged, Moves, movesOf}
 use Rattle.plan.specs.Claim.{carriedOut, turned, turnedIf, Step, forward, back, found, Point, taken, run}
 use Rattle.plan.specs.Plannable.{Regular}
-use Rattle.plan.specs.Exchanges.{turnedPair}
-use Rattle.plan.specs.Moved.{Shows, Ready, end-shows, ready-back, undone}
+use Rattle.plan.specs.Exchanges.{turnedPair, opened-live, exchanged-other}
+use Rattle.plan.specs.Moved.{Shows, Ready, end-shows, ready-back, undone, closed-on, opened-on, other-bytes}
 use Rattle.plan.specs.Missing.{missing, missing-none, missing-less}
 
 -- the pairs lead from the flagged branches to the wanted ones: each closes a wanted branch and opens one that is not
@@ -64,6 +66,22 @@ module _ {N : Network} (regular : Regular N) where
       let t = due-at l (end-shows regular h r) n m g in
       let b : n < length Q = t .0 in
       (omega arith, t .1, t .2)
+
+  -- a switch on a branch that is flagged as the wanted state has it is moved by none of the pairs
+  pub stage-byte : {W E : ℕ → Bool} {Q : List Pair} {s : State} → Leads N W E Q → Shows N s E → (n i : ℕ) → E (branchOf N i) ≡ W (branchOf N i)
+      → byte (stage N s (map (movesOf N) Q) n) i ≡ byte s i
+  unfolding stage
+  stage-byte l h zero i e = refl
+  stage-byte (there t w) h (suc n) i e = refl
+  stage-byte {W = W} {s = s} (next {E = E} {q = q} r w u l) h (suc n) i e =
+      stage-byte l (end-shows regular h r) n i (exchanged-other E q (branchOf N i) not-closed not-opened ∙ e)
+      ∙ other-bytes N (movesOf N q) s i (λ p. not-closed (ap (branchOf N) p ∙ closed-on regular h r)) (λ p. not-opened (ap (branchOf N) p ∙ opened-on regular h r))
+    where
+      not-closed : branchOf N i ≢ q .closed
+      not-closed p = clash w (sym (ap W p) ∙ sym e ∙ ap E p ∙ r .fits .dead)
+
+      not-opened : branchOf N i ≢ q .opened
+      not-opened p = clash (opened-live (r .fits) .1) (sym (ap E p) ∙ e ∙ ap W p ∙ u)
 
 -- the point at which the first `done` pairs are carried out
 pub record At (N : Network) (s : State) (Q : List Pair) (p : Point) : Type 0 where

@@ -1,12 +1,14 @@
 -- A call that is lent a slice, case by case: refused by its tests, without room, or done.
-use mathlib.Core.Path.{_≡_}
-use mathlib.Core.List.{List}
+use mathlib.Core.Path.{_≡_, refl}
+use mathlib.Core.Bool.{Bool, true, false, cond}
+use mathlib.Core.List.{List, [], _∷_}
 use Prim.Native.Nat.{ℕ, _≤_, _<_}
+use lib.Dec.{ltb}
 use lib.ListN.{length}
 use borrow.Author.Tests.{lt-ltb, le-ltb}
-use Rattle.network.specs.Answers.{Answer, accepted, refused, _andThen_, judge}
+use Rattle.network.specs.Answers.{Answer, accepted, refused, _andThen_, _if_, judge}
 use Rattle.printing.specs.Printed.{written}
-use Rattle.printing.specs.Calls.{checkRoom, Call, called}
+use Rattle.printing.specs.Calls.{checkRoom, Call, answered, called}
 
 module _ {A : Type 0} {tests : Answer (Unit {0})} (answer : A) (bytes out : List ℕ) where
   pub call-refused : {number place : ℕ} → tests ≡ refused number place
@@ -23,3 +25,12 @@ module _ {A : Type 0} {tests : Answer (Unit {0})} (answer : A) (bytes out : List
       → {after : List ℕ} → after ≡ written bytes out → record { answer = accepted answer; out = after } ≡ called tests answer bytes out
   unfolding called _andThen_ checkRoom judge
   call-done e {needed} n h w = rw (e, n, le-ltb (length out) needed h, w)
+
+  -- with its tests passed: refused by 13 where the slice is too short, else done
+  pub call-passed : tests ≡ accepted tt → called tests answer bytes out ≡ cond (ltb (length out) (length bytes)) (record { answer = refused 13 0; out = out }) (record { answer = accepted answer; out = written bytes out })
+  unfolding called _andThen_ checkRoom
+  call-passed e = rw e (go (ltb (length out) (length bytes)))
+    where
+      go : (short : Bool) → answered (judge ((13 if short) ∷ []) 0) answer bytes out ≡ cond short (record { answer = refused 13 0; out = out }) (record { answer = accepted answer; out = written bytes out })
+      go true = unfold judge in refl
+      go false = unfold judge in refl

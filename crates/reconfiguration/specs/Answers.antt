@@ -1,20 +1,28 @@
 -- Document 01: "Planned from a radial base to a search's answer, only refusal 13 can come". The exchange and the tabu search move operable switches only. The
 -- exhaustive search may close locked ties, but from a radial base a radial state with only ties closed has the base's live branches.
 use mathlib.Core.Path.{_≡_}
-use mathlib.Core.Bool.{true}
+use mathlib.Core.Bool.{true, cond}
+use mathlib.Core.List.{List}
+use Prim.Native.Nat.{ℕ}
+use lib.Dec.{ltb}
+use lib.ListN.{length}
 use Rattle.network.specs.Records.{Network}
 use Rattle.network.specs.declared.switch.ReconfigAlgorithm.{ReconfigAlgorithm}
 use Rattle.network.specs.declared.switch.ReconfigAlgorithm.the-variants.{BranchExchange, TabuSearch, Exhaustive}
-use Rattle.network.specs.Answers.{accepted}
+use Rattle.network.specs.Answers.{accepted, refused}
 use Rattle.network.specs.Check.{checkRecords}
 use Rattle.network.specs.Inside.{Inside}
 use Rattle.network.specs.InsideLaws.{check-inside}
 use Rattle.network.specs.Live.{baseState}
+use Rattle.printing.specs.Printed.{written}
+use Rattle.printing.specs.CallLaws.{call-passed}
 use Rattle.graph.specs.Feeder.{radialIn}
 use Rattle.losses.specs.Loss.{lossIn}
-use Rattle.plan.specs.Plan.{branchOf, checkPlan}
+use Rattle.plan.specs.Plan.{branchOf, plan, checkPlan, planText, planned}
+use Rattle.plan.specs.Claim.{SwitchingPlan}
 use Rattle.plan.specs.Plannable.{GoodState, Free}
 use Rattle.plan.specs.Accepted.{plan-accepted}
+use Rattle.plan.specs.Proof.{demand3}
 use Rattle.reconfiguration.specs.Exchange.{exchange}
 use Rattle.reconfiguration.specs.Tabu.{tabu}
 use Rattle.reconfiguration.specs.Solve.{bestBy, best}
@@ -77,3 +85,15 @@ module _ (N : Network) where
 -- planned for a search's answer from a radial base, no refusal comes before 13
 pub answers-have-plans : (N : Network) → checkRecords N ≡ accepted tt → radialIn N (baseState N) ≡ true → checkPlan N (baseState N) (best N .state) ≡ accepted tt
 answers-have-plans N a r = plan-accepted N (baseState N) (best N .state) .1 (a, base-good N, best-good N, r, best-radial N r, best-free N r (check-inside N .0 a))
+
+-- so a search's answer from a radial base has a plan, and all of demand 3 holds of it
+pub search-has-plan : (N : Network) → checkRecords N ≡ accepted tt → radialIn N (baseState N) ≡ true → SwitchingPlan N (baseState N) (best N .state)
+search-has-plan N a r = demand3 N (baseState N) (best N .state) (answers-have-plans N a r)
+
+-- the planner's call for it: 13 where the lent slice is shorter than the plan's lines, else the plan
+pub only-13 : (N : Network) → checkRecords N ≡ accepted tt → radialIn N (baseState N) ≡ true → (out : List ℕ)
+    → let moves = plan N (baseState N) (best N .state) in
+    planned N (baseState N) (best N .state) out
+    ≡ cond (ltb (length out) (length (planText moves))) (record { answer = refused 13 0; out = out }) (record { answer = accepted (length moves); out = written (planText moves) out })
+unfolding planned
+only-13 N a r out = let moves = plan N (baseState N) (best N .state) in call-passed (length moves) (planText moves) out (answers-have-plans N a r)

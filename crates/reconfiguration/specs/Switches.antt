@@ -13,7 +13,7 @@ size N = length (N .switches)
 abbrev pub switch : Network → ℕ → Switch
 switch N i = getD (N .switches) i noSwitch
 
--- document 01's tie: a switch that is normally open
+-- document 01's tie: a switch that is normally open. A section is any other switch (`not isTie`)
 abbrev pub isTie : Network → ℕ → Bool
 isTie N i = switch N i .«normally_open»
 

@@ -1,0 +1,50 @@
+-- Document 01's worked example: what is printed for the triangle's text. And the reduction where the best loss is above the base's, and of a base loss that is not above 1e-12.
+use mathlib.Core.Bool.{true}
+use mathlib.Core.List.{List, [], _∷_, _++_, flatMap}
+use mathlib.Core.Path.{_≡_, refl}
+use lib.Ieee.{binary64, ofBits, toBits, le, lt, neg, add, sub, mul, div}
+use Rattle.numbers.specs.Constants.{zero64, trillionth}
+use Rattle.numbers.specs.UpTo.{upTo, table}
+use Rattle.numbers.specs.Counts.{count}
+use Rattle.numbers.specs.Choose.{those, least, firstSome, firstOf, indexOf, _orElse_}
+use Rattle.network.specs.Live.{live, openOn, baseState}
+use Rattle.frames.specs.Hex.{digit, digits, writeFields}
+use Rattle.frames.specs.Acceptable.{frameText}
+use Rattle.frames.specs.Claim.{claim}
+use Rattle.frames.specs.Examples.{row, triangleText, triangle, triangle-read}
+use Rattle.printing.specs.Printed.{answerText, operationText, pairText}
+use Rattle.graph.specs.Walk.{far, neighbours, reached, enter, enterAll, turn, walkBy, walk, byOf, across, back, bfsPath}
+use Rattle.graph.specs.Radial.{radial}
+use Rattle.graph.specs.Feeder.{feeder, position, radialIn}
+use Rattle.losses.specs.Loss.{walkLoad, downstream, termOf, totalOf, loss, lossIn}
+use Rattle.plan.specs.Plan.{closings, pathBefore, opening, exchanged, pairsFrom, pairs, switchOn, plan, planText}
+use Rattle.plan.specs.Claim.{SwitchingPlan}
+use Rattle.reconfiguration.specs.Switches.{swapped}
+use Rattle.reconfiguration.specs.Exchange.{loopOf, sectionOf, swapWith, trial, improves, kept, roundOf, afterRound, exchangeRounds, exchange}
+use Rattle.reconfiguration.specs.Solve.{bestBy, best, reduction, reductionOf, result}
+use Rattle.reconfiguration.specs.Answers.{search-has-plan}
+use Rattle.reconfiguration.specs.Operations.{operationOf, operations, operationsText}
+use Rattle.answers.specs.Printing.{resultText, operationLines, planLines, moveLines, networkText, printed}
+
+triangle-printed : printed triangleText
+    ≡ row 58 0x810140100000000000003FF00000000000004052C00000000000000201
+    ++ (row 8 0x82000A00
+    ++ (row 8 0x82000B01
+    ++ row 10 0x83000B000A))
+unfolding printed networkText moveLines planLines operationLines resultText result reductionOf reduction best bestBy exchange exchangeRounds afterRound roundOf kept improves trial swapWith sectionOf loopOf swapped operations operationOf operationsText plan planText pairs pairsFrom closings pathBefore opening exchanged switchOn lossIn loss totalOf termOf downstream walkLoad radialIn feeder position radial bfsPath back across byOf walk walkBy turn enterAll enter reached neighbours far baseState live openOn those least firstSome firstOf indexOf _orElse_ count upTo table answerText operationText pairText frameText writeFields digits digit flatMap ofBits toBits add sub mul div lt le neg
+triangle-printed = rw triangle-read
+
+-- so the hypotheses of `search-has-plan` can be met
+triangle-radial : radialIn triangle (baseState triangle) ≡ true
+unfolding radialIn feeder position radial walk walkBy turn enterAll enter reached neighbours far baseState live openOn indexOf count upTo
+triangle-radial = refl
+
+triangle-has-plan : SwitchingPlan triangle (baseState triangle) (best triangle .state)
+triangle-has-plan = search-has-plan triangle (claim .passed triangleText triangle triangle-read) triangle-radial
+
+-- 1 to 2 is a reduction of -100 percent; of 1e-12 there is none
+reductions :
+    (reduction (ofBits binary64 0x3ff0_0000_0000_0000) (ofBits binary64 0x4000_0000_0000_0000) ≡ ofBits binary64 0xc059_0000_0000_0000)
+    × (reduction trillionth zero64 ≡ zero64)
+unfolding reduction ofBits sub mul div lt
+reductions = (refl, refl)

@@ -1,0 +1,100 @@
+-- Demand 1's first sentence, call by call: with records inside the limits, states of one byte 00 or 01 for each switch and room in the lent slice, nothing is refused, and the
+-- answer is the full one: the value, and the bytes at the front of the slice, which keeps its tail. What a text says is `frames.specs.Claim.accepted-texts`.
+use mathlib.Core.Path.{_≡_, refl, sym, ap, _∙_}
+use mathlib.Core.List.{List, _++_}
+use Prim.Native.Nat.{ℕ, _*_, _≤_}
+use native.Mathlib.Omega.{arith}
+use lib.ListN.{length, drop}
+use borrow.Author.Tests.{le-leb}
+use Rattle.network.specs.Records.{Network}
+use Rattle.network.specs.Answers.{Answer, accepted, _andThen_}
+use Rattle.network.specs.AnswerLaws.{then-iff}
+use Rattle.network.specs.Check.{checkRecords}
+use Rattle.network.specs.Inside.{Inside}
+use Rattle.network.specs.InsideLaws.{check-inside}
+use Rattle.network.specs.Live.{checkState}
+use Rattle.frames.specs.Acceptable.{Acceptable}
+use Rattle.frames.specs.Claim.{claim}
+use Rattle.printing.specs.Printed.{written}
+use Rattle.printing.specs.Calls.{called}
+use Rattle.printing.specs.CallLaws.{call-done}
+use Rattle.graph.specs.Graph.{Tree}
+use Rattle.graph.specs.Feeder.{feeder, LiveIn, radialIn}
+use Rattle.graph.specs.FeederLaws.{radial-in-tree}
+use Rattle.losses.specs.Loss.{lossIn}
+use Rattle.plan.specs.Plan.{State, plan, planText, planned}
+use Rattle.plan.specs.Claim.{GoodState}
+use Rattle.plan.specs.Plannable.{Free}
+use Rattle.plan.specs.Accepted.{state-accepted, plan-accepted}
+use Rattle.plan.specs.Length as PlanLength
+use Rattle.reconfiguration.specs.Solve.{best, result, solved}
+use Rattle.reconfiguration.specs.Answers.{best-good}
+use Rattle.reconfiguration.specs.Operations.{operations, operationsText, listed}
+use Rattle.reconfiguration.specs.OperationLines as Operations
+use Rattle.answers.specs.Printing.{networkText, printedOf, printed, answeredText}
+use Rattle.answers.specs.PrintingLaws.{printed-short}
+
+-- a call whose tests are passed, lent room for its bytes
+in-full : {A : Type 0} {tests : Answer (Unit {0})} (answer : A) (bytes out : List ℕ) → tests ≡ accepted tt → length bytes ≤ length out
+    → called tests answer bytes out ≡ record { answer = accepted answer; out = bytes ++ drop (length bytes) out }
+unfolding written
+in-full answer bytes out passed room = sym (call-done answer bytes out passed refl room (rw (le-leb (length bytes) (length out) room)))
+
+module _ (N : Network) (inside : Inside N) where
+  checked : checkRecords N ≡ accepted tt
+  checked = check-inside N .1 inside
+
+  answered : {A : Type 0} (s : State) → GoodState N s → (a : A) → (checkRecords N andThen checkState N s 0 andThen accepted a) ≡ accepted a
+  unfolding _andThen_
+  answered s good a = rw (checked, state-accepted N s 0 .1 good)
+
+  -- `verify_radiality`, of any state
+  pub radiality-in-full : (s : State) → GoodState N s → (checkRecords N andThen checkState N s 0 andThen accepted (radialIn N s)) ≡ accepted (radialIn N s)
+  radiality-in-full s good = answered s good (radialIn N s)
+
+  -- `evaluate_config`, of any state, radial or not
+  pub loss-in-full : (s : State) → GoodState N s → (checkRecords N andThen checkState N s 0 andThen accepted (lossIn N s)) ≡ accepted (lossIn N s)
+  loss-in-full s good = answered s good (lossIn N s)
+
+  -- `solve`: a byte for each switch
+  pub solved-in-full : (out : List ℕ) → length (N .switches) ≤ length out
+      → solved N out ≡ record { answer = accepted (result N); out = best N .state ++ drop (length (N .switches)) out }
+  unfolding solved
+  solved-in-full out room =
+      let long : length (best N .state) ≡ length (N .switches) = best-good N .long in
+      in-full (result N) (best N .state) out checked (rw long room) ∙ rw long
+
+  -- `compute_switch_operations`: 9 bytes for each operation
+  pub listed-in-full : (from to : State) → GoodState N from → GoodState N to → (out : List ℕ)
+      → let l = operations N from to in
+      9 * length l ≤ length out → listed N from to out ≡ record { answer = accepted (length l); out = operationsText l ++ drop (9 * length l) out }
+  unfolding listed
+  listed-in-full from to f t out room =
+      let l = operations N from to in
+      let passed = then-iff (checkRecords N) _ .1 (checked, then-iff (checkState N from 0) (checkState N to 1) .1 (state-accepted N from 0 .1 f, state-accepted N to 1 .1 t)) in
+      in-full (length l) (operationsText l) out passed (rw (Operations.length-text l) room) ∙ rw (Operations.length-text l)
+
+  -- `plan`, between radial states whose switches that must move are operable: 11 bytes for each pair
+  pub planned-in-full : (present wanted : State) → GoodState N present → GoodState N wanted → Tree (feeder N) (LiveIn N present) → Tree (feeder N) (LiveIn N wanted)
+      → Free N present wanted → (out : List ℕ)
+      → let moves = plan N present wanted in
+      11 * length moves ≤ length out → planned N present wanted out ≡ record { answer = accepted (length moves); out = planText moves ++ drop (11 * length moves) out }
+  unfolding planned
+  planned-in-full present wanted p w r v free out room =
+      let moves = plan N present wanted in
+      let passed = plan-accepted N present wanted .1 (checked, p, w, radial-in-tree N checked present .1 r, radial-in-tree N checked wanted .1 v, free) in
+      in-full (length moves) (planText moves) out passed (rw (PlanLength.length-text moves) room) ∙ rw (PlanLength.length-text moves)
+
+-- `answer_text`: the lines of the text's records
+pub printed-in-full : (text : List ℕ) (N : Network) → Acceptable text N → (out : List ℕ) → length (networkText N) ≤ length out
+    → answeredText text out ≡ record { answer = accepted (length (networkText N)); out = networkText N ++ drop (length (networkText N)) out }
+unfolding answeredText
+printed-in-full text N a out room =
+    let so : printed text ≡ networkText N = unfold printed in ap printedOf (claim .accepted-texts text N .1 a) in
+    rw so (in-full (length (networkText N)) (networkText N) out refl room)
+
+-- and 7,472 bytes are room for every text, a refused one too
+pub always-printed : (text out : List ℕ) → 7472 ≤ length out
+    → answeredText text out ≡ record { answer = accepted (length (printed text)); out = printed text ++ drop (length (printed text)) out }
+unfolding answeredText
+always-printed text out room = in-full (length (printed text)) (printed text) out refl (omega (arith, printed-short text))

@@ -1,0 +1,61 @@
+-- Records handed over: what a value's fields say of the records that it lists, with nothing beyond its arrays, and that the value which holds records read from a text has such fields.
+use mathlib.Core.List.{List, [], _∷_}
+use Prim.Native.Nat.{ℕ, zero, suc, _-_}
+use lib.Dec.{lit<}
+use lib.Ieee.{ofBits, fits}
+use lib.ListN.{length, getD, replicate}
+use Rattle.numbers.specs.UpTo.{table}
+use Rattle.numbers.specs.TableLaws.{length-table}
+use Rattle.network.specs.declared.topology.PowerNetwork.{PowerNetwork}
+use Rattle.network.specs.Records.{Network, noBus, noBranch, noSwitch, recordsOf, padded, networkOf}
+use Rattle.network.specs.Check.{headOf}
+use Rattle.network.specs.Inside.{Each}
+use Rattle.network.specs.InsidePositions.{each-anywhere}
+use Rattle.frames.specs.Acceptable.{BusRoom, BranchRoom, SwitchRoom, Writable, Typed}
+use Rattle.frames.specs.ReadLaws.{each-append}
+
+-- where nothing is listed stand zeros
+no-bus-room : BusRoom noBus
+unfolding ofBits fits
+no-bus-room = (lit< tt, tt)
+
+no-branch-room : BranchRoom noBranch
+unfolding ofBits fits
+no-branch-room = (lit< tt, lit< tt, tt)
+
+no-switch-room : SwitchRoom noSwitch
+no-switch-room = (lit< tt, lit< tt)
+
+module _ {A : Type 0} (P : A → Type 0) (none : A) (p : P none) where
+  each-listed : (l : List A) → Each P l → (n : ℕ) → Each P (table (λ i. getD l i none) n)
+  unfolding table
+  each-listed l h zero = tt
+  each-listed l h (suc n) = each-append P (table (λ i. getD l i none) n) (getD l n none ∷ []) (each-listed l h n) (each-anywhere P l none h p n, tt)
+
+  each-none : (n : ℕ) → Each P (replicate n none)
+  each-none zero = tt
+  each-none (suc n) = (p, each-none n)
+
+  each-padded : (size : ℕ) (l : List A) → Each P l → Each P (padded size none l)
+  unfolding padded
+  each-padded size l h = each-append P l (replicate (size - length l) none) h (each-none (size - length l))
+
+pub typed-writable : (n : PowerNetwork) → Typed n → Writable (recordsOf n)
+unfolding recordsOf headOf
+typed-writable n t = record {
+  head-room = (rw length-table (t .counts .0), rw length-table (t .counts .1), rw length-table (t .counts .2), t .base, t .iterations);
+  bus-room = each-listed BusRoom noBus no-bus-room (n .buses) (t .buses) (n .«bus_count»);
+  branch-room = each-listed BranchRoom noBranch no-branch-room (n .branches) (t .branches) (n .«branch_count»);
+  switch-room = each-listed SwitchRoom noSwitch no-switch-room (n .switches) (t .switches) (n .«switch_count»);
+}
+
+pub writable-typed : (N : Network) → Writable N → Typed (networkOf N)
+unfolding networkOf headOf
+writable-typed N w = record {
+  counts = (w .head-room .0, w .head-room .1, w .head-room .2);
+  base = w .head-room .3;
+  iterations = w .head-room .4;
+  buses = each-padded BusRoom noBus no-bus-room 256 (N .buses) (w .bus-room);
+  branches = each-padded BranchRoom noBranch no-branch-room 512 (N .branches) (w .branch-room);
+  switches = each-padded SwitchRoom noSwitch no-switch-room 512 (N .switches) (w .switch-room);
+}
