@@ -1,12 +1,10 @@
 -- What the calls below answer for a checked network with its base and its best state, and how their bytes stand one behind the other.
 use mathlib.Core.Path.{_≡_, refl, sym, ap, _∙_}
-use mathlib.Core.Bool.{Bool, true, false, cond, not}
-use mathlib.Core.List.{List, [], _∷_, _++_}
+use mathlib.Core.Bool.{Bool, true, false, cond}
+use mathlib.Core.List.{List, [], _++_}
 use Prim.Native.Nat.{ℕ, _+_, _-_, _*_, _≤_, _<_}
 use native.Mathlib.Omega.{arith}
 use native.Mathlib.Nat.{zero-add}
-use lib.Dec.{T}
-use lib.Ieee.{Float, isNan}
 use lib.ListN.{length, take, drop, length-append, length-drop}
 use lib.Seq.{sets, length-sets, take-append-seam}
 use borrow.Author.Tests.{le-leb}
@@ -16,15 +14,16 @@ use Rattle.network.specs.declared.error.Verdict.the-variants.{Accepted, Refused
 use Rattle.network.specs.declared.configuration.NetworkConfiguration.{NetworkConfiguration}
 use Rattle.network.specs.declared.topology.PowerNetwork.{PowerNetwork}
 use Rattle.network.specs.Configuration.{configurationOf}
-use Rattle.network.specs.Records.{Network, recordsOf, networkOf}
-use Rattle.network.specs.RecordLaws.{records-of-network}
-use Rattle.network.specs.Answers.{Answer, accepted, refused, answerOf, _andThen_, judge}
-use Rattle.network.specs.AnswerLaws.{then-iff, no-refusal}
+use Rattle.network.specs.Records.{Network, recordsOf}
+use Rattle.network.specs.Answers.{Answer, accepted, refused, _andThen_, judge}
+use Rattle.network.specs.AnswerLaws.{same-value, then-iff, no-refusal}
 use Rattle.network.specs.Check.{checkRecords}
 use Rattle.network.specs.Live.{baseState, checkState}
+use Rattle.network.specs.Listed.{state-accepted, switches-listed, few-switches}
 use Rattle.frames.specs.declared.reader.Reading.{Reading}
 use Rattle.frames.specs.Text.{readText}
 use Rattle.frames.specs.Reading.{readingOf}
+use Rattle.frames.specs.ReadingLaws.{read-accepted, read-refused}
 use Rattle.printing.specs.Printed.{written, refusalText}
 use Rattle.printing.specs.WrittenLaws.{written-sets, sets-append, sets-part}
 use Rattle.printing.specs.Calls.{Call, called}
@@ -33,23 +32,21 @@ use Rattle.graph.specs.Feeder.{radialIn}
 use Rattle.plan.specs.declared.planner.PlanAnswer.{PlanAnswer}
 use Rattle.plan.specs.declared.planner.PlanAnswer.the-variants as plans
 use Rattle.plan.specs.Plan.{plan, planText, planned, planAnswerOf, checkRadial, checkPlan}
-use Rattle.plan.specs.Accepted.{state-accepted}
 use Rattle.plan.specs.Length as PlanLength
 use Rattle.reconfiguration.specs.declared.operations.OperationsAnswer.{OperationsAnswer}
 use Rattle.reconfiguration.specs.declared.operations.OperationsAnswer.the-variants as lists
 use Rattle.reconfiguration.specs.declared.solve.ReconfigResult.{ReconfigResult}
-use Rattle.reconfiguration.specs.declared.solve.SolveAnswer.{SolveAnswer}
 use Rattle.reconfiguration.specs.declared.solve.SolveAnswer.the-variants as solves
 use Rattle.reconfiguration.specs.FromBase.{base-good}
 use Rattle.reconfiguration.specs.Answers.{best-good, answers-have-plans}
 use Rattle.reconfiguration.specs.States.{stateOf}
-use Rattle.reconfiguration.specs.StateLaws.{switches-listed, few-switches, state-held}
+use Rattle.reconfiguration.specs.StateLaws.{state-held}
 use Rattle.reconfiguration.specs.Solve.{Result, result, best, solved, resultOf, solveAnswerOf}
 use Rattle.reconfiguration.specs.Operations.{operations, operationsText, listed, operationsAnswerOf}
 use Rattle.reconfiguration.specs.OperationLines as Operations
 use Rattle.answers.specs.Printing.{resultText, operationLines, planLines, moveLines, networkText, printedOf, printed, answeredText}
-use Rattle.answers.specs.PrintingValues.{Searched, HasBits}
-use Rattle.answers.specs.PrintingLaws.{accepted-same, length-result, operations-short, plan-short, printed-short, base-bits, best-bits, reduction-bits}
+use Rattle.answers.specs.PrintingValues.{HasBits}
+use Rattle.answers.specs.PrintingLaws.{length-result, operations-short, plan-short, printed-short, base-bits, best-bits, reduction-bits}
 
 -- ---- accepted calls
 call-is : {A : Type 0} {tests : Answer (Unit {0})} (answer : A) (bytes out : List ℕ) {c : Call A} → tests ≡ accepted tt → length bytes ≤ length out
@@ -86,7 +83,7 @@ module _ (n : PowerNetwork) (ok : checkRecords (recordsOf n) ≡ accepted tt) (o
       (go a (ap (λ (x : Call ℕ). x .answer) c), ap (λ (x : Call ℕ). x .out) c)
     where
       go : (b : OperationsAnswer) → operationsAnswerOf b ≡ accepted (length (operations N (baseState N) (best N .state))) → operationBytes b ≡ length (operationLines N)
-      go (lists.Operations count) q = ap (λ (k : ℕ). 9 * k) (accepted-same q) ∙ sym (Operations.length-text (operations N (baseState N) (best N .state)))
+      go (lists.Operations count) q = ap (λ (k : ℕ). 9 * k) (same-value q) ∙ sym (Operations.length-text (operations N (baseState N) (best N .state)))
       go (lists.Refused number place) q = no-refusal q
 
   -- ---- the plan
@@ -99,7 +96,7 @@ module _ (n : PowerNetwork) (ok : checkRecords (recordsOf n) ≡ accepted tt) (o
   plan-printed room a {after} p w e = go (radialIn N (baseState N)) refl (rw (p, w) at e)
     where
       pairs : (b : PlanAnswer) → planAnswerOf b ≡ accepted (length (plan N (baseState N) (best N .state))) → planBytes b ≡ length (planText (plan N (baseState N) (best N .state)))
-      pairs (plans.Pairs count) q = ap (λ (k : ℕ). 11 * k) (accepted-same q) ∙ sym (PlanLength.length-text (plan N (baseState N) (best N .state)))
+      pairs (plans.Pairs count) q = ap (λ (k : ℕ). 11 * k) (same-value q) ∙ sym (PlanLength.length-text (plan N (baseState N) (best N .state)))
       pairs (plans.Refused number place) q = no-refusal q
 
       none : (b : PlanAnswer) → planAnswerOf b ≡ refused 11 0 → planBytes b ≡ 0
@@ -133,7 +130,7 @@ module _ (n : PowerNetwork) (ok : checkRecords (recordsOf n) ≡ accepted tt) (s
   solved-is e = call-is (result (recordsOf n)) (best (recordsOf n) .state) space ok (omega (arith, few-switches n ok, switches-listed n, best-good (recordsOf n) .long)) e
 
   pub solved-result : {r : ReconfigResult} {after : List ℕ} → record { answer = solveAnswerOf (solves.Solved r); out = after } ≡ solved (recordsOf n) space → resultOf r ≡ result (recordsOf n)
-  solved-result e = accepted-same (ap (λ (x : Call Result). x .answer) (solved-is e))
+  solved-result e = same-value (ap (λ (x : Call Result). x .answer) (solved-is e))
 
   pub solved-state : {a : Answer Result} {after : List ℕ} → record { answer = a; out = after } ≡ solved (recordsOf n) space → take (n .«switch_count») after ≡ best (recordsOf n) .state
   solved-state {after = after} e =
@@ -195,17 +192,6 @@ lines-stored l r moves room f a =
     let stored = sets-append l 0 (resultText r) moves in
     a ∙ rw (f, written-sets (resultText r) l (omega arith)) (rw (zero-add, long) at stored) ∙ sym (written-sets (resultText r ++ moves) l room)
 
--- ---- the reading
-pub reading-accepted : (a : Answer Network) {r : Reading} → r ≡ readingOf a → r .verdict ≡ Accepted → a ≡ accepted (recordsOf (r .network))
-unfolding readingOf
-reading-accepted (accepted N) e v = ap accepted (sym (ap (λ (x : Reading). recordsOf (x .network)) e ∙ records-of-network N))
-reading-accepted (refused number place) e v = no-refusal (sym (ap answerOf (ap (λ (x : Reading). x .verdict) e)) ∙ ap answerOf v)
-
-pub reading-refused : (a : Answer Network) {r : Reading} → r ≡ readingOf a → {number place : ℕ} → r .verdict ≡ Refused number place → a ≡ refused number place
-unfolding readingOf _andThen_
-reading-refused (accepted N) e v = no-refusal (sym (ap answerOf v) ∙ ap answerOf (ap (λ (x : Reading). x .verdict) e))
-reading-refused (refused number place) e v = ap (λ (a : Answer (Unit {0})). a andThen refused 0 0) (sym (ap answerOf (ap (λ (x : Reading). x .verdict) e)) ∙ ap answerOf v)
-
 -- ---- the call
 module _ (text out : List ℕ) {n : ℕ} (long : n ≡ length (printed text)) where
   pub no-room : length out < n → record { answer = refused 13 0; out = out } ≡ answeredText text out
@@ -222,8 +208,8 @@ module _ (text out : List ℕ) {n : ℕ} (long : n ≡ length (printed text)) wh
 
 pub text-printed : (text : List ℕ) {r : Reading} → r ≡ readingOf (readText text) → r .verdict ≡ Accepted → printed text ≡ networkText (recordsOf (r .network))
 unfolding printed
-text-printed text e v = ap printedOf (reading-accepted (readText text) e v)
+text-printed text e v = ap printedOf (read-accepted (readText text) _ e v)
 
 pub text-refused : (text : List ℕ) {r : Reading} → r ≡ readingOf (readText text) → {number place : ℕ} → r .verdict ≡ Refused number place → printed text ≡ refusalText number place
 unfolding printed
-text-refused text e v = ap printedOf (reading-refused (readText text) e v)
+text-refused text e v = ap printedOf (read-refused (readText text) _ _ _ e v)

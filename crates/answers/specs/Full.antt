@@ -22,10 +22,11 @@ use Rattle.graph.specs.Graph.{Tree}
 use Rattle.graph.specs.Feeder.{feeder, LiveIn, radialIn}
 use Rattle.graph.specs.FeederLaws.{radial-in-tree}
 use Rattle.losses.specs.Loss.{lossIn}
-use Rattle.plan.specs.Plan.{State, plan, planText, planned}
-use Rattle.plan.specs.Claim.{GoodState}
+use Rattle.plan.specs.Plan.{plan, planText, planned}
+use Rattle.network.specs.Switches.{State, GoodState}
 use Rattle.plan.specs.Plannable.{Free}
-use Rattle.plan.specs.Accepted.{state-accepted, plan-accepted}
+use Rattle.network.specs.Listed.{state-accepted}
+use Rattle.plan.specs.Accepted.{plan-accepted}
 use Rattle.plan.specs.Length as PlanLength
 use Rattle.reconfiguration.specs.Solve.{best, result, solved}
 use Rattle.reconfiguration.specs.Answers.{best-good}

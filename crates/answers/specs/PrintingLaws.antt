@@ -2,7 +2,7 @@
 use mathlib.Core.Path.{_≡_, refl, sym, ap, _∙_}
 use mathlib.Core.Bool.{Bool, true, false, not, cond}
 use mathlib.Core.List.{List, []}
-use Prim.Native.Nat.{ℕ, _*_, _≤_, _^_}
+use Prim.Native.Nat.{ℕ, _≤_, _^_}
 use native.Mathlib.Omega.{arith}
 use lib.Dec.{T, ltb, lit≤}
 use borrow.Author.Tests.{ltb-true, ltb-false}
@@ -10,10 +10,10 @@ use lib.Ieee.{binary64, isNan, lt, sub, mul, div, ofBits}
 use lib.ListN.{length, take, length-append}
 use Rattle.numbers.specs.Counts.{count-le}
 use Rattle.numbers.specs.Constants.{zero64, trillionth, hundred}
-use Rattle.numbers.specs.Bounds.{Within, within, within-no-nan}
+use Rattle.numbers.specs.Bounds.{Within, within-no-nan}
 use Rattle.network.specs.Records.{Network}
 use Rattle.network.specs.Answers.{Answer, accepted, refused}
-use Rattle.network.specs.AnswerLaws.{no-refusal}
+use Rattle.network.specs.AnswerLaws.{same-value, no-refusal}
 use Rattle.network.specs.Check.{checkRecords}
 use Rattle.network.specs.InsideLaws.{check-inside}
 use Rattle.network.specs.Live.{baseState}
@@ -32,19 +32,11 @@ use Rattle.plan.specs.Plan.{plan, planText}
 use Rattle.plan.specs.Length as PlanLength
 use Rattle.reconfiguration.specs.Solve.{Result, result, best, reduction, reductionOf}
 use Rattle.reconfiguration.specs.Answers.{best-loss, answers-have-plans}
-use Rattle.reconfiguration.specs.Operations.{operations, operationsText}
+use Rattle.reconfiguration.specs.Operations.{operations}
 use Rattle.reconfiguration.specs.OperationLines as Operations
 use Rattle.reconfiguration.specs.OperationValues.{differs}
 use Rattle.answers.specs.declared.printer.TextAnswer.the-variants.{Printed}
 use Rattle.answers.specs.Printing.{resultText, operationLines, planLines, moveLines, networkText, printedOf, printed, answeredText, textAnswerOf}
-
-value : {A : Type 0} → A → Answer A → A
-value d (accepted a) = a
-value d (refused number place) = d
-
-pub accepted-same : {A : Type 0} {a b : A} → _≡_ {A = Answer A} (accepted a) (accepted b) → a ≡ b
-unfolding value
-accepted-same {a = a} e = ap (value a) e
 
 pub length-result : (r : Result) → length (resultText r) ≡ 59
 unfolding resultText answerText
@@ -122,5 +114,5 @@ printed-count text out {count} e = go (ltb (length out) (length (printed text)))
         no-refusal (sym (ap (λ (c : Call ℕ). c .answer) (e ∙ sym short)))
     go false h =
         let done : record { answer = accepted (length (printed text)); out = written (printed text) out } ≡ answeredText text out = unfold answeredText in call-done (length (printed text)) (printed text) out refl refl (ltb-false _ _ h) refl in
-        let same : count ≡ length (printed text) = accepted-same (ap (λ (c : Call ℕ). c .answer) (e ∙ sym done)) in
+        let same : count ≡ length (printed text) = same-value (ap (λ (c : Call ℕ). c .answer) (e ∙ sym done)) in
         omega (arith, printed-short text)

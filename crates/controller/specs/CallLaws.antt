@@ -5,18 +5,13 @@ use mathlib.Core.List.{List}
 use Prim.Native.Nat.{ℕ}
 use lib.Dec.{T}
 use lib.Ieee.{Float, binary64, isNan, toBits}
-use Rattle.network.specs.declared.error.Verdict.the-variants.{Accepted, Refused}
-use Rattle.network.specs.Answers.{Answer, accepted, refused, answerOf, _andThen_}
-use Rattle.network.specs.AnswerLaws.{no-refusal}
+use Rattle.network.specs.Answers.{Answer, accepted, refused, _andThen_}
 use Rattle.network.specs.Check.{checkRecords}
 use Rattle.network.specs.Live.{checkState}
-use Rattle.network.specs.Records.{Network, recordsOf}
-use Rattle.network.specs.RecordLaws.{records-of-network}
-use Rattle.frames.specs.declared.reader.Reading.{Reading}
+use Rattle.network.specs.Records.{Network}
 use Rattle.frames.specs.Claim.{claim}
 use Rattle.printing.specs.Calls.{Call}
 use Rattle.printing.specs.Printed.{truthByte}
-use Rattle.frames.specs.Reading.{readingOf}
 use Rattle.frames.specs.Text.{readText}
 use Rattle.graph.specs.Feeder.{radialIn}
 use Rattle.losses.specs.Accepted.{loss-finite}
@@ -48,17 +43,6 @@ no-nan-behind (refused n p) a h = tt
 pub loss-no-nan : (N : Network) (c : Answer (Unit {0})) (s : List ℕ) (x : Answer Float) → x ≡ (checkRecords N andThen c andThen accepted (lossIn N s)) → NoNan x
 loss-no-nan N c s x e =
     subst NoNan (sym e) (no-nan-behind (checkRecords N) _ λ ok. no-nan-behind c (accepted (lossIn N s)) λ _. loss-finite N ok s .2)
-
--- ---- what the reader answered says how the text reads
-pub read-refused : (a : Answer Network) (r : Reading) (n p : ℕ) → r ≡ readingOf a → r .verdict ≡ Refused n p → a ≡ refused n p
-unfolding readingOf _andThen_
-read-refused (accepted N) r n p e v = no-refusal (sym (ap answerOf (sym (ap (λ (x : Reading). x .verdict) e) ∙ v)))
-read-refused (refused m q) r n p e v = ap (λ x. answerOf x andThen refused 0 0) (sym (ap (λ (x : Reading). x .verdict) e) ∙ v)
-
-pub read-accepted : (a : Answer Network) (r : Reading) → r ≡ readingOf a → r .verdict ≡ Accepted → a ≡ accepted (recordsOf (r .network))
-unfolding readingOf
-read-accepted (accepted N) r e v = ap accepted (sym (ap (λ (x : Reading). recordsOf (x .network)) e ∙ records-of-network N))
-read-accepted (refused n p) r e v = no-refusal (ap answerOf (sym (ap (λ (x : Reading). x .verdict) e) ∙ v))
 
 -- ---- a refused text
 module _ (t : List ℕ) (n p : ℕ) (so : readText t ≡ refused n p) where

@@ -1,8 +1,6 @@
 // What a call answers, in numbers alone.
 ghost use mathlib.Core.Path.{_≡_};
-ghost use mathlib.Core.Bool.{not};
-ghost use lib.Dec.{T};
-ghost use lib.Ieee.{binary64, isNan, toBits};
+ghost use lib.Ieee.{binary64, toBits};
 ghost use Rattle.network.specs.Answers.{accepted, refused};
 ghost use Rattle.printing.specs.Printed.{truthByte};
 ghost use Rattle.graph.specs.Answers.{radialityOf};

@@ -7,5 +7,4 @@ pub mod FrameLaws
 pub mod LoopLaws
 pub mod StoreLaws
 pub mod BodyLaws
-pub mod VerdictLaws
 pub mod TextLaws

@@ -10,7 +10,7 @@ use Rattle.network.specs.declared.topology.PowerNetwork.{PowerNetwork}
 use Rattle.network.specs.Records.{Network, noBus, noBranch, noSwitch, recordsOf, padded, networkOf}
 use Rattle.network.specs.Check.{headOf}
 use Rattle.network.specs.Inside.{Each}
-use Rattle.network.specs.InsidePositions.{each-anywhere}
+use Rattle.network.specs.Positions.{each-anywhere}
 use Rattle.frames.specs.Acceptable.{BusRoom, BranchRoom, SwitchRoom, Writable, Typed}
 use Rattle.frames.specs.ReadLaws.{each-append}
 

@@ -1,7 +1,7 @@
 -- A number of w digits and its digits are one and the same; so are a row of fields and its characters.
 use mathlib.Core.Path.{_≡_, refl, sym, ap, ap₂, _∙_, subst}
 use mathlib.Core.Logic.{_⊎_, inl, inr}
-use mathlib.Core.Bool.{Bool, true, false, _&&_, _||_}
+use mathlib.Core.Bool.{Bool, true, false, _&&_}
 use mathlib.Core.List.{List, [], _∷_, _++_}
 use Prim.Native.Nat.{ℕ, zero, suc, _+_, _*_, _-_, _/_, _%_, _^_, _≤_, _<_}
 use native.Mathlib.Nat.{mod-lt, div-lt-iff-lt-mul, div-add-mod', mul-le-mul-right, one-le-pow, pow-succ'}
@@ -11,13 +11,9 @@ use lib.Dec.{leb, ltb, eqb, lit<}
 use lib.ListN.{length, take, drop, length-append, take-append-drop, length-drop}
 use lib.Seq.{take-at, drop-at, length-take-le}
 use borrow.Author.Tests.{ltb-true, ltb-false, leb-true, le-leb, lt-leb, ne-eqb, lt-ltb, le-ltb}
+use Rattle.numbers.specs.Tests.{both, either}
 use Rattle.frames.specs.Hex.{isDigit, value, digit, number, digits, Fields, readFields, writeFields, Fit, total}
 use Rattle.frames.specs.Text.{every}
-use Rattle.frames.specs.ReaderLaws.{both}
-
-either : (a b : Bool) → (a || b) ≡ true → (a ≡ true) ⊎ (b ≡ true)
-either true b e = inl refl
-either false b e = inr e
 
 -- ---- one digit
 Low : ℕ → Type 0

@@ -18,6 +18,7 @@ pub mod Split
 pub mod Claim
 pub mod Examples
 pub mod Reading
+pub mod ReadingLaws
 pub mod FirstLine
 pub mod FirstLineLaws
 pub mod FramedLaws

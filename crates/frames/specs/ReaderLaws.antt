@@ -1,32 +1,20 @@
 -- Laws of answers and readers: the first condition met, one verdict after another, a reader that goes on.
 use mathlib.Core.Path.{_≡_, refl, ap, _∙_}
-use mathlib.Core.Bool.{Bool, true, false, _&&_, false≢true}
+use mathlib.Core.Bool.{Bool, true, false}
 use mathlib.Core.List.{List, [], _∷_, _++_}
 use Prim.Native.Nat.{ℕ, _+_}
+pub use Rattle.numbers.specs.Tests.{both, neither}
 use Rattle.network.specs.Answers.{Answer, accepted, refused, _andThen_, Fault, _if_, judge}
 use Rattle.network.specs.declared.bus.Bus.{Bus}
 use Rattle.network.specs.declared.branch.Branch.{Branch}
 use Rattle.network.specs.declared.switch.Switch.{Switch}
-pub use Rattle.network.specs.AnswerLaws.{no-refusal, neither}
+pub use Rattle.network.specs.AnswerLaws.{no-refusal, same-value}
 use Rattle.network.specs.Records.{Network}
 use Rattle.network.specs.Faults.{Head}
 use Rattle.frames.specs.Text.{Line, head, bus, branch, switch, headOf, busOf, branchOf, switchOf, headLineFaults, busLineFaults, branchLineFaults, switchLineFaults, Reader, follow, _>>=_, pure, readOne, readRun, readEnd, readLines, without}
 
 abbrev pub Verdict : Type 0
 Verdict = Answer (Unit {0})
-
--- ---- two tests
-pub both : (a b : Bool) → (a && b) ≡ true → (a ≡ true) × (b ≡ true)
-both true b e = (refl, e)
-both false b e = absurd (false≢true e)
-
--- ---- accepted or refused
-abbrev value-of : {A : Type 0} → A → Answer A → A
-value-of d (accepted a) = a
-value-of d (refused n p) = d
-
-pub same-value : {A : Type 0} {a b : A} → accepted a ≡ accepted b → a ≡ b
-same-value {A} {a} {b} e = ap (value-of a) e
 
 -- ---- the first condition met
 pub judge-past : (n : ℕ) (b : Bool) (fs : List Fault) (p : ℕ) → b ≡ false → judge ((n if b) ∷ fs) p ≡ judge fs p

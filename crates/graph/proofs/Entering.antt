@@ -5,7 +5,7 @@ use mathlib.Core.List.{List, [], _∷_, _++_, map, map-append}
 use Prim.Native.Nat.{ℕ, suc, _+_, _-_, _<_, _≤_}
 use native.Mathlib.Omega.{arith}
 use lib.Dec.{eqb}
-use lib.ListN.{length, getD, set, replicate, length-append, length-set, length-map, length-replicate, List·getD-append, List·getD-map}
+use lib.ListN.{length, getD, set, replicate, length-append, length-set, length-map, List·getD-append, List·getD-map}
 use lib.Seq.{getD-set-same, getD-set-other, set-append-seam, append-snoc}
 use borrow.Author.Tests.{eq-eqb, ne-eqb, eqb-true, eqb-false}
 use Rattle.numbers.specs.Counts.{count, count-le, count-drop}
@@ -25,10 +25,6 @@ pub filled-first : (l : List ℕ) (i : ℕ) → i < length l → getD (filled l)
 unfolding filled
 filled-first l i h = List·getD-append l _ 0 i h
 
-pub filled-length : (l : List ℕ) → length l ≤ 256 → length (filled l) ≡ 256
-unfolding filled
-filled-length l h = simp (length-append, length-replicate) (omega arith)
-
 -- a visit's entry in an array
 pub filled-read : (f : Visit → ℕ) (o : List Visit) (i : ℕ) → f (startAt 0) ≡ 0 → i < length o → getD (filled (map f o)) i 0 ≡ f (getD o i (startAt 0))
 filled-read f o i z l =
@@ -43,12 +39,6 @@ reached-snoc x (w ∷ o) v = rw (reached-snoc x o v) (sym (or-assoc (eqb x (w .b
 module _ {o : List Visit} {seen : List Bool} {bus by : List ℕ} {n : ℕ} (w : Walking o seen bus by n) where
   pub few : n ≤ 256
   few = omega (arith, w .counted, w .room, count-le (flag seen) 256)
-
-  pub bus-length : length bus ≡ 256
-  bus-length = ap length (w .buses) ∙ filled-length _ (rw length-map (omega (arith, few, w .counted)))
-
-  pub by-length : length by ≡ 256
-  by-length = ap length (w .branches) ∙ filled-length _ (rw length-map (omega (arith, few, w .counted)))
 
   module _ (x : ℕ) (small : x < 256) (fresh : getD seen x false ≡ false) where
     more-flags : count (flag (set seen x true)) 256 ≡ suc (count (flag seen) 256)

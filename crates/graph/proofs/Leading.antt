@@ -6,15 +6,14 @@ use Prim.Native.Nat.{ℕ, suc, _+_, _*_, _-_, _<_, _≤_}
 use native.Mathlib.Omega.{arith}
 use native.Mathlib.Nat.{sub-zero}
 use lib.Dec.{eqb}
-use lib.ListN.{length, getD, set, drop, replicate, length-append, length-drop, length-reverse, length-map, length-replicate, List·getD-eq-default}
+use lib.ListN.{length, getD, set, drop, replicate, length-append, length-drop, length-reverse, List·getD-eq-default}
 use lib.Seq.{drop-cons, drop-length, append-snoc}
 use borrow.Author.Tests.{eq-eqb, ne-eqb}
 use Rattle.graph.specs.declared.rows.Graph.{Graph}
 use Rattle.graph.specs.declared.walks.Path.{Path}
-use Rattle.graph.specs.declared.walks.Walk.{Walk}
 use Rattle.graph.specs.Graph.{Net}
 use Rattle.graph.specs.Walk.{Visit, reached, walkBy, byOf, across, back}
-use Rattle.graph.specs.Rows.{filled, rowNeighbours, walked, farNet, rowNet, acrossFar, rowPath, pathOf}
+use Rattle.graph.specs.Rows.{filled, rowNeighbours, farNet, rowNet, acrossFar, rowPath, pathOf}
 use Rattle.graph.specs.Walking.{WayOf}
 use Rattle.graph.proofs.Entering.{filled-more, filled-first}
 
@@ -131,24 +130,6 @@ module _ (list : Path) where
         let z : length l - i ≡ 0 = omega arith in
         let s = rw z at (t .so-far l e) in
         rw (length-reverse, s, c)
-
--- an array of 256 holds no more than 256 entries
-filled-few : (l : List ℕ) → length (filled l) ≡ 256 → length l ≤ 256
-unfolding filled
-filled-few l e = omega (arith, simp (length-append, length-replicate) at e)
-
-pub walked-few : (w : Walk) (o : List Visit) → w ≡ walked o → length (w .bus) ≡ 256 → w .count ≤ 256
-unfolding walked
-walked-few w o e l =
-    let c : w .count ≡ length o = ap (λ (x : Walk). x .count) e in
-    let h = filled-few _ (sym (ap (λ (x : Walk). length (x .bus)) e) ∙ l) in
-    omega (arith, simp length-map at h)
-
-pub path-few : (p : Path) (l : List ℕ) → p ≡ pathOf l → length (p .branch) ≡ 256 → p .count ≤ 256
-unfolding pathOf
-path-few p l e h =
-    let c : p .count ≡ length l = ap (λ (x : Path). x .count) e in
-    omega (arith, filled-few l (sym (ap (λ (x : Path). length (x .branch)) e) ∙ h))
 
 -- the path by the ways
 module _ (g : Graph) (live : List Bool) (a b at : ℕ) (same : at ≡ b) (small : at < 256) {reach : List Bool} {by : List ℕ}

@@ -1,5 +1,5 @@
 -- What leads a row, case by case; and a turn of each loop of `skips`.
-use mathlib.Core.Path.{_≡_, refl, sym, _∙_}
+use mathlib.Core.Path.{_≡_, refl, sym}
 use mathlib.Core.Bool.{Bool, true, false, _&&_}
 use mathlib.Core.List.{List}
 use Prim.Native.Nat.{ℕ, _+_, _*_, _-_, _/_, _<_, _≤_}
@@ -7,8 +7,7 @@ use borrow.Author.Tests.{lt-ltb, le-ltb}
 use lib.Dec.{ltb}
 use lib.ListN.{getD, set}
 use Rattle.numbers.specs.UpTo.{upTo, upTo-more}
-use Rattle.graph.specs.declared.skips.LiveRows.{LiveRows}
-use Rattle.graph.specs.Skips.{leader, rising, skipping, leading, skippedBy, skipped}
+use Rattle.graph.specs.Skips.{leader, rising, skipping, leading, skipped}
 
 module _ (live : List Bool) (next : List ℕ) (h : ℕ) where
   pub none-leads : 1024 ≤ h → h ≡ leader live next h

@@ -7,7 +7,7 @@ use mathlib.Core.List.{List, [], _∷_, _++_, append-nil, append-assoc, List·Me
 use Prim.Native.Nat.{ℕ}
 use native.Mathlib.Decide.{ℕ-discrete}
 use lib.Dec.{eqb}
-use Rattle.numbers.specs.Counts.{eqb-true, eqb-false}
+use borrow.Author.Tests.{eq-eqb, ne-eqb}
 use Rattle.graph.specs.Graph.{Net, Branches, Ends}
 use Rattle.graph.specs.Walk.{Visit, reached, enter, enterAll}
 use Rattle.graph.specs.Visits.{reached-still, reached-last}
@@ -25,9 +25,9 @@ module _ (barred : ℕ) where
     where
       go : Dec (v .bus ≡ barred) → (b : Bool) → reached (v .bus) o ≡ b
           → Entering barred o v (cond (eqb (v .bus) barred || reached (v .bus) o) o (o ++ (v ∷ [])))
-      go (yes e) b r = rw (eqb-true e) (left-out (inl e))
-      go (no n) true r = rw (eqb-false _ _ n, r) (left-out (inr r))
-      go (no n) false r = rw (eqb-false _ _ n, r) (put-behind n r)
+      go (yes e) b r = rw (eq-eqb _ _ e) (left-out (inl e))
+      go (no n) true r = rw (ne-eqb _ _ n, r) (left-out (inr r))
+      go (no n) false r = rw (ne-eqb _ _ n, r) (put-behind n r)
 
   enter-reached : (o : List Visit) (v : Visit) → v .bus ≢ barred → reached (v .bus) (enter barred o v) ≡ true
   enter-reached o v n = go (entering o v)

@@ -32,6 +32,10 @@ module _ (N : Network) (inside : Inside N) where
   unfolding feeder
   feeder-small = inside .counts .0
 
+  pub feeder-few : feeder N .branches ≤ 512
+  unfolding feeder
+  feeder-few = inside .counts .1
+
 -- what `verify_radiality` answers is true exactly where the live branches connect all buses without a loop
 pub radial-in-tree : (N : Network) → checkRecords N ≡ accepted tt → (s : List ℕ) → (radialIn N s ≡ true) ↔ Tree (feeder N) (LiveIn N s)
 unfolding radialIn

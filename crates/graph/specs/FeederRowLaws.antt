@@ -7,11 +7,9 @@ use Prim.Native.Nat.{ℕ, _<_, _≤_}
 use native.Mathlib.Omega.{arith}
 use lib.Dec.{ltb}
 use lib.ListN.{length, getD, length-map, length-take, List·getD-eq-default}
-use borrow.Author.Tests.{ltb-true, ltb-false, not-false}
+use borrow.Author.Tests.{ltb-true, ltb-false}
 use Rattle.numbers.specs.UpTo.{table}
 use Rattle.numbers.specs.TableLaws.{length-table, getD-table, table-cong}
-use Rattle.numbers.specs.Counts.{eqb-of}
-use Rattle.numbers.specs.Tests.{both}
 use Rattle.numbers.specs.Choose.{indexOf}
 use Rattle.numbers.specs.ChooseLaws.{index-found}
 use Rattle.network.specs.declared.branch.Branch.{Branch}
@@ -19,25 +17,26 @@ use Rattle.network.specs.declared.configuration.NetworkConfiguration.{NetworkCo
 use Rattle.network.specs.declared.topology.PowerNetwork.{PowerNetwork}
 use Rattle.network.specs.Records.{Network, noBranch, recordsOf}
 use Rattle.network.specs.Answers.{accepted}
-use Rattle.network.specs.AnswerLaws.{judge-iff}
 use Rattle.network.specs.Faults.{among, busId}
 use Rattle.network.specs.Check.{checkRecords}
 use Rattle.network.specs.Inside.{Inside}
 use Rattle.network.specs.InsideLaws.{check-inside, among-mem, mem-among}
-use Rattle.network.specs.InsidePositions.{from-listed, to-listed}
+use Rattle.network.specs.Positions.{from-listed, to-listed}
+use Rattle.network.specs.Listed.{buses-listed, branches-listed, branch-at, state-accepted}
 use Rattle.network.specs.LookupLaws.{listed-buses}
 use Rattle.network.specs.Live.{checkState, live}
 use Rattle.network.specs.LiveLaws.{live-configuration}
 use Rattle.network.specs.Configuration.{configurationOf}
 use Rattle.graph.specs.Graph.{Net}
-use Rattle.graph.specs.Walk.{walkBy, walk, bfsPath}
+use Rattle.graph.specs.Walk.{bfsPath}
 use Rattle.graph.specs.Radial.{radial}
 use Rattle.graph.specs.Feeder.{position, feeder, radialIn}
-use Rattle.graph.specs.Rows.{flag, netOf, rowNeighbours, rowNet, rowRadial, rowPath, graphOf}
+use Rattle.graph.specs.FeederLaws.{feeder-few}
+use Rattle.graph.specs.Rows.{flag, netOf, rowNet, rowRadial, rowPath, graphOf}
 use Rattle.graph.specs.RowsHold.{far-hold}
-use Rattle.graph.specs.RowsWalk.{Positions, row-walk-is-walk, row-radial-is-radial, row-path-is-path}
-use Rattle.graph.specs.FeederRows.{listedIds, endAt, feederGraph, liveFlags}
-use Rattle.graph.specs.SameEnds.{walk-same, radial-same, path-same}
+use Rattle.graph.specs.RowsWalk.{Positions, row-radial-is-radial, row-path-is-path}
+use Rattle.graph.specs.FeederRows.{listedIds, endAt, fromEnds, toEnds, feederGraph, liveFlags}
+use Rattle.graph.specs.SameEnds.{radial-same, path-same}
 
 -- ---- the position of an id
 end-small : (ids : List ℕ) → length ids ≤ 256 → (id : ℕ) → endAt ids id < 256
@@ -78,17 +77,9 @@ flags-live N s l = fun-ext (λ k. go k (ltb k 512) refl)
 pub state-flags : (N : Network) (s : List ℕ) (place : ℕ) → checkRecords N ≡ accepted tt → checkState N s place ≡ accepted tt
     → (configuration : NetworkConfiguration) (flags : List Bool) → configuration ≡ configurationOf s → flags ≡ table (live N (configuration .switches)) 512
     → flags ≡ liveFlags N s
-unfolding checkState
 state-flags N s place ok good configuration flags c f =
-    let long : length s ≡ length (N .switches) = eqb-of _ _ (both _ _ (not-false _ (judge-iff _ place .0 good .0)) .0) in
+    let long = state-accepted N s place .0 good .long in
     f ∙ rw c (table-cong _ _ 512 (λ k h. live-configuration N s k long (omega (arith, check-inside N .0 ok .counts .2))))
-
--- ---- the ends of the branches by position
-abbrev pub fromEnds : PowerNetwork → List ℕ
-fromEnds n = table (λ k. endAt (listedIds n) (getD (n .branches) k noBranch .«from_bus»)) 512
-
-abbrev pub toEnds : PowerNetwork → List ℕ
-toEnds n = table (λ k. endAt (listedIds n) (getD (n .branches) k noBranch .«to_bus»)) 512
 
 -- of the value handed over it is only used that its array has room for 256 buses, as every one has
 module _ (n : PowerNetwork) (sized : length (n .buses) ≡ 256) where
@@ -108,24 +99,16 @@ module _ (n : PowerNetwork) (sized : length (n .buses) ≡ 256) where
     inside = check-inside (recordsOf n) .0 ok
 
     pub same-buses : feeder (recordsOf n) .buses ≡ n .«bus_count»
-    unfolding feeder recordsOf
-    same-buses = length-table _ (n .«bus_count»)
+    unfolding feeder
+    same-buses = buses-listed n
 
     pub same-branches : feeder (recordsOf n) .branches ≡ n .«branch_count»
-    unfolding feeder recordsOf
-    same-branches = length-table _ (n .«branch_count»)
-
-    few-branches : feeder (recordsOf n) .branches ≤ 512
     unfolding feeder
-    few-branches = inside .counts .1
+    same-branches = branches-listed n
 
     ids-listed : listedIds n ≡ map busId (recordsOf n .buses)
     unfolding feeder
     ids-listed = ap (map busId) (listed-buses n (omega (arith, inside .counts .0, same-buses)))
-
-    branch-at : (k : ℕ) → k < n .«branch_count» → getD (recordsOf n .branches) k noBranch ≡ getD (n .branches) k noBranch
-    unfolding recordsOf
-    branch-at k h = getD-table (λ i. getD (n .branches) i noBranch) (n .«branch_count») k noBranch h
 
     end-at : (end : Branch → ℕ) (k : ℕ) → k < feeder (recordsOf n) .branches → List·Memᴰ (end (getD (recordsOf n .branches) k noBranch)) (map busId (recordsOf n .buses))
         → position (recordsOf n) (end (getD (recordsOf n .branches) k noBranch)) ≡ getD (table (λ k. endAt (listedIds n) (end (getD (n .branches) k noBranch))) 512) k 0
@@ -133,8 +116,8 @@ module _ (n : PowerNetwork) (sized : length (n .buses) ≡ 256) where
     end-at end k h m =
         sym (end-listed (map busId (recordsOf n .buses)) _ m)
         ∙ ap (λ ids. endAt ids (end (getD (recordsOf n .branches) k noBranch))) (sym ids-listed)
-        ∙ ap (λ b. endAt (listedIds n) (end b)) (branch-at k (omega (arith, same-branches)))
-        ∙ sym (getD-table _ 512 k 0 (omega (arith, few-branches)))
+        ∙ ap (λ b. endAt (listedIds n) (end b)) (branch-at n k (omega (arith, same-branches)))
+        ∙ sym (getD-table _ 512 k 0 (omega (arith, feeder-few (recordsOf n) inside)))
 
     -- the ends of the listed branches are those of the feeder
     pub feeder-ends : (k : ℕ) → k < feeder (recordsOf n) .branches
@@ -149,7 +132,7 @@ module _ (n : PowerNetwork) (sized : length (n .buses) ≡ 256) where
         → (rowNet (feederGraph n) .from k ≡ feeder (recordsOf n) .from k) × (rowNet (feederGraph n) .to k ≡ feeder (recordsOf n) .to k)
     unfolding feederGraph graphOf
     feeder-row-ends k h =
-        let f = far-hold (n .«branch_count») (fromEnds n) (toEnds n) 512 (omega arith) k (omega arith) (omega (arith, few-branches)) in
+        let f = far-hold (n .«branch_count») (fromEnds n) (toEnds n) 512 (omega arith) k (omega arith) (omega (arith, feeder-few (recordsOf n) inside)) in
         let e = feeder-ends k h in
         (f .1 ∙ sym (e .0), f .0 ∙ sym (e .1))
 
@@ -157,13 +140,6 @@ module _ (n : PowerNetwork) (sized : length (n .buses) ≡ 256) where
     arrays = netOf (n .«bus_count») (n .«branch_count») (fromEnds n) (toEnds n)
 
     module _ (flags : List Bool) (short : length flags ≤ 512) where
-      pub feeder-row-walk : (start barred : ℕ) → start < 256
-          → walkBy (rowNeighbours (feederGraph n) flags) start barred ≡ walk (feeder (recordsOf n)) (flag flags) start barred
-      unfolding feederGraph
-      feeder-row-walk start barred h =
-          row-walk-is-walk _ _ (fromEnds n) (toEnds n) flags feeder-positions short start barred h
-          ∙ sym (walk-same _ arrays (flag flags) _ same-buses same-branches (λ k l. refl) feeder-ends start barred)
-
       pub feeder-row-radial : rowRadial (feederGraph n) flags ≡ radial (feeder (recordsOf n)) (flag flags)
       unfolding feederGraph
       feeder-row-radial =
@@ -183,10 +159,6 @@ module _ (n : PowerNetwork) (sized : length (n .buses) ≡ 256) where
 
       live-flags : flag (liveFlags (recordsOf n) s) ≡ live (recordsOf n) s
       live-flags = flags-live (recordsOf n) s (inside .counts .1)
-
-      pub live-row-walk : (start barred : ℕ) → start < 256
-          → walkBy (rowNeighbours (feederGraph n) (liveFlags (recordsOf n) s)) start barred ≡ walk (feeder (recordsOf n)) (live (recordsOf n) s) start barred
-      live-row-walk start barred h = feeder-row-walk _ live-short start barred h ∙ ap (λ E. walk (feeder (recordsOf n)) E start barred) live-flags
 
       pub live-row-radial : rowRadial (feederGraph n) (liveFlags (recordsOf n) s) ≡ radialIn (recordsOf n) s
       unfolding radialIn

@@ -20,11 +20,15 @@ listedIds n = map busId (take (n .«bus_count») (n .buses))
 unfoldable pub endAt : List ℕ → ℕ → ℕ
 endAt ids id = cond (among id ids) (indexOf id ids) 0
 
+-- the ends of the branches by position
+abbrev pub fromEnds : PowerNetwork → List ℕ
+fromEnds n = table (λ k. endAt (listedIds n) (getD (n .branches) k noBranch .«from_bus»)) 512
+
+abbrev pub toEnds : PowerNetwork → List ℕ
+toEnds n = table (λ k. endAt (listedIds n) (getD (n .branches) k noBranch .«to_bus»)) 512
+
 unfoldable pub feederGraph : PowerNetwork → Graph
-feederGraph n =
-    graphOf (n .«bus_count») (n .«branch_count»)
-    (table (λ k. endAt (listedIds n) (getD (n .branches) k noBranch .«from_bus»)) 512)
-    (table (λ k. endAt (listedIds n) (getD (n .branches) k noBranch .«to_bus»)) 512)
+feederGraph n = graphOf (n .«bus_count») (n .«branch_count») (fromEnds n) (toEnds n)
 
 -- the flags of a state's live branches, as the code has them
 abbrev pub liveFlags : Network → List ℕ → List Bool

@@ -6,7 +6,8 @@ use mathlib.Core.Logic.{_⊎_, inl, inr, _↔_}
 use mathlib.Core.List.{List, _∷_, List·Memᴰ, List·Memᴰ·head, List·Memᴰ·tail}
 use Prim.Native.Nat.{ℕ}
 use native.Mathlib.Decide.{ℕ-discrete}
-use Rattle.graph.specs.Graph.{Net, Branches, Plus, Minus, Ends, Chain, stay, step, Distinct, Path, Joined, Loop}
+use Rattle.numbers.specs.Distinct.{Distinct}
+use Rattle.graph.specs.Graph.{Net, Branches, Plus, Minus, Ends, Chain, stay, step, Path, Joined, Loop}
 use Rattle.graph.specs.Chains.{_⊆_, Via, minus-plus, plus-minus-swap, ends-flip, ends-same, ends-own, chain-without, joined-trans, joined-by, joined-sym, joined-ends, joined-more, chain-splits, via-joined, via-more}
 use Rattle.graph.specs.Paths.{mem?, branch-joined, path-distinct, joined-path}
 

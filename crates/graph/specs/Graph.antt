@@ -2,9 +2,10 @@
 -- A branch with equal ends, and two branches between the same buses, are allowed.
 use mathlib.Core.Path.{_≡_}
 use mathlib.Core.Logic.{_⊎_, _≢_}
-use mathlib.Core.List.{List, [], _∷_, List·Memᴰ}
+use mathlib.Core.List.{List, [], _∷_}
 use mathlib.Core.Bool.{Bool, true}
 use Prim.Native.Nat.{ℕ, _<_}
+use Rattle.numbers.specs.Distinct.{Distinct}
 
 pub record Net : Type 0 where
   pub buses : ℕ
@@ -45,11 +46,6 @@ pub data Chain (N : Net) (S : Branches) : ℕ → ℕ → List ℕ → Type 0 wh
 unfoldable pub visited : {N : Net} {S : Branches} {a b : ℕ} {l : List ℕ} → Chain N S a b l → List ℕ
 visited (stay {a = a} e) = a ∷ []
 visited (step {a = a} s e c) = a ∷ visited c
-
--- none stands twice in the list
-abbrev pub Distinct : List ℕ → Type 0
-Distinct [] = Unit {0}
-Distinct (x ∷ l) = (¬ List·Memᴰ x l) × Distinct l
 
 -- document 01's path: a chain with no bus twice
 abbrev pub Path : (N : Net) (S : Branches) → ℕ → ℕ → List ℕ → Type 0

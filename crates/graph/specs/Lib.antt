@@ -26,6 +26,7 @@ pub mod FeederRowLaws
 pub mod RowsHold
 pub mod RowsNeighbours
 pub mod RowsWalk
+pub mod Filled
 pub mod SkipLaws
 pub mod RowsTriangle
 pub mod Walking

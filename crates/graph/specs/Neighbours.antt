@@ -7,8 +7,8 @@ use Prim.Native.Nat.{ℕ, zero, suc, _<_}
 use native.Mathlib.Decide.{ℕ-discrete}
 use native.Mathlib.Omega.{arith}
 use lib.Dec.{eqb}
+use borrow.Author.Tests.{eq-eqb, ne-eqb}
 use Rattle.numbers.specs.UpTo.{upTo}
-use Rattle.numbers.specs.Counts.{eqb-true, eqb-false}
 use Rattle.graph.specs.Graph.{Net, Live, Ends, along, against}
 use Rattle.graph.specs.Walk.{Visit, far, neighbours}
 use Rattle.graph.specs.Visits.{visit}
@@ -26,9 +26,9 @@ module _ (N : Net) (u k : ℕ) where
     where
       go : Dec (N .from k ≡ u) → Dec (N .to k ≡ u)
           → Far N u k (cond (eqb (N .from k) u) (visit (N .to k) k ∷ []) (cond (eqb (N .to k) u) (visit (N .from k) k ∷ []) []))
-      go (yes e) d = rw (eqb-true e) (from-here e)
-      go (no n) (yes e) = rw (eqb-false _ _ n, eqb-true e) (to-here n e)
-      go (no n) (no m) = rw (eqb-false _ _ n, eqb-false _ _ m) (elsewhere n m)
+      go (yes e) d = rw (eq-eqb _ _ e) (from-here e)
+      go (no n) (yes e) = rw (ne-eqb _ _ n, eq-eqb _ _ e) (to-here n e)
+      go (no n) (no m) = rw (ne-eqb _ _ n, ne-eqb _ _ m) (elsewhere n m)
 
   far-ends : (v : Visit) → List·Memᴰ v (far N u k) → (v .by ≡ k) × Ends N k u (v .bus)
   far-ends v m = go far-cases m

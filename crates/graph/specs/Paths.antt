@@ -5,7 +5,8 @@ use mathlib.Core.Logic.{_⊎_, inl, inr}
 use mathlib.Core.List.{List, [], _∷_, reverse, reverseAux, List·Memᴰ, List·Memᴰ·head, List·Memᴰ·tail, List·Memᴰ·not-nil, List·Memᴰ·eq-of-singleton, Memᴰ·cast}
 use Prim.Native.Nat.{ℕ}
 use native.Mathlib.Decide.{ℕ-discrete}
-use Rattle.graph.specs.Graph.{Net, Branches, Minus, Ends, Chain, stay, step, visited, Distinct, Path, Joined}
+use Rattle.numbers.specs.Distinct.{Distinct}
+use Rattle.graph.specs.Graph.{Net, Branches, Minus, Ends, Chain, stay, step, visited, Path, Joined}
 use Rattle.graph.specs.Chains.{_⊆_, Via, ends-flip, ends-same, chain-without, chain-more, visited-more, joined-same, joined-trans, joined-by}
 
 pub mem? : (x : ℕ) (l : List ℕ) → Dec (List·Memᴰ x l)

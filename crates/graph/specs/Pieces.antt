@@ -9,7 +9,8 @@ use Prim.Native.Nat.{ℕ, zero, suc, _+_, _≤_, _<_}
 use native.Mathlib.Decide.{ℕ-discrete}
 use native.Mathlib.Omega.{arith}
 use lib.Dec.{eqb}
-use Rattle.numbers.specs.Counts.{count, eqb-true, eqb-false, count-yes, count-no, count-cong, count-all, count-none, count-drop, count-zero, some-below}
+use borrow.Author.Tests.{eq-eqb, ne-eqb}
+use Rattle.numbers.specs.Counts.{count, count-yes, count-no, count-cong, count-all, count-none, count-drop, count-zero, some-below}
 use Rattle.graph.specs.Graph.{Net, Sound, Branches, Live, Plus, Minus, along, against, Chain, stay, step, Joined, Connected, Loop, Tree}
 use Rattle.graph.specs.Chains.{_⊆_, ends-own, joined-same, joined-trans, joined-by, joined-sym, joined-more}
 use Rattle.graph.specs.Paths.{joined-path, path-more}
@@ -42,11 +43,11 @@ pieces N E k = count (λ x. eqb (label N E k x) x) (N .buses)
 
 relabel-hit : (p q z : ℕ) → z ≡ q → relabel p q z ≡ p
 unfolding relabel
-relabel-hit p q z e = rw (eqb-true e)
+relabel-hit p q z e = rw (eq-eqb _ _ e)
 
 relabel-miss : (p q z : ℕ) → z ≢ q → relabel p q z ≡ z
 unfolding relabel
-relabel-miss p q z n = rw (eqb-false z q n)
+relabel-miss p q z n = rw (ne-eqb z q n)
 
 -- p and q both become p
 relabel-meet : (p q : ℕ) → relabel p q p ≡ relabel p q q
@@ -140,11 +141,11 @@ module _ (N : Net) (E : ℕ → Bool) where
 
   closes-closing : (k : ℕ) → E k ≡ true → label N E k (N .from k) ≡ label N E k (N .to k) → closes N E k ≡ true
   unfolding closes
-  closes-closing k e p = rw (e, eqb-true p)
+  closes-closing k e p = rw (e, eq-eqb _ _ p)
 
   closes-linking : (k : ℕ) → label N E k (N .from k) ≢ label N E k (N .to k) → closes N E k ≡ false
   unfolding closes
-  closes-linking k n = rw (eqb-false _ _ n) (and-false (E k))
+  closes-linking k n = rw (ne-eqb _ _ n) (and-false (E k))
 
   links-dead : (k : ℕ) → E k ≡ false → links N E k ≡ false
   unfolding links
@@ -152,11 +153,11 @@ module _ (N : Net) (E : ℕ → Bool) where
 
   links-closing : (k : ℕ) → label N E k (N .from k) ≡ label N E k (N .to k) → links N E k ≡ false
   unfolding links
-  links-closing k p = rw (eqb-true p) (and-false (E k))
+  links-closing k p = rw (eq-eqb _ _ p) (and-false (E k))
 
   links-linking : (k : ℕ) → E k ≡ true → label N E k (N .from k) ≢ label N E k (N .to k) → links N E k ≡ true
   unfolding links
-  links-linking k e n = rw (e, eqb-false _ _ n)
+  links-linking k e n = rw (e, ne-eqb _ _ n)
 
   -- a live branch closes exactly where the branches before it join its ends
   pub closes-joined : (k : ℕ) → (closes N E k ≡ true) ↔ ((E k ≡ true) × Joined N (First E k) (N .from k) (N .to k))
@@ -247,7 +248,7 @@ module _ (N : Net) (E : ℕ → Bool) where
     pieces-drop : (k : ℕ) → k < N .branches → E k ≡ true → label N E k (N .from k) ≢ label N E k (N .to k) → pieces N E k ≡ suc (pieces N E (suc k))
     unfolding pieces
     pieces-drop k m e d = count-drop (λ x. eqb (L x) x) (λ x. eqb (label N E (suc k) x) x) (N .buses) q
-        (label-bus k (N .to k) (omega arith) (sound k m .1)) (eqb-true (label-idem k (N .to k))) (eqb-false _ _ gone) stays
+        (label-bus k (N .to k) (omega arith) (sound k m .1)) (eq-eqb _ _ (label-idem k (N .to k))) (ne-eqb _ _ gone) stays
       where
         L : ℕ → ℕ
         L = label N E k
@@ -265,7 +266,7 @@ module _ (N : Net) (E : ℕ → Bool) where
         stays x l n = go (ℕ-discrete (L x) q)
           where
             go : Dec (L x ≡ q) → eqb (L x) x ≡ eqb (label N E (suc k) x) x
-            go (yes f) = eqb-false _ _ (λ g. n (sym g ∙ f)) ∙ sym (eqb-false _ _ (λ g. other (sym (label-live k x e ∙ relabel-hit p q (L x) f) ∙ g)))
+            go (yes f) = ne-eqb _ _ (λ g. n (sym g ∙ f)) ∙ sym (ne-eqb _ _ (λ g. other (sym (label-live k x e ∙ relabel-hit p q (L x) f) ∙ g)))
               where
                 other : p ≡ x → ⊥
                 other g = d (sym (label-idem k (N .from k)) ∙ ap L g ∙ f)
@@ -273,7 +274,7 @@ module _ (N : Net) (E : ℕ → Bool) where
 
     pieces-links : (k : ℕ) → k ≤ N .branches → pieces N E k + count (links N E) k ≡ N .buses
     unfolding label pieces count
-    pieces-links zero m = rw (count-all (λ x. eqb x x) (N .buses) (λ x l. eqb-true {a = x} refl)) (omega arith)
+    pieces-links zero m = rw (count-all (λ x. eqb x x) (N .buses) (λ x l. eq-eqb x _ refl)) (omega arith)
     pieces-links (suc k) m = go (kind N E k) (pieces-links k (omega arith))
       where
         go : Kind N E k → pieces N E k + count (links N E) k ≡ N .buses → pieces N E (suc k) + count (links N E) (suc k) ≡ N .buses
@@ -290,7 +291,7 @@ module _ (N : Net) (E : ℕ → Bool) where
     one-piece some h =
         count-cong (λ x. eqb (L x) x) (λ x. eqb (L 0) x) (N .buses) (λ x l. ap (λ z. eqb z x) (same-label _ x 0 .1 (h x 0 l some)))
         ∙ count-drop (λ x. eqb (L 0) x) (λ x. false) (N .buses) (L 0) (label-bus _ 0 (omega arith) some)
-        (eqb-true {a = L 0} refl) refl (λ x l n. eqb-false (L 0) x (λ e. n (sym e)))
+        (eq-eqb (L 0) _ refl) refl (λ x l n. ne-eqb (L 0) x (λ e. n (sym e)))
         ∙ ap suc (count-none (λ x. false) (N .buses) (λ x l. refl))
       where
         L : ℕ → ℕ

@@ -1,24 +1,22 @@
 -- Radiality as it is computed is radiality in its meaning: connected without a loop. From the count of a tree's branches
 -- and from what the walk reaches.
-use mathlib.Core.Path.{_≡_, refl, sym, _∙_}
+use mathlib.Core.Path.{_≡_, sym, _∙_}
 use mathlib.Core.Logic.{_↔_}
-use mathlib.Core.Bool.{Bool, true, false, _&&_, _||_, false≢true}
+use mathlib.Core.Bool.{Bool, true, _&&_, _||_}
 use Prim.Native.Nat.{ℕ, suc, _≤_, _<_}
 use native.Mathlib.Decide.{ℕ-discrete}
 use native.Mathlib.Omega.{arith}
 use lib.Dec.{eqb}
 use lib.ListN.{length}
-use Rattle.numbers.specs.Counts.{count, eqb-true, eqb-of, eqb-false, count-all, count-full}
+use borrow.Author.Tests.{eq-eqb, ne-eqb, eqb-true}
+use Rattle.numbers.specs.Tests.{both}
+use Rattle.numbers.specs.Counts.{count, count-all, count-full}
 use Rattle.graph.specs.Graph.{Net, Sound, Live, Joined, Connected, Tree}
 use Rattle.graph.specs.Walk.{reached, walk}
 use Rattle.graph.specs.Radial.{radial}
 use Rattle.graph.specs.Chains.{joined-trans, joined-sym}
 use Rattle.graph.specs.Pieces.{tree-count, tree-branches}
 use Rattle.graph.specs.WalkLaws.{walk-count, walk-joined}
-
-both : (a b : Bool) → (a && b) ≡ true → (a ≡ true) × (b ≡ true)
-both true b e = (refl, e)
-both false b e = absurd (false≢true e)
 
 module _ (N : Net) (E : ℕ → Bool) (sound : Sound N) (m : N .buses ≤ 256) where
   -- without buses there are no branches
@@ -55,8 +53,8 @@ module _ (N : Net) (E : ℕ → Bool) (sound : Sound N) (m : N .buses ≤ 256) w
       counted = eqb (suc (count E (N .branches))) (N .buses) && eqb (length (walk N E 0 0)) (N .buses)
 
       go : Dec (N .buses ≡ 0) → ((eqb (N .buses) 0 || counted) ≡ true) ↔ Tree N (Live N E)
-      go (yes z) = (λ h. no-buses z, λ t. rw (eqb-true z))
-      go (no n) = rw (eqb-false _ _ n) (fore, back)
+      go (yes z) = (λ h. no-buses z, λ t. rw (eq-eqb _ _ z))
+      go (no n) = rw (ne-eqb _ _ n) (fore, back)
         where
           some : 0 < N .buses
           some = omega arith
@@ -64,8 +62,8 @@ module _ (N : Net) (E : ℕ → Bool) (sound : Sound N) (m : N .buses ≤ 256) w
           fore : counted ≡ true → Tree N (Live N E)
           fore h =
               let p = both _ _ h in
-              let c = full-walk some .0 (eqb-of _ _ (p .1)) in
-              record { connected = c; no-loop = tree-count N E sound some c .0 (eqb-of _ _ (p .0)) }
+              let c = full-walk some .0 (eqb-true _ _ (p .1)) in
+              record { connected = c; no-loop = tree-count N E sound some c .0 (eqb-true _ _ (p .0)) }
 
           back : Tree N (Live N E) → counted ≡ true
-          back t = rw (eqb-true (tree-branches N E sound some t), eqb-true (full-walk some .1 (t .connected)))
+          back t = rw (eq-eqb _ _ (tree-branches N E sound some t), eq-eqb _ _ (full-walk some .1 (t .connected)))

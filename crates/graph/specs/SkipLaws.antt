@@ -1,17 +1,18 @@
 -- No walk changes where its rows skip dead half-branches.
 use mathlib.Core.Path.{_≡_, refl, sym, ap, fun-ext, _∙_}
 use mathlib.Core.Bool.{Bool, true, false, cond, not, _&&_, true≢false}
-use mathlib.Core.List.{List, [], _∷_}
+use mathlib.Core.List.{List, _∷_}
 use Prim.Native.Nat.{ℕ, zero, suc, _+_, _*_, _-_, _/_, _<_, _≤_}
 use native.Mathlib.Decide.{ℕ-discrete}
 use native.Mathlib.Omega.{arith}
-use borrow.Author.Tests.{ltb-true, ltb-false, lt-ltb, le-ltb}
+use borrow.Author.Tests.{ltb-true, ltb-false}
 use lib.Dec.{ltb}
 use lib.ListN.{length, getD, set, length-set}
 use lib.Seq.{set-out, getD-set-same, getD-set-other}
 use Rattle.numbers.specs.UpTo.{upTo, upTo-keeps}
 use Rattle.graph.specs.Walk.{Visit, walkBy}
 use Rattle.graph.specs.Rows.{flag, rowFrom, leads, rowLeads}
+use Rattle.graph.specs.RowsHold.{row-more, row-end}
 use Rattle.graph.specs.Skips.{leader, rising, skipping, leading, skippedBy, skipped}
 
 -- rows that rise: each half-branch has a higher one behind it, or none
@@ -19,32 +20,22 @@ pub record Rising (r : List ℕ) : Type 0 where
   pub long : length r ≡ 1024
   pub up : (h : ℕ) → h < 1024 → h < getD r h 0
 
--- ---- a row from one half-branch on
-row-none : (r : List ℕ) (f h : ℕ) → 1024 ≤ h → rowFrom r f h ≡ []
-unfolding rowFrom
-row-none r zero h l = refl
-row-none r (suc f) h l = rw (le-ltb h 1024 l, rowFrom)
-
-row-one : (r : List ℕ) (f h : ℕ) → h < 1024 → rowFrom r (suc f) h ≡ h ∷ rowFrom r f (getD r h 0)
-unfolding rowFrom
-row-one r f h l = rw (lt-ltb h 1024 l, rowFrom)
-
 -- a row that rises ends: more turns than half-branches are left above it change nothing
 same-row : (r : List ℕ) → Rising r → (f g h : ℕ) → 1024 ≤ h + f → 1024 ≤ h + g → rowFrom r f h ≡ rowFrom r g h
-same-row r u zero g h a b = row-none r zero h (omega arith) ∙ sym (row-none r g h (omega arith))
-same-row r u (suc f) zero h a b = row-none r (suc f) h (omega arith) ∙ sym (row-none r zero h (omega arith))
+same-row r u zero g h a b = row-end r zero h (omega arith) ∙ sym (row-end r g h (omega arith))
+same-row r u (suc f) zero h a b = row-end r (suc f) h (omega arith) ∙ sym (row-end r zero h (omega arith))
 same-row r u (suc f) (suc g) h a b = go (ltb h 1024) refl (λ l. same-row r u f g (getD r h 0) (omega (arith, l)) (omega (arith, l)))
   where
     go : (t : Bool) → ltb h 1024 ≡ t → (h < getD r h 0 → rowFrom r f (getD r h 0) ≡ rowFrom r g (getD r h 0)) → rowFrom r (suc f) h ≡ rowFrom r (suc g) h
     go true e rest =
         let l = ltb-true h 1024 e in
-        row-one r f h l ∙ ap (_∷_ h) (rest (u .up h l)) ∙ sym (row-one r g h l)
+        row-more r f h l ∙ ap (_∷_ h) (rest (u .up h l)) ∙ sym (row-more r g h l)
     go false e rest =
         let l = ltb-false h 1024 e in
-        row-none r (suc f) h l ∙ sym (row-none r (suc g) h l)
+        row-end r (suc f) h l ∙ sym (row-end r (suc g) h l)
 
 row-step : (r : List ℕ) → Rising r → (h : ℕ) → h < 1024 → rowFrom r 1024 h ≡ h ∷ rowFrom r 1024 (getD r h 0)
-row-step r u h l = row-one r 1023 h l ∙ ap (_∷_ h) (same-row r u 1023 1024 (getD r h 0) (omega (arith, u .up h l)) (omega arith))
+row-step r u h l = row-more r 1023 h l ∙ ap (_∷_ h) (same-row r u 1023 1024 (getD r h 0) (omega (arith, u .up h l)) (omega arith))
 
 module _ (far : List ℕ) (live : List Bool) where
   -- what the row leads to
@@ -60,7 +51,7 @@ module _ (far : List ℕ) (live : List Bool) where
   led-step r u h l = ap (leads far live) (row-step r u h l)
 
   led-none : (r s : List ℕ) (h : ℕ) → 1024 ≤ h → led r h ≡ led s h
-  led-none r s h l = ap (leads far live) (row-none r 1024 h l ∙ sym (row-none s 1024 h l))
+  led-none r s h l = ap (leads far live) (row-end r 1024 h l ∙ sym (row-end s 1024 h l))
 
   -- ---- half-branch h is followed by v, from where the row leads to the same
   module _ (r : List ℕ) (u : Rising r) (h v : ℕ) (l : h < 1024) (above : h < v) (alike : led r v ≡ led r (getD r h 0)) where

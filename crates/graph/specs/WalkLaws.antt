@@ -13,7 +13,8 @@ use lib.ListN.{length, getD, List·getD-append}
 use borrow.Author.Tests.{ltb-true, ltb-false}
 use Rattle.numbers.specs.UpTo.{upTo}
 use Rattle.numbers.specs.Counts.{count, count-le}
-use Rattle.graph.specs.Graph.{Net, Sound, Branches, Live, Ends, Chain, stay, step, visited, Distinct, Path, Joined, Tree}
+use Rattle.numbers.specs.Distinct.{Distinct}
+use Rattle.graph.specs.Graph.{Net, Sound, Branches, Live, Ends, Chain, stay, step, visited, Path, Joined, Tree}
 use Rattle.graph.specs.Walk.{Visit, startAt, neighbours, reached, enterAll, turn, walkBy, walk, bfsPath}
 use Rattle.graph.specs.Chains.{_⊆_, chain-more, visited-more, joined-sym}
 use Rattle.graph.specs.Paths.{path-back, path-more}

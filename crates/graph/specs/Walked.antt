@@ -1,15 +1,18 @@
 -- Lists of visits to which buses are put as a walk does, one by one, each at the far end of a branch at a bus reached before:
 -- the buses are distinct, and there are no more of them than the network has.
-use mathlib.Core.Path.{_≡_, refl, sym, ap, _∙_}
+use mathlib.Core.Path.{_≡_, refl, ap, _∙_}
 use mathlib.Core.Logic.{_⊎_, inl, inr}
 use mathlib.Core.Bool.{true, false}
-use mathlib.Core.List.{List, [], _∷_, _++_, List·Memᴰ, List·Memᴰ·head, List·Memᴰ·tail, List·Memᴰ·not-nil, List·Memᴰ·eq-of-singleton, List·Memᴰ·append-cases}
+use mathlib.Core.List.{List, [], _∷_, _++_, List·Memᴰ·not-nil}
 use Prim.Native.Nat.{ℕ, suc, _<_}
 use native.Mathlib.Omega.{arith}
 use lib.ListN.{length, length-append}
-use Rattle.numbers.specs.Counts.{count, eqb-true, count-none, count-drop}
-use Rattle.graph.specs.Graph.{Net, Branches, Ends, along, against, Distinct}
-use Rattle.graph.specs.Visits.{visit, busesOf, clash, reached-still, reached-last, reached-before, reached-cases, reached-one, reached-mem}
+use borrow.Author.Tests.{eq-eqb}
+use Rattle.numbers.specs.Counts.{count, count-none, count-drop}
+use Rattle.numbers.specs.Distinct.{Distinct, distinct-append}
+use Rattle.numbers.specs.Tests.{clash}
+use Rattle.graph.specs.Graph.{Net, Branches, Ends, along, against}
+use Rattle.graph.specs.Visits.{visit, busesOf, reached-still, reached-last, reached-before, reached-cases, reached-one, reached-mem}
 use Rattle.graph.specs.Walk.{Visit, startAt, reached}
 
 -- the start, then buses that were not reached before, each at the far end of a branch of S at a bus reached before
@@ -18,14 +21,6 @@ pub data Walked (N : Net) (S : Branches) (start : ℕ) : List Visit → Type 0 w
   entered : {o : List Visit} (u : ℕ) {y k : ℕ} → Walked N S start o → S k → Ends N k u y → reached u o ≡ true → reached y o ≡ false
       → Walked N S start (o ++ (visit y k ∷ []))
 
-distinct-last : (l : List ℕ) (x : ℕ) → Distinct l → ¬ List·Memᴰ x l → Distinct (l ++ (x ∷ []))
-distinct-last [] x d n = (List·Memᴰ·not-nil, tt)
-distinct-last (y ∷ l) x d n = (λ m. go (List·Memᴰ·append-cases l m), distinct-last l x (d .1) (λ m. n (List·Memᴰ·tail m)))
-  where
-    go : List·Memᴰ y l ⊎ List·Memᴰ y (x ∷ []) → ⊥
-    go (inl m) = d .0 m
-    go (inr m) = n (List·Memᴰ·head (sym (List·Memᴰ·eq-of-singleton m)))
-
 buses-last : (o : List Visit) (v : Visit) → busesOf (o ++ (v ∷ [])) ≡ busesOf o ++ (v .bus ∷ [])
 buses-last [] v = refl
 buses-last (w ∷ o) v = ap (_∷_ (w .bus)) (buses-last o v)
@@ -33,13 +28,13 @@ buses-last (w ∷ o) v = ap (_∷_ (w .bus)) (buses-last o v)
 module _ {N : Net} {S : Branches} {start : ℕ} where
   pub walked-start : {o : List Visit} → Walked N S start o → reached start o ≡ true
   unfolding reached
-  walked-start begun = rw (eqb-true {a = start} refl)
+  walked-start begun = rw (eq-eqb start _ refl)
   walked-start (entered {o = o} u w s e h f) = reached-still start o _ (walked-start w)
 
   pub walked-distinct : {o : List Visit} → Walked N S start o → Distinct (busesOf o)
   walked-distinct begun = (List·Memᴰ·not-nil, tt)
   walked-distinct (entered {o = o} u {y = y} {k = k} w s e h f) =
-      rw (buses-last o (visit y k)) (distinct-last (busesOf o) y (walked-distinct w) (λ m. clash (reached-mem y o .1 m) f))
+      rw (buses-last o (visit y k)) (distinct-append (busesOf o) y (walked-distinct w) (λ m. clash (reached-mem y o .1 m) f))
 
   -- the walk stays among the buses
   module _ (ends : (k : ℕ) → S k → (N .from k < N .buses) × (N .to k < N .buses)) (l : start < N .buses) where

@@ -9,11 +9,13 @@ use native.Mathlib.Decide.{ℕ-discrete}
 use native.Mathlib.Omega.{arith}
 use lib.Dec.{eqb}
 use lib.ListN.{length, length-append}
-use Rattle.numbers.specs.Counts.{eqb-true, eqb-false}
-use Rattle.graph.specs.Graph.{Net, Branches, Ends, along, against, Chain, stay, step, visited, Distinct, Path}
+use borrow.Author.Tests.{eq-eqb, ne-eqb}
+use Rattle.numbers.specs.Tests.{clash}
+use Rattle.numbers.specs.Distinct.{Distinct}
+use Rattle.graph.specs.Graph.{Net, Branches, Ends, along, against, Chain, stay, step, visited, Path}
 use Rattle.graph.specs.Walk.{Visit, reached, byOf, across, back}
 use Rattle.graph.specs.Chains.{ends-flip}
-use Rattle.graph.specs.Visits.{visit, clash, reached-still, reached-last, reached-cases, reached-one, byOf-before, byOf-last}
+use Rattle.graph.specs.Visits.{visit, reached-still, reached-last, reached-cases, reached-one, byOf-before, byOf-last}
 use Rattle.graph.specs.Walked.{Walked, begun, entered, walked-start}
 
 -- every branch of the chain is the one noted at the bus where it starts
@@ -23,12 +25,12 @@ Follows o start (step {a = a} {k = k} s e c) = (byOf a o ≡ k) × (a ≢ start)
 
 across-ends : {N : Net} {k a b : ℕ} → Ends N k a b → across N k a ≡ b
 unfolding across
-across-ends (along p q) = rw (eqb-true p) q
+across-ends (along p q) = rw (eq-eqb _ _ p) q
 across-ends {N} {k} {a} {b} (against p q) = go (ℕ-discrete (N .from k) a)
   where
     go : Dec (N .from k ≡ a) → cond (eqb (N .from k) a) (N .to k) (N .from k) ≡ b
-    go (yes r) = rw (eqb-true r) (q ∙ sym r ∙ p)
-    go (no n) = rw (eqb-false _ _ n) p
+    go (yes r) = rw (eq-eqb _ _ r) (q ∙ sym r ∙ p)
+    go (no n) = rw (ne-eqb _ _ n) p
 
 -- a path from bus z back to the start along the branches noted
 record Way (N : Net) (S : Branches) (start : ℕ) (o : List Visit) (z : ℕ) : Type 0 where
@@ -44,18 +46,18 @@ module _ {N : Net} {S : Branches} (start : ℕ) where
       → back N o start n z ≡ l
   unfolding back Follows
   follows-back o zero y (stay e) w b = refl
-  follows-back o (suc n) y (stay e) w b = rw (eqb-true (e ∙ y))
+  follows-back o (suc n) y (stay e) w b = rw (eq-eqb _ _ (e ∙ y))
   follows-back o zero y (step s e c) w b = absurd (omega arith)
-  follows-back o (suc n) y (step {a = z} s e c) (p, d, w) b = rw (eqb-false z start d, p, across-ends e, follows-back o n y c w (omega arith))
+  follows-back o (suc n) y (step {a = z} s e c) (p, d, w) b = rw (ne-eqb z start d, p, across-ends e, follows-back o n y c w (omega arith))
 
   -- in any net in which the branches of S have the same ends
   follows-same : (M : Net) → ((k : ℕ) → S k → (N .from k ≡ M .from k) × (N .to k ≡ M .to k)) → (o : List Visit) (n : ℕ) {z y : ℕ} {l : List ℕ}
       → y ≡ start → (c : Chain N S z y l) → Follows o start c → back N o start n z ≡ back M o start n z
   unfolding back Follows across
   follows-same M same o zero y c w = refl
-  follows-same M same o (suc n) y (stay e) w = rw (eqb-true (e ∙ y))
+  follows-same M same o (suc n) y (stay e) w = rw (eq-eqb _ _ (e ∙ y))
   follows-same M same o (suc n) y (step {a = z} {k = k} s e c) (p, d, w) =
-      rw (eqb-false z start d, p, ← same k s .0, ← same k s .1, across-ends e) (ap (_∷_ k) (follows-same M same o n y c w))
+      rw (ne-eqb z start d, p, ← same k s .0, ← same k s .1, across-ends e) (ap (_∷_ k) (follows-same M same o n y c w))
 
   follows-still : (o : List Visit) (v : Visit) {z y : ℕ} {l : List ℕ} (c : Chain N S z y l) → ((x : ℕ) → List·Memᴰ x (visited c) → reached x o ≡ true)
       → Follows o start c → Follows (o ++ (v ∷ [])) start c

@@ -1,8 +1,7 @@
 // A feeder's records as a graph: ids are resolved to positions once.
 ghost use mathlib.Core.Path.{_≡_};
 ghost use Rattle.numbers.specs.UpTo.{table};
-ghost use Rattle.graph.specs.FeederRows.{listedIds, endAt, feederGraph};
-ghost use Rattle.graph.specs.FeederRowLaws.{fromEnds, toEnds};
+ghost use Rattle.graph.specs.FeederRows.{listedIds, endAt, feederGraph, fromEnds, toEnds};
 use crate::rows::Graph;
 use network::topology::PowerNetwork;
 use numbers::at_most;

@@ -1,14 +1,14 @@
 -- The code's arrays and the definitions' lists: a walk's load, and a turn of each loop.
 use mathlib.Core.Path.{_≡_, refl, sym, ap, fun-ext, _∙_}
 use mathlib.Core.Bool.{Bool, true, false}
-use mathlib.Core.List.{List, [], _∷_, _++_, map}
-use Prim.Native.Nat.{ℕ, zero, suc, _+_, _-_, _≤_, _<_, min}
+use mathlib.Core.List.{List, _++_, map}
+use Prim.Native.Nat.{ℕ, _+_, _-_, _≤_, _<_, min}
 use native.Mathlib.Omega.{arith}
-use lib.ListN.{length, getD, replicate, length-append, length-map, length-replicate, List·getD-append, List·getD-map, List·getD-eq-default}
+use lib.ListN.{length, getD, replicate, length-map, List·getD-append, List·getD-map, List·getD-eq-default}
 use borrow.Author.Tests.{eq-eqb, ne-eqb}
 use lib.Ieee.{Float, binary64, add}
 use Rattle.numbers.specs.UpTo.{upTo, upTo-more, upTo-cong, upTo-idle, table}
-use Rattle.numbers.specs.TableLaws.{as-table, map-table}
+use Rattle.numbers.specs.TableLaws.{any-default, as-table, map-table}
 use Rattle.numbers.specs.Constants.{zero64}
 use Rattle.network.specs.declared.branch.Branch.{Branch}
 use Rattle.network.specs.declared.bus.Power.{Power}
@@ -23,15 +23,9 @@ use Rattle.graph.specs.SkipLaws.{skipped-walk}
 use Rattle.losses.specs.Loss.{walkLoad, termOf, totalOf}
 use Rattle.losses.specs.RowLoss.{noPower, powers, loadAt, arrayLoad, loadBehind, rowTotal, rowLoss}
 
--- inside a list it does not matter what stands behind its end
-pub getD-inside : {A : Type 0} (l : List A) (i : ℕ) (a b : A) → i < length l → getD l i a ≡ getD l i b
-getD-inside [] i a b h = absurd (omega arith)
-getD-inside (x ∷ l) zero a b h = refl
-getD-inside (x ∷ l) (suc i) a b h = getD-inside l i a b (omega arith)
-
 -- ---- loads
 pub load-inside : (loads : List Power) (i : ℕ) (d : Power) → i < length loads → getD loads i d .0 ≡ getD loads i noPower .0
-load-inside loads i d h = ap (λ (p : Power). p .0) (getD-inside loads i d noPower h)
+load-inside loads i d h = ap (λ (p : Power). p .0) (any-default loads i d noPower h)
 
 -- loads taken out one by one are the loads put back
 pub all-powers : (loads : List Power) (mw : List Float) → length loads ≡ 256 → mw ≡ table (λ i. getD loads i noPower .0) 256 → powers mw ≡ loads
@@ -43,19 +37,11 @@ pub load-more : (mw : List Float) (bus : List ℕ) (i u : ℕ) (t d : Float) →
     → add binary64 t (getD mw u d) ≡ arrayLoad (powers mw) bus (i + 1)
 unfolding arrayLoad powers
 load-more mw bus i u t d h e k =
-    let same : getD mw u d ≡ loadAt (powers mw) u = getD-inside mw u d zero64 h ∙ sym (ap (λ (p : Power). p .0) (List·getD-map (λ (x : Float). record { 0 = x }) mw u zero64)) in
+    let same : getD mw u d ≡ loadAt (powers mw) u = any-default mw u d zero64 h ∙ sym (ap (λ (p : Power). p .0) (List·getD-map (λ (x : Float). record { 0 = x }) mw u zero64)) in
     rw (same, k, e, upTo-more)
 
 abbrev busOf : Visit → ℕ
 busOf v = v .bus
-
--- an array has room for 256 visits
-pub walked-short : (o : List Visit) (w : Walk) → w ≡ walked o → length (w .bus) ≡ 256 → w .count ≤ 256
-unfolding walked filled
-walked-short o w e h =
-    let n : w .count ≡ length o = rw e in
-    let l : length (map busOf o ++ replicate (256 - length (map busOf o)) 0) ≡ 256 = rw e at h in
-    omega (arith, simp (length-append, length-map, length-replicate) at l)
 
 pub walked-load : (loads : List Power) (o : List Visit) (w : Walk) → w ≡ walked o → arrayLoad loads (w .bus) (w .count) ≡ walkLoad (loadAt loads) o
 unfolding walked filled arrayLoad walkLoad
@@ -75,7 +61,7 @@ module _ (far first next : List ℕ) (loads : List Power) (branches : List Branc
   pub total-live : (k : ℕ) (d : Branch) (t x t′ : Float) → k < length branches → t ≡ rowTotal far first next loads branches base live k → getD live k false ≡ true
       → x ≡ termOf (getD branches k d .r) (loadBehind far first next live loads k) base → t′ ≡ add binary64 t x → t′ ≡ rowTotal far first next loads branches base live (k + 1)
   unfolding rowTotal totalOf
-  total-live k d t x t′ l e h p q = rw (q, p, e, getD-inside branches k d noBranch l, upTo-more, h)
+  total-live k d t x t′ l e h p q = rw (q, p, e, any-default branches k d noBranch l, upTo-more, h)
 
   pub total-dead : (k : ℕ) (t t′ : Float) → t ≡ rowTotal far first next loads branches base live k → getD live k false ≡ false → t′ ≡ t → t′ ≡ rowTotal far first next loads branches base live (k + 1)
   unfolding rowTotal totalOf

@@ -4,7 +4,6 @@ use mathlib.Core.Bool.{Bool}
 use mathlib.Core.List.{List}
 use Prim.Native.Nat.{ℕ, _<_, _≤_}
 use native.Mathlib.Omega.{arith}
-use lib.Ieee.{Float}
 use lib.ListN.{length, getD}
 use Rattle.numbers.specs.TableLaws.{length-table, getD-table}
 use Rattle.network.specs.declared.bus.Power.{Power}
@@ -14,21 +13,17 @@ use Rattle.network.specs.Check.{checkRecords}
 use Rattle.network.specs.Inside.{Inside}
 use Rattle.network.specs.InsideLaws.{check-inside}
 use Rattle.network.specs.Live.{live}
-use Rattle.network.specs.Records.{Network, noBus, noBranch, recordsOf}
+use Rattle.network.specs.Records.{noBus, noBranch, recordsOf}
 use Rattle.graph.specs.declared.rows.Graph.{Graph}
 use Rattle.graph.specs.Feeder.{feeder}
 use Rattle.graph.specs.FeederLaws.{feeder-sound, feeder-small}
-use Rattle.graph.specs.FeederRowLaws.{flags-live, fromEnds, toEnds, feeder-positions, same-buses, same-branches, feeder-ends}
-use Rattle.graph.specs.FeederRows.{feederGraph, liveFlags}
+use Rattle.graph.specs.FeederRowLaws.{flags-live, feeder-positions, same-buses, same-branches, feeder-ends}
+use Rattle.graph.specs.FeederRows.{feederGraph, liveFlags, fromEnds, toEnds}
 use Rattle.graph.specs.Rows.{flag, netOf}
-use Rattle.losses.specs.Loss.{loss, lossIn}
+use Rattle.losses.specs.Loss.{lossWith, lossIn}
 use Rattle.losses.specs.LossSame.{loss-same}
 use Rattle.losses.specs.RowLoss.{loadAt, rowLoss, loadsOf}
 use Rattle.losses.specs.RowLossLaws.{row-loss}
-
--- the loss of a feeder with these branches live
-abbrev pub lossWith : Network → (ℕ → Bool) → Float
-lossWith N E = loss (feeder N) E (λ i. getD (N .buses) i noBus .pd .0) (λ k. getD (N .branches) k noBranch .r) (N .base)
 
 module _ (n : PowerNetwork) (sized : length (n .buses) ≡ 256) (ok : checkRecords (recordsOf n) ≡ accepted tt) where
   inside : Inside (recordsOf n)

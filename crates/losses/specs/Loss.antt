@@ -34,6 +34,10 @@ totalOf E r load base n = upTo (λ t k. cond (E k) (add binary64 t (termOf (r k)
 unfoldable pub loss : Net → (ℕ → Bool) → (ℕ → Float) → (ℕ → Float) → Float → Float
 loss N E pd r base = cond (eqb (N .buses) 0) zero64 (totalOf E r (λ k. walkLoad pd (downstream N E k)) base (N .branches))
 
+-- the loss of a feeder with these branches live
+abbrev pub lossWith : Network → (ℕ → Bool) → Float
+lossWith N E = loss (feeder N) E (λ i. getD (N .buses) i noBus .pd .0) (λ k. getD (N .branches) k noBranch .r) (N .base)
+
 -- the loss of a feeder in a state of its switches, in MW
 unfoldable pub lossIn : Network → List ℕ → Float
-lossIn N s = loss (feeder N) (live N s) (λ i. getD (N .buses) i noBus .pd .0) (λ k. getD (N .branches) k noBranch .r) (N .base)
+lossIn N s = lossWith N (live N s)

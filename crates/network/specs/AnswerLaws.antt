@@ -1,9 +1,10 @@
 -- Answers taken apart: what an accepted answer says of its parts.
 use mathlib.Core.Path.{_≡_, refl, sym, ap, subst, _∙_}
 use mathlib.Core.Logic.{_↔_}
-use mathlib.Core.Bool.{Bool, true, false, _||_, true≢false}
+use mathlib.Core.Bool.{Bool, true, false, not, true≢false}
 use mathlib.Core.List.{List, [], _∷_}
 use Prim.Native.Nat.{ℕ}
+use borrow.Author.Tests.{not-false}
 use Rattle.network.specs.declared.error.Verdict.{Verdict}
 use Rattle.network.specs.declared.error.Verdict.the-variants.{Accepted, Refused}
 use Rattle.network.specs.Answers.{Answer, accepted, refused, answerOf, _andThen_, Fault, _if_, judge}
@@ -26,32 +27,47 @@ judge-iff [] p = (λ e. tt, λ e. refl)
 judge-iff ((n if true) ∷ fs) p = (λ e. no-refusal e, λ h. absurd (true≢false (h .0)))
 judge-iff ((n if false) ∷ fs) p = (λ e. (refl, judge-iff fs p .0 e), λ h. judge-iff fs p .1 (h .1))
 
+-- of one condition
+pub judge-accepted : (n : ℕ) (b : Bool) (place : ℕ) → (judge ((n if not b) ∷ []) place ≡ accepted tt) ↔ (b ≡ true)
+judge-accepted n b place = (λ e. not-false b (judge-iff _ place .0 e .0), λ e. judge-iff _ place .1 (ap not e, tt))
+
 pub then-iff : (v w : Answer (Unit {0})) → ((v andThen w) ≡ accepted tt) ↔ ((v ≡ accepted tt) × (w ≡ accepted tt))
 unfolding _andThen_
 then-iff (accepted u) w = (λ e. (refl, e), λ h. h .1)
 then-iff (refused n p) w = (λ e. no-refusal e, λ h. no-refusal (h .0))
 
--- a verdict in the place of an answer
+-- the value of an accepted answer
+abbrev value-of : {A : Type 0} → A → Answer A → A
+value-of d (accepted a) = a
+value-of d (refused n p) = d
+
+pub same-value : {A : Type 0} {a b : A} → _≡_ {A = Answer A} (accepted a) (accepted b) → a ≡ b
+same-value {a = a} e = ap (value-of a) e
+
+-- ---- answers one behind the other: the first refusal decides
+module _ {A : Type 0} {a : Answer (Unit {0})} (b : Answer A) where
+  pub decides : {n p : ℕ} → a ≡ refused n p → refused n p ≡ (a andThen b)
+  unfolding _andThen_
+  decides e = rw e
+
+  pub gives-way : a ≡ accepted tt → b ≡ (a andThen b)
+  unfolding _andThen_
+  gives-way e = rw e
+
+-- ---- a verdict in the place of an answer
 pub accepted-so : {v : Verdict} {a : Answer (Unit {0})} → v ≡ Accepted → answerOf v ≡ a → a ≡ accepted tt
 accepted-so r e = sym e ∙ ap answerOf r
 
--- a verdict in the place of the first answer
+pub refused-so : {v : Verdict} {a : Answer (Unit {0})} {n p : ℕ} → v ≡ Refused n p → answerOf v ≡ a → a ≡ refused n p
+refused-so r e = sym e ∙ ap answerOf r
+
+-- in the place of the first answer
 pub refused-then : (v : Verdict) (a b : Answer (Unit {0})) (n p : ℕ) → v ≡ Refused n p → answerOf v ≡ a → answerOf v ≡ (a andThen b)
-unfolding _andThen_
-refused-then v a b n p r e = rw (← e, r)
+refused-then v a b n p r e = ap answerOf r ∙ decides b (refused-so r e)
 
 pub accepted-then : {A : Type 0} (v : Verdict) (a : Answer (Unit {0})) (b : Answer A) → v ≡ Accepted → answerOf v ≡ a → b ≡ (a andThen b)
-unfolding _andThen_
-accepted-then v a b r e = rw (← e, r)
+accepted-then v a b r e = gives-way b (accepted-so r e)
 
 -- a refusal goes on, whatever the answer would have been
 pub refused-first : {A : Type 0} (v : Verdict) (a : Answer (Unit {0})) (b : Answer A) (n p : ℕ) → v ≡ Refused n p → answerOf v ≡ a → refused n p ≡ (a andThen b)
-unfolding _andThen_
-refused-first v a b n p r e = rw (← e, r)
-
-pub neither : (a b : Bool) → (a || b) ≡ false → (a ≡ false) × (b ≡ false)
-neither true b e = absurd (true≢false e)
-neither false b e = (refl, e)
-
-pub or-none : (a b : Bool) → a ≡ false → b ≡ false → (a || b) ≡ false
-or-none a b p q = rw (p, q)
+refused-first v a b n p r e = decides b (refused-so r e)

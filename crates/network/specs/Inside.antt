@@ -4,6 +4,7 @@ use mathlib.Core.Path.{_≡_}
 use mathlib.Core.Bool.{true}
 use Prim.Native.Nat.{ℕ, _≤_, _<_}
 use lib.ListN.{length}
+use Rattle.numbers.specs.Distinct.{Distinct}
 use Rattle.network.specs.Records.{Network}
 use Rattle.network.specs.Faults.{okBase, okLoad, okR, busId, switchId, on, ties, methodByte}
 
@@ -11,11 +12,6 @@ use Rattle.network.specs.Faults.{okBase, okLoad, okR, busId, switchId, o
 abbrev pub Each : {A : Type 0} → (A → Type 0) → List A → Type 0
 Each P [] = Unit {0}
 Each P (a ∷ rest) = P a × Each P rest
-
--- none stands twice in the list
-abbrev pub Distinct : List ℕ → Type 0
-Distinct [] = Unit {0}
-Distinct (x ∷ xs) = (List·Memᴰ x xs → ⊥) × Distinct xs
 
 -- a bus with this id is listed
 abbrev pub Listed : Network → ℕ → Type 0

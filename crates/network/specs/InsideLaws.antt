@@ -8,16 +8,18 @@ use native.Mathlib.Omega.{arith}
 use lib.Dec.{leb, ltb, eqb}
 use borrow.Author.Tests.{ltb-false, le-ltb, leb-false, lt-leb, eqb-true, eq-eqb, not-false}
 use Rattle.numbers.specs.TableLaws.{map-snoc}
+use Rattle.numbers.specs.Tests.{neither, or-none}
+use Rattle.numbers.specs.Distinct.{Distinct}
 use Rattle.network.specs.declared.bus.Bus.{Bus}
 use Rattle.network.specs.declared.branch.Branch.{Branch}
 use Rattle.network.specs.declared.switch.Switch.{Switch}
 use Rattle.network.specs.Records.{Network}
 use Rattle.network.specs.Answers.{accepted, Fault, judge}
-use Rattle.network.specs.AnswerLaws.{Passes, judge-iff, then-iff, neither, or-none}
+use Rattle.network.specs.AnswerLaws.{Passes, judge-iff, then-iff}
 use Rattle.network.specs.Faults.{Head, okBase, okLoad, okR, among, busId, switchId, on, ties, methodByte, headFaults, busFaults, branchFaults, switchFaults}
 use Rattle.network.specs.FaultLaws.{ties-more}
 use Rattle.network.specs.Check.{headOf, checkRun, checkRecords}
-use Rattle.network.specs.Inside.{Each, Distinct, Listed, Inside}
+use Rattle.network.specs.Inside.{Each, Listed, Inside}
 
 -- ---- Q holds of each of the list, with those before it
 abbrev Through : {A : Type 0} → (List A → A → Type 0) → List A → List A → Type 0

@@ -12,10 +12,11 @@ pub mod FaultLaws
 pub mod CheckLaws
 pub mod InsideLaws
 pub mod Positions
-pub mod InsidePositions
 pub mod LookupLaws
 pub mod RecordLaws
 pub mod LiveLaws
 pub mod ReadLaws
 pub mod WholeCheck
 pub mod Examples
+pub mod Switches
+pub mod Listed

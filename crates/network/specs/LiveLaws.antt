@@ -119,13 +119,6 @@ pub live-configuration : (N : Network) (s : List ℕ) (k : ℕ) → length s ≡
 live-configuration N s k e h = rw (configuration-padded s h) (live-padded N 512 s k e)
 
 -- ---- the base
-pub base-length : (N : Network) → length (baseState N) ≡ length (N .switches)
-unfolding baseState
-base-length N = length-map (N .switches) (λ w. stateByte (w .«normally_open»))
-
-pub base-padded : (N : Network) → length (N .switches) ≤ 512 → configurationOf (baseState N) .switches ≡ padded 512 0 (baseState N)
-base-padded N h = configuration-padded (baseState N) (omega (arith, base-length N))
-
 pub base-at : (n : PowerNetwork) (i : ℕ) → i < n .«switch_count» → getD (baseState (recordsOf n)) i 0 ≡ stateByte (getD (n .switches) i noSwitch .«normally_open»)
 unfolding baseState recordsOf
 base-at n i h =

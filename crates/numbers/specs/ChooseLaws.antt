@@ -8,8 +8,8 @@ use native.Mathlib.Decide.{ℕ-discrete}
 use native.Mathlib.Omega.{arith}
 use lib.Dec.{eqb}
 use lib.ListN.{length, getD}
+use borrow.Author.Tests.{eq-eqb, ne-eqb}
 use Rattle.numbers.specs.UpTo.{upTo}
-use Rattle.numbers.specs.Counts.{eqb-true, eqb-false}
 use Rattle.numbers.specs.Choose.{those, firstOf, indexOf}
 
 module _ (p : ℕ → Bool) where
@@ -66,14 +66,14 @@ index-found x [] m = absurd (List·Memᴰ·not-nil m)
 index-found x (y ∷ l) m = go (ℕ-discrete x y) (List·Memᴰ·cases-cons m) (index-found x l)
   where
     go : Dec (x ≡ y) → (x ≡ y) ⊎ List·Memᴰ x l → (List·Memᴰ x l → indexOf x l < length l) → cond (eqb x y) zero (suc (indexOf x l)) < suc (length l)
-    go (yes e) c ih = rw (eqb-true e) (omega arith)
+    go (yes e) c ih = rw (eq-eqb _ _ e) (omega arith)
     go (no n) (inl e) ih = absurd (n e)
-    go (no n) (inr m) ih = rw (eqb-false x y n) (omega (arith, ih m))
+    go (no n) (inr m) ih = rw (ne-eqb x y n) (omega (arith, ih m))
 
 -- what stands at position i, and at no position before it, is found there
 pub index-at : (l : List ℕ) (d i : ℕ) → i < length l → ((j : ℕ) → j < i → getD l j d ≢ getD l i d) → indexOf (getD l i d) l ≡ i
 unfolding indexOf
 index-at [] d i l h = absurd (omega arith)
-index-at (y ∷ xs) d zero l h = rw (eqb-true {a = y} refl)
+index-at (y ∷ xs) d zero l h = rw (eq-eqb y _ refl)
 index-at (y ∷ xs) d (suc i) l h =
-    rw (eqb-false (getD xs i d) y (λ e. h zero (omega arith) (sym e)), index-at xs d i (omega arith) (λ j k. h (suc j) (omega arith)))
+    rw (ne-eqb (getD xs i d) y (λ e. h zero (omega arith) (sym e)), index-at xs d i (omega arith) (λ j k. h (suc j) (omega arith)))

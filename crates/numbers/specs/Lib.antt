@@ -12,3 +12,4 @@ pub mod Bounds
 pub mod Signs
 pub mod Sums
 pub mod RangeLaws
+pub mod Distinct

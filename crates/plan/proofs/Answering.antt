@@ -8,8 +8,9 @@ use Rattle.network.specs.declared.error.Verdict.{Verdict}
 use Rattle.network.specs.declared.error.Verdict.the-variants.{Refused}
 use Rattle.network.specs.declared.topology.PowerNetwork.{PowerNetwork}
 use Rattle.network.specs.Records.{Network, recordsOf}
-use Rattle.network.specs.Answers.{Answer, accepted, refused, answerOf, _andThen_, judge}
+use Rattle.network.specs.Answers.{accepted, refused, answerOf, judge}
 use Rattle.network.specs.Check.{checkRecords}
+use Rattle.network.specs.Switches.{State}
 use Rattle.graph.specs.declared.rows.Graph.{Graph}
 use Rattle.graph.specs.Feeder.{radialIn}
 use Rattle.graph.specs.Rows.{rowRadial}
@@ -18,19 +19,10 @@ use Rattle.graph.specs.FeederRowLaws.{live-row-radial}
 use Rattle.printing.specs.Printed.{written}
 use Rattle.printing.specs.CallLaws.{call-refused, call-short, call-done}
 use Rattle.plan.specs.declared.pairs.PairList.{PairList}
-use Rattle.plan.specs.Plan.{State, Moves, plan, planText, checkRadial, checkPlan, planned}
+use Rattle.plan.specs.Plan.{Moves, plan, planText, checkRadial, checkPlan, planned}
 use Rattle.plan.specs.Stored.{movesIn}
 use Rattle.plan.specs.Length.{length-text}
 use Rattle.plan.proofs.PairLists.{length-moves}
-
--- ---- answers one behind the other
-pub decides : {a : Answer (Unit {0})} (b : Answer (Unit {0})) {number place : ℕ} → a ≡ refused number place → refused number place ≡ (a andThen b)
-unfolding _andThen_
-decides b e = rw e
-
-pub gives-way : {a b : Answer (Unit {0})} → a ≡ accepted tt → b ≡ (a andThen b)
-unfolding _andThen_
-gives-way e = rw e
 
 -- ---- refusal 11
 module _ (n : PowerNetwork) (buses : length (n .buses) ≡ 256) (passed : checkRecords (recordsOf n) ≡ accepted tt) (s : State) (place : ℕ)

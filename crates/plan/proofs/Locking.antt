@@ -10,12 +10,14 @@ use Rattle.network.specs.declared.switch.Switch.{Switch}
 use Rattle.network.specs.declared.topology.PowerNetwork.{PowerNetwork}
 use Rattle.network.specs.Records.{noSwitch, recordsOf}
 use Rattle.network.specs.Answers.{accepted, refused}
+use Rattle.network.specs.Listed.{switches-listed, switch-at}
+use Rattle.network.specs.Switches.{State, byte, branchOf, operable}
 use Rattle.graph.specs.Rows.{flag}
 use Rattle.graph.specs.FeederRows.{liveFlags}
-use Rattle.plan.specs.Plan.{State, byte, branchOf, operable, differing, lockedDifferences, refuseLocked, checkLocked}
+use Rattle.plan.specs.Plan.{differing, lockedDifferences, refuseLocked, checkLocked}
 use Rattle.plan.specs.Stored.{Checked}
 use Rattle.plan.specs.Onward.{onward, onward-all, onward-none, onward-yes, onward-no}
-use Rattle.plan.proofs.Passing.{switches-listed, switch-listed, flag-live}
+use Rattle.plan.proofs.Passing.{flag-live}
 
 module _ (n : PowerNetwork) (present wanted : State) where
   -- refusal 12's condition on the switch at position i
@@ -44,7 +46,7 @@ module _ (n : PowerNetwork) (present wanted : State) where
       module _ {a b d : Bool} (f : a ≡ flag before (s .«branch_idx»)) (g : b ≡ flag after (s .«branch_idx»))
           (e : d ≡ (not (eqb (getD present at 0) (getD wanted at 0)) && (((a && not b) || (b && not a)) && not (s .«can_operate»)))) where
         listed : getD (recordsOf n .switches) i noSwitch ≡ s
-        listed = switch-listed n i h ∙ ap (λ (j : ℕ). getD (n .switches) j noSwitch) (sym here)
+        listed = switch-at n i h ∙ ap (λ (j : ℕ). getD (n .switches) j noSwitch) (sym here)
 
         locked : lockedAt i ≡ d
         unfolding lockedAt differing

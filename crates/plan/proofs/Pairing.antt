@@ -21,19 +21,21 @@ use Rattle.network.specs.Live.{live}
 use Rattle.graph.specs.declared.rows.Graph.{Graph}
 use Rattle.graph.specs.Walk.{bfsPath}
 use Rattle.graph.specs.Feeder.{feeder}
-use Rattle.graph.specs.FeederLaws.{feeder-sound, feeder-small}
+use Rattle.graph.specs.FeederLaws.{feeder-sound, feeder-small, feeder-few}
 use Rattle.graph.specs.Rows.{flag, rowNet, rowPath}
 use Rattle.graph.specs.FeederRows.{feederGraph, liveFlags}
 use Rattle.graph.specs.FeederRowLaws.{flags-live, feeder-row-ends, feeder-row-path}
 use Rattle.plan.specs.declared.pairs.PairList.{PairList}
-use Rattle.plan.specs.Plan.{State, branchOf, Pair, closings, pathBefore, opening, exchanged, pairsFrom, pairs, switchOn, movesOf, plan, checkPlan}
+use Rattle.network.specs.Switches.{State, branchOf}
+use Rattle.network.specs.Listed.{switches-listed, few-switches, switch-at}
+use Rattle.plan.specs.Plan.{Pair, closings, pathBefore, opening, exchanged, pairsFrom, pairs, switchOn, movesOf, plan, checkPlan}
 use Rattle.plan.specs.Stored.{movesIn, rowOpening}
 use Rattle.plan.specs.Onward.{onward, onward-all, onward-none, onward-yes, onward-no}
 use Rattle.plan.specs.Exchanges.{opened-live}
 use Rattle.plan.specs.Stages.{Leads, next}
 use Rattle.plan.specs.Accepted.{plan-accepted, accepted-plannable}
 use Rattle.plan.specs.Planner.{pairs-lead}
-use Rattle.plan.proofs.Passing.{inside, switches-listed, switch-listed, few-switches, few-branches, flag-live}
+use Rattle.plan.proofs.Passing.{inside, flag-live}
 use Rattle.plan.proofs.PairLists.{length-moves}
 
 -- the flags after a pair
@@ -110,7 +112,7 @@ module _ (n : PowerNetwork) (present wanted : State) where
         k = getD (n .switches) at noSwitch .«branch_idx»
 
         on-k : branchOf N i ≡ k
-        on-k = ap (λ (s : Switch). s .«branch_idx») (switch-listed n i h ∙ ap (λ (j : ℕ). getD (n .switches) j noSwitch) (sym here))
+        on-k = ap (λ (s : Switch). s .«branch_idx») (switch-at n i h ∙ ap (λ (j : ℕ). getD (n .switches) j noSwitch) (sym here))
 
         present-live : live N present (branchOf N i) ≡ flag before k
         present-live = rw (on-k, p) (sym (flag-live n passed present k))
@@ -158,10 +160,10 @@ module _ (n : PowerNetwork) (present wanted : State) where
           on = leads-on (rw first-left at (m .leads))
 
           k-small : k < 512
-          k-small = omega (arith, on .0, few-branches n passed)
+          k-small = omega (arith, on .0, feeder-few N (inside n passed))
 
           f-small : f < 512
-          f-small = omega (arith, on .1, few-branches n passed)
+          f-small = omega (arith, on .1, feeder-few N (inside n passed))
 
           row-opening : rowOpening graph flags after k ≡ f
           unfolding rowOpening opening pathBefore

@@ -5,20 +5,12 @@ use mathlib.Core.List.{List, _∷_}
 use Prim.Native.Nat.{ℕ, _+_, _≤_, _<_}
 use native.Mathlib.Numerals.{add-one}
 use native.Mathlib.Omega.{arith}
-use lib.ListN.{length, getD, drop, length-append, drop-of-length-le, List·getD-append}
+use lib.ListN.{length, getD, drop, drop-of-length-le, List·getD-append}
 use lib.Seq.{drop-cons}
 use Rattle.numbers.specs.Choose.{firstOf}
 use Rattle.graph.specs.declared.walks.Path.{Path}
 use Rattle.graph.specs.Rows.{flag, filled, pathOf}
 use Rattle.plan.specs.Stored.{firstUnwanted}
-
--- a path fits its array
-pub path-fits : (path : Path) (l : List ℕ) → path ≡ pathOf l → length (path .branch) ≡ 256 → path .count ≤ 256
-unfolding pathOf filled
-path-fits path l e h =
-    let c : path .count ≡ length l = ap (λ (p : Path). p .count) e in
-    let b = simp length-append at (ap (λ (p : Path). length (p .branch)) e) in
-    omega arith
 
 module _ (path : Path) (wanted : List Bool) where
   pub record Wanted (i : ℕ) : Type 0 where

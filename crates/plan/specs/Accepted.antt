@@ -4,30 +4,31 @@ use mathlib.Core.Path.{_≡_, refl, sym, ap, _∙_}
 use mathlib.Core.Logic.{_⊎_, inl, inr, _↔_, _≢_}
 use mathlib.Core.Bool.{Bool, true, false, not, _&&_, _||_, true≢false, false≢true}
 use mathlib.Core.List.{List, [], _∷_, map, List·Memᴰ·head, List·Memᴰ·not-nil}
-use Prim.Native.Nat.{ℕ, zero, suc, _≤_, _<_}
+use Prim.Native.Nat.{ℕ, _<_}
 use native.Mathlib.Omega.{arith}
-use lib.Dec.{leb, eqb}
+use lib.Dec.{eqb}
 use lib.ListN.{length, getD}
-use borrow.Author.Tests.{not-true, not-false, leb-true, le-leb}
-use Rattle.numbers.specs.Counts.{eqb-true, eqb-of, eqb-false}
+use borrow.Author.Tests.{eq-eqb, ne-eqb, not-true}
 use Rattle.numbers.specs.Choose.{indexOf, those}
 use Rattle.numbers.specs.ChooseLaws.{in-those, of-those}
 use Rattle.numbers.specs.Tests.{both, which, clash}
 use Rattle.network.specs.Records.{Network, noSwitch}
-use Rattle.network.specs.Answers.{accepted, _if_, judge}
+use Rattle.network.specs.Answers.{accepted}
 use Rattle.network.specs.Faults.{switchId, on}
 use Rattle.network.specs.Check.{checkRecords}
-use Rattle.network.specs.AnswerLaws.{judge-iff, then-iff}
+use Rattle.network.specs.AnswerLaws.{judge-accepted, then-iff}
 use Rattle.network.specs.InsideLaws.{check-inside}
 use Rattle.network.specs.Positions.{each-at, index-own}
 use Rattle.network.specs.Inside.{Inside}
-use Rattle.network.specs.Live.{live, each, checkState}
+use Rattle.network.specs.Live.{live}
+use Rattle.network.specs.Listed.{state-accepted}
+use Rattle.network.specs.Switches.{State, byte, branchOf, operable, GoodState}
 use Rattle.graph.specs.Feeder.{feeder, radialIn}
 use Rattle.graph.specs.FeederLaws.{feeder-sound, feeder-small, radial-in-tree}
-use Rattle.plan.specs.Plan.{State, byte, branchOf, operable, switchOn, checkRadial, differing, lockedDifferences, checkLocked, refuseLocked, checkPlan}
+use Rattle.plan.specs.Plan.{switchOn, checkRadial, differing, lockedDifferences, checkLocked, refuseLocked, checkPlan}
 use Rattle.plan.specs.Claim.{switchAt}
 use Rattle.plan.specs.LiveLaws.{On}
-use Rattle.plan.specs.Plannable.{Regular, GoodState, Free, Plannable}
+use Rattle.plan.specs.Plannable.{Regular, Free, Plannable}
 
 module _ (N : Network) (inside : Inside N) where
   on-found : {k i : ℕ} → On N k i → indexOf k (map on (N .switches)) ≡ i
@@ -43,26 +44,7 @@ module _ (N : Network) (inside : Inside N) where
         ap (λ j. switchAt N (getD (N .switches) j noSwitch .id)) (on-found o) ∙ index-own switchId (N .switches) (inside .switch-ids) _ noSwitch (o .listed);
   }
 
-judge-accepted : (n : ℕ) (b : Bool) (place : ℕ) → (judge ((n if not b) ∷ []) place ≡ accepted tt) ↔ (b ≡ true)
-judge-accepted n b place = (λ e. not-false b (judge-iff _ place .0 e .0), λ e. judge-iff _ place .1 (ap not e, tt))
-
-each-bytes : (s : State) → (each (λ b. leb b 1) s ≡ true) ↔ ((i : ℕ) → i < length s → byte s i ≤ 1)
-unfolding each
-each-bytes [] = (λ e i b. absurd (omega arith), λ h. refl)
-each-bytes (x ∷ s) = (λ e. fore (both (leb x 1) _ e .0) (each-bytes s .0 (both (leb x 1) _ e .1)), λ h. rw (le-leb x 1 (h 0 (omega arith)), each-bytes s .1 (λ i b. h (suc i) (omega arith))))
-  where
-    fore : leb x 1 ≡ true → ((i : ℕ) → i < length s → byte s i ≤ 1) → (i : ℕ) → i < length (x ∷ s) → byte (x ∷ s) i ≤ 1
-    fore e h zero b = leb-true x 1 e
-    fore e h (suc i) b = h i (omega arith)
-
 module _ (N : Network) where
-  pub state-accepted : (s : State) (place : ℕ) → (checkState N s place ≡ accepted tt) ↔ GoodState N s
-  unfolding checkState
-  state-accepted s place = (λ e. fore (both _ _ (judge-accepted 10 _ place .0 e)), λ h. judge-accepted 10 (eqb (length s) (length (N .switches)) && each (λ b. leb b 1) s) place .1 (rw (eqb-true (h .long), each-bytes s .1 (λ i b. h .bytes i (omega (arith, h .long))))))
-    where
-      fore : (eqb (length s) (length (N .switches)) ≡ true) × (each (λ b. leb b 1) s ≡ true) → GoodState N s
-      fore h = let long : length s ≡ length (N .switches) = eqb-of _ _ (h .0) in record { long = long; bytes = λ i b. each-bytes s .0 (h .1) i (omega arith) }
-
   pub radial-accepted : (s : State) (place : ℕ) → (checkRadial N s place ≡ accepted tt) ↔ (radialIn N s ≡ true)
   unfolding checkRadial
   radial-accepted s place = judge-accepted 11 (radialIn N s) place
@@ -93,7 +75,7 @@ module _ (N : Network) where
             → (operable N i ≡ true) ⊎ (operable N i ≡ false) → operable N i ≡ true
         fore e i l n d (inl o) = o
         fore e i l n d (inr o) =
-            absurd (List·Memᴰ·not-nil (rw e at (in-those locked (length (N .switches)) i l (rw (eqb-false (byte present i) (byte wanted i) n, differs (branchOf N i) .1 d, o)))))
+            absurd (List·Memᴰ·not-nil (rw e at (in-those locked (length (N .switches)) i l (rw (ne-eqb (byte present i) (byte wanted i) n, differs (branchOf N i) .1 d, o)))))
 
         back : Free N present wanted → (l : List ℕ) → those locked (length (N .switches)) ≡ l → l ≡ []
         back h [] e = refl
@@ -101,7 +83,7 @@ module _ (N : Network) where
             let (b, t) = of-those locked (length (N .switches)) i (rw e (List·Memᴰ·head refl)) in
             let p = both (not (eqb (byte present i) (byte wanted i))) _ t in
             let q = both (differing N present wanted (branchOf N i)) _ (p .1) in
-            clash (h i b (λ z. clash (eqb-true z) (not-true _ (p .0))) (differs (branchOf N i) .0 (q .0))) (not-true _ (q .1))
+            clash (h i b (λ z. clash (eq-eqb _ _ z) (not-true _ (p .0))) (differs (branchOf N i) .0 (q .0))) (not-true _ (q .1))
 
     -- the planner accepts exactly where its conditions hold, one after the other
     pub plan-accepted : (checkPlan N present wanted ≡ accepted tt)
@@ -114,14 +96,14 @@ module _ (N : Network) where
           let (w, e₃) = then-iff _ _ .0 e₂ in
           let (r, e₄) = then-iff _ _ .0 e₃ in
           let (v, e₅) = then-iff _ _ .0 e₄ in
-          (n, state-accepted present 0 .0 p, state-accepted wanted 1 .0 w, radial-accepted present 0 .0 r, radial-accepted wanted 1 .0 v, locked-accepted .0 e₅),
+          (n, state-accepted N present 0 .0 p, state-accepted N wanted 1 .0 w, radial-accepted present 0 .0 r, radial-accepted wanted 1 .0 v, locked-accepted .0 e₅),
       λ (n, p, w, r, v, f).
           then-iff _ _ .1 (
             n,
             then-iff _ _ .1 (
-              state-accepted present 0 .1 p,
+              state-accepted N present 0 .1 p,
               then-iff _ _ .1 (
-                state-accepted wanted 1 .1 w,
+                state-accepted N wanted 1 .1 w,
                 then-iff _ _ .1 (radial-accepted present 0 .1 r, then-iff _ _ .1 (radial-accepted wanted 1 .1 v, locked-accepted .1 f)),
               ),
             ),

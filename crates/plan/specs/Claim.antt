@@ -14,9 +14,10 @@ use Rattle.network.specs.Records.{Network, noBranch}
 use Rattle.network.specs.Answers.{accepted}
 use Rattle.network.specs.Faults.{switchId}
 use Rattle.network.specs.Live.{live}
+use Rattle.network.specs.Switches.{State, byte, branchOf, operable, GoodState}
 use Rattle.graph.specs.Graph.{Path, Loop, Tree}
 use Rattle.graph.specs.Feeder.{feeder, LiveIn}
-use Rattle.plan.specs.Plan.{State, byte, branchOf, operable, Moves, plan, checkPlan}
+use Rattle.plan.specs.Plan.{Moves, plan, checkPlan}
 
 -- ---- the two kinds of step
 -- the position of the switch with this id
@@ -74,11 +75,6 @@ after N present wanted xs = run N (plan N present wanted) xs (record { state = p
 -- ---- what is claimed of them
 abbrev pub SameLive : Network → State → State → Type 0
 SameLive N s t = (k : ℕ) → live N s k ≡ live N t k
-
--- one byte 00 or 01 for each switch
-pub record GoodState (N : Network) (s : State) : Type 0 where
-  pub long : length s ≡ length (N .switches)
-  pub bytes : (i : ℕ) → i < length (N .switches) → byte s i ≤ 1
 
 -- from s to t branch e becomes live, branch f ceases to be, and every other stays as it is
 pub record Exchanged (N : Network) (s t : State) (e f : ℕ) : Type 0 where

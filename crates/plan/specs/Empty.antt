@@ -7,7 +7,8 @@ use native.Mathlib.Omega.{arith}
 use lib.ListN.{length}
 use Rattle.network.specs.Records.{Network}
 use Rattle.network.specs.Answers.{accepted}
-use Rattle.plan.specs.Plan.{State, Moves, plan, checkPlan}
+use Rattle.network.specs.Switches.{State}
+use Rattle.plan.specs.Plan.{Moves, plan, checkPlan}
 use Rattle.plan.specs.Claim.{run, after, SameLive, othersCarriedOut}
 use Rattle.plan.specs.Proof.{demand3}
 

@@ -18,6 +18,7 @@ use Rattle.network.specs.Answers.{accepted, refused, _andThen_, judge}
 use Rattle.network.specs.Faults.{okBase, okLoad, okR, among, ties, headFaults, busFaults, branchFaults, switchFaults}
 use Rattle.network.specs.Check.{headOf, checkRun, checkRecords}
 use Rattle.network.specs.Live.{live, openOn, each, checkState, baseState}
+use Rattle.network.specs.Switches.{State, byte}
 use Rattle.frames.specs.Hex.{digit, digits, writeFields}
 use Rattle.frames.specs.Acceptable.{frameText}
 use Rattle.printing.specs.Printed.{written, pairText}
@@ -26,7 +27,7 @@ use Rattle.graph.specs.Walk.{far, neighbours, reached, enter, enterAll, turn, w
 use Rattle.graph.specs.Walk as Walk
 use Rattle.graph.specs.Radial.{radial}
 use Rattle.graph.specs.Feeder.{position, feeder, radialIn}
-use Rattle.plan.specs.Plan.{State, byte, closings, pathBefore, opening, exchanged, pairsFrom, pairs, switchOn, plan, checkRadial, differing, lockedDifferences, checkLocked, checkPlan, planText, planned}
+use Rattle.plan.specs.Plan.{closings, pathBefore, opening, exchanged, pairsFrom, pairs, switchOn, plan, checkRadial, differing, lockedDifferences, checkLocked, checkPlan, planText, planned}
 use Rattle.plan.specs.Proof.{demand3}
 use Rattle.plan.specs.Claim.{closed, carriedOut, Step, forward, back, found, taken, run, after, SwitchingPlan}
 

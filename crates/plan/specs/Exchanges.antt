@@ -6,7 +6,7 @@ use mathlib.Core.Bool.{Bool, true, false}
 use mathlib.Core.List.{List, List·Memᴰ}
 use Prim.Native.Nat.{ℕ, _<_}
 use native.Mathlib.Decide.{ℕ-discrete}
-use Rattle.numbers.specs.Counts.{eqb-true, eqb-false}
+use borrow.Author.Tests.{eq-eqb, ne-eqb}
 use Rattle.numbers.specs.Tests.{clash}
 use Rattle.graph.specs.Graph.{Net, Sound, Live, Plus, Minus, Path, Tree}
 use Rattle.graph.specs.Chains.{_⊆_, on-chain, chain-more}
@@ -37,15 +37,15 @@ module _ {G : Net} {E : ℕ → Bool} {q : Pair} (h : Fits G E q) where
 
   pub closing-closed : exchanged E q (q .closed) ≡ true
   unfolding exchanged
-  closing-closed = rw (eqb-false _ _ pair-differs, eqb-true {a = q .closed} refl)
+  closing-closed = rw (ne-eqb _ _ pair-differs, eq-eqb (q .closed) _ refl)
 
 pub opening-opened : (E : ℕ → Bool) (q : Pair) → exchanged E q (q .opened) ≡ false
 unfolding exchanged
-opening-opened E q = rw (eqb-true {a = q .opened} refl)
+opening-opened E q = rw (eq-eqb (q .opened) _ refl)
 
 pub exchanged-other : (E : ℕ → Bool) (q : Pair) (k : ℕ) → k ≢ q .closed → k ≢ q .opened → exchanged E q k ≡ E k
 unfolding exchanged
-exchanged-other E q k n m = rw (eqb-false _ _ m, eqb-false _ _ n)
+exchanged-other E q k n m = rw (ne-eqb _ _ m, ne-eqb _ _ n)
 
 module _ {G : Net} {E : ℕ → Bool} {q : Pair} (h : Fits G E q) (t : Tree G (Live G E)) where
   exchanged-more : Minus (Plus (Live G E) (q .closed)) (q .opened) ⊆ Live G (exchanged E q)

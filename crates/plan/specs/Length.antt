@@ -1,17 +1,19 @@
 -- How long a plan is: as many pairs as branches live in the wanted state are missing, so fewer than there are buses; and how long its text is.
-use mathlib.Core.Path.{_≡_, refl, sym, ap, _∙_}
+use mathlib.Core.Path.{_≡_, refl}
 use mathlib.Core.Bool.{Bool, true, false, _&&_, _||_}
 use mathlib.Core.List.{List}
 use Prim.Native.Nat.{ℕ, zero, suc, _-_, _*_, _≤_}
 use native.Mathlib.Omega.{arith}
 use lib.Dec.{eqb}
 use lib.ListN.{length, length-map}
-use Rattle.numbers.specs.Counts.{count, eqb-of}
+use borrow.Author.Tests.{eqb-true}
+use Rattle.numbers.specs.Counts.{count}
 use Rattle.numbers.specs.CountLaws.{count-mono}
 use Rattle.numbers.specs.Tests.{both}
 use Rattle.network.specs.Records.{Network}
 use Rattle.network.specs.Answers.{accepted}
 use Rattle.network.specs.Live.{live}
+use Rattle.network.specs.Switches.{State}
 use Rattle.graph.specs.Graph.{Net, Sound}
 use Rattle.graph.specs.Radial.{radial}
 use Rattle.graph.specs.Walk.{walk}
@@ -19,7 +21,7 @@ use Rattle.graph.specs.Feeder.{feeder, radialIn}
 use Rattle.printing.specs.Printed.{pair, pairText}
 use Rattle.printing.specs.WrittenLaws.{length-frame}
 use Rattle.printing.specs.LineTexts.{length-lines}
-use Rattle.plan.specs.Plan.{State, Moves, plan, pairs, movesOf, checkPlan, planText}
+use Rattle.plan.specs.Plan.{Moves, plan, pairs, movesOf, checkPlan, planText}
 use Rattle.plan.specs.Missing.{missing, lacks, lacks-so}
 use Rattle.plan.specs.Stages.{leads-missing}
 use Rattle.plan.specs.Planner.{pairs-lead}
@@ -36,8 +38,8 @@ live-few G E sound r = go (eqb (G .buses) 0) refl r
 
     go : (b : Bool) → eqb (G .buses) 0 ≡ b → (b || (eqb (suc (count E (G .branches))) (G .buses) && eqb (length (walk G E 0 0)) (G .buses))) ≡ true
         → count E (G .branches) ≤ G .buses - 1
-    go true e h = let z : G .buses ≡ 0 = eqb-of _ _ e in let n = none (G .branches) refl z in omega arith
-    go false e h = let c : suc (count E (G .branches)) ≡ G .buses = eqb-of _ _ (both (eqb (suc (count E (G .branches))) (G .buses)) _ h .0) in omega arith
+    go true e h = let z : G .buses ≡ 0 = eqb-true _ _ e in let n = none (G .branches) refl z in omega arith
+    go false e h = let c : suc (count E (G .branches)) ≡ G .buses = eqb-true _ _ (both (eqb (suc (count E (G .branches))) (G .buses)) _ h .0) in omega arith
 
 pub plan-short : (N : Network) (present wanted : State) → checkPlan N present wanted ≡ accepted tt → length (plan N present wanted) ≤ length (N .buses) - 1
 unfolding plan feeder radialIn missing

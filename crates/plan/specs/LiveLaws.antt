@@ -9,13 +9,12 @@ use native.Mathlib.Omega.{arith}
 use lib.Dec.{eqb}
 use lib.ListN.{length, getD, set, List·getD-eq-default}
 use lib.Seq.{getD-set-same, getD-set-other}
-use borrow.Author.Tests.{not-true}
-use Rattle.numbers.specs.Counts.{eqb-true, eqb-of}
+use borrow.Author.Tests.{eq-eqb, eqb-true, not-true}
 use Rattle.numbers.specs.Tests.{both, either, which, clash, not-so, same-test}
 use Rattle.network.specs.declared.switch.Switch.{Switch}
 use Rattle.network.specs.Records.{Network, noBranch, noSwitch}
 use Rattle.network.specs.Live.{live, openOn}
-use Rattle.plan.specs.Plan.{State, byte, branchOf}
+use Rattle.network.specs.Switches.{State, byte, branchOf}
 
 -- the status of branch k is 01
 abbrev pub InService : Network → ℕ → Type 0
@@ -30,7 +29,7 @@ open-yes : (ws : List Switch) (s : State) (k i : ℕ) → i < length ws → getD
 unfolding openOn
 open-yes [] s k i l e b = absurd (omega arith)
 open-yes (w ∷ ws) [] k i l e b = absurd (omega arith)
-open-yes (w ∷ ws) (c ∷ s) k zero l e b = rw (eqb-true e, eqb-true b)
+open-yes (w ∷ ws) (c ∷ s) k zero l e b = rw (eq-eqb _ _ e, eq-eqb _ _ b)
 open-yes (w ∷ ws) (c ∷ s) k (suc i) l e b = rw (open-yes ws s k i (omega arith) e b) (or-true (eqb (w .«branch_idx») k && eqb c 1))
 
 open-find : (ws : List Switch) (s : State) (k : ℕ) → openOn ws s k ≡ true → (i : ℕ) × (i < length ws) × (getD ws i noSwitch .«branch_idx» ≡ k) × (byte s i ≡ 1)
@@ -42,7 +41,7 @@ open-find (w ∷ ws) (c ∷ s) k h = go (either _ _ h) (open-find ws s k)
     go : ((eqb (w .«branch_idx») k && eqb c 1) ≡ true) ⊎ (openOn ws s k ≡ true)
         → (openOn ws s k ≡ true → (i : ℕ) × (i < length ws) × (getD ws i noSwitch .«branch_idx» ≡ k) × (byte s i ≡ 1))
         → (i : ℕ) × (i < suc (length ws)) × (getD (w ∷ ws) i noSwitch .«branch_idx» ≡ k) × (byte (c ∷ s) i ≡ 1)
-    go (inl e) ih = let p = both (eqb (w .«branch_idx») k) _ e in (zero, omega arith, eqb-of _ _ (p .0), eqb-of _ _ (p .1))
+    go (inl e) ih = let p = both (eqb (w .«branch_idx») k) _ e in (zero, omega arith, eqb-true _ _ (p .0), eqb-true _ _ (p .1))
     go (inr e) ih = let (i, l, p, b) = ih e in (suc i, omega arith, p, b)
 
 module _ (N : Network) (s : State) (k : ℕ) where

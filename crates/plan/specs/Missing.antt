@@ -9,16 +9,17 @@ use native.Mathlib.Decide.{ℕ-discrete}
 use native.Mathlib.Omega.{arith}
 use lib.Dec.{eqb}
 use lib.ListN.{length}
-use borrow.Author.Tests.{not-true}
-use Rattle.numbers.specs.Counts.{count, count-cong, count-none, count-drop, eqb-false}
+use borrow.Author.Tests.{ne-eqb, not-true}
+use Rattle.numbers.specs.Counts.{count, count-cong, count-none, count-drop}
 use Rattle.numbers.specs.CountLaws.{count-but}
 use Rattle.numbers.specs.Tests.{both, clash, not-so}
 use Rattle.numbers.specs.TableLaws.{getD-table}
 use Rattle.network.specs.Records.{Network}
 use Rattle.network.specs.Live.{live}
+use Rattle.network.specs.Switches.{State, byte, branchOf}
 use Rattle.graph.specs.Graph.{Net}
 use Rattle.graph.specs.Feeder.{feeder}
-use Rattle.plan.specs.Plan.{State, byte, branchOf, Pair, exchanged}
+use Rattle.plan.specs.Plan.{Pair, exchanged}
 use Rattle.plan.specs.Claim.{OtherPair, otherCarriedOut, othersCarriedOut}
 use Rattle.plan.specs.LiveLaws.{On, live-less}
 use Rattle.plan.specs.Exchanges.{Fits, closing-closed, exchanged-other}
@@ -76,7 +77,7 @@ module _ (N : Network) (W : ℕ → Bool) where
         where
           go : (t : Bool) → cond t 1 (cond (eqb (branchOf N i) (q .closes)) 0 (byte s i)) ≡ 1
           go true = refl
-          go false = rw (eqb-false (branchOf N i) (q .closes) (λ e. n (sym (o .here) ∙ e)), b)
+          go false = rw (ne-eqb (branchOf N i) (q .closes) (λ e. n (sym (o .here) ∙ e)), b)
 
   other-missing : (q : OtherPair) (s : State) → missing (feeder N) W (live N s) ≤ suc (missing (feeder N) W (live N (otherCarriedOut N q s)))
   unfolding missing

@@ -11,6 +11,7 @@ use lib.Seq.{getD-set-same, getD-set-other, set-set, set-comm, set-getD}
 use Rattle.numbers.specs.Tests.{clash}
 use Rattle.network.specs.Records.{Network}
 use Rattle.network.specs.Live.{live}
+use Rattle.network.specs.Switches.{State, byte, branchOf, operable, GoodState}
 use Rattle.graph.specs.Graph.{Net, Branches, Live, Plus, Path, Loop, Tree}
 use Rattle.graph.specs.Feeder.{feeder, LiveIn}
 use Rattle.graph.specs.Chains.{_⊆_}
@@ -18,11 +19,11 @@ use Rattle.graph.specs.Paths.{path-more}
 use Rattle.graph.specs.Forests.{path-unique}
 use Rattle.graph.specs.Trees.{tree-forest, tree-same}
 use Rattle.graph.specs.Loops.{closing-makes-loop, one-loop}
-use Rattle.plan.specs.Plan.{State, byte, branchOf, operable, Pair, exchanged, Moves, movesOf}
+use Rattle.plan.specs.Plan.{Pair, exchanged, Moves, movesOf}
 use Rattle.plan.specs.Claim.{switchAt, closed, carriedOut, turned, Exchanged, OnLoop}
 use Rattle.plan.specs.LiveLaws.{InService, On, moved-other, opened-dead, closed-live, byte-open, byte-closed}
 use Rattle.plan.specs.Exchanges.{turnedPair, Fits, opened-live, pair-differs, closing-closed, opening-opened, exchanged-other, exchanged-tree, fits-back}
-use Rattle.plan.specs.Plannable.{Regular, GoodState}
+use Rattle.plan.specs.Plannable.{Regular}
 
 -- branch k is in service, and has an operable switch
 pub record Switchable (N : Network) (k : ℕ) : Type 0 where

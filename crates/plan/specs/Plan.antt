@@ -6,6 +6,7 @@ use lib.Dec.{eqb}
 use lib.ListN.{length, getD}
 use Rattle.numbers.specs.Choose.{those, firstOf, indexOf}
 use Rattle.network.specs.Records.{Network, noSwitch}
+use Rattle.network.specs.Switches.{State, byte, branchOf, operable}
 use Rattle.network.specs.Answers.{Answer, accepted, refused, _andThen_, _if_, judge}
 use Rattle.network.specs.Faults.{on}
 use Rattle.network.specs.Check.{checkRecords}
@@ -16,20 +17,6 @@ use Rattle.graph.specs.Walk.{bfsPath}
 use Rattle.graph.specs.Feeder.{feeder, radialIn}
 use Rattle.plan.specs.declared.planner.PlanAnswer.{PlanAnswer}
 use Rattle.plan.specs.declared.planner.PlanAnswer.the-variants.{Pairs, Refused}
-
--- a byte for each switch: 00 closed, 01 open
-abbrev pub State : Type 0
-State = List ℕ
-
-abbrev pub byte : State → ℕ → ℕ
-byte s i = getD s i 0
-
--- the branch that switch i is on, and whether the switch can operate
-abbrev pub branchOf : Network → ℕ → ℕ
-branchOf N i = getD (N .switches) i noSwitch .«branch_idx»
-
-abbrev pub operable : Network → ℕ → Bool
-operable N i = getD (N .switches) i noSwitch .«can_operate»
 
 -- ---- pairs of branches
 -- document 01's pair: a branch that is closed, then a branch that is opened

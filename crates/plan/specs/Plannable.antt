@@ -6,11 +6,11 @@ use Prim.Native.Nat.{ℕ, _≤_, _<_}
 use lib.ListN.{length}
 use Rattle.network.specs.Records.{Network}
 use Rattle.network.specs.Live.{live}
+use Rattle.network.specs.Switches.{State, byte, branchOf, operable, GoodState}
 use Rattle.graph.specs.Graph.{Sound, Tree}
 use Rattle.graph.specs.Feeder.{feeder, LiveIn}
-use Rattle.plan.specs.Plan.{State, byte, branchOf, operable, switchOn}
+use Rattle.plan.specs.Plan.{switchOn}
 use Rattle.plan.specs.Claim.{switchAt}
-pub use Rattle.plan.specs.Claim.{GoodState}
 use Rattle.plan.specs.LiveLaws.{On}
 
 pub record Regular (N : Network) : Type 0 where

@@ -3,24 +3,24 @@
 use mathlib.Core.Path.{_≡_, refl, sym, ap, _∙_}
 use mathlib.Core.Logic.{_⊎_, inl, inr}
 use mathlib.Core.Bool.{Bool, true, false, not, _&&_}
-use mathlib.Core.List.{List, [], _∷_, _++_, map, List·Memᴰ, List·Memᴰ·head, List·Memᴰ·tail, List·Memᴰ·not-nil, List·Memᴰ·cases-cons, List·Memᴰ·append-cases, List·Memᴰ·eq-of-singleton, Memᴰ·cast, Memᴰ·map, Memᴰ·of-map}
-use Prim.Native.Nat.{ℕ, zero, suc, _<_}
+use mathlib.Core.List.{List, [], _∷_, List·Memᴰ, List·Memᴰ·head, List·Memᴰ·tail, List·Memᴰ·not-nil, List·Memᴰ·cases-cons, Memᴰ·cast, Memᴰ·map, Memᴰ·of-map}
+use Prim.Native.Nat.{ℕ, _<_}
 use native.Mathlib.Decide.{ℕ-discrete, decLt}
-use native.Mathlib.Omega.{arith}
 use lib.ListN.{length}
 use borrow.Author.Tests.{not-true, not-false}
-use Rattle.numbers.specs.UpTo.{upTo}
 use Rattle.numbers.specs.Choose.{those}
-use Rattle.numbers.specs.ChooseLaws.{those-more, in-those, of-those, first-cases}
+use Rattle.numbers.specs.ChooseLaws.{in-those, of-those, first-cases}
 use Rattle.numbers.specs.Tests.{both, which, clash, same-test}
+use Rattle.numbers.specs.Distinct.{Distinct, distinct-those, distinct-map}
 use Rattle.network.specs.Records.{Network}
 use Rattle.network.specs.Live.{live}
-use Rattle.graph.specs.Graph.{Net, Branches, Live, Chain, stay, step, Distinct, Path, Connected, Tree}
+use Rattle.network.specs.Switches.{State, branchOf}
+use Rattle.graph.specs.Graph.{Net, Branches, Live, Chain, stay, step, Path, Connected, Tree}
 use Rattle.graph.specs.Feeder.{feeder}
 use Rattle.graph.specs.Chains.{_⊆_}
 use Rattle.graph.specs.Trees.{tree-forest, part-is-whole}
 use Rattle.graph.specs.WalkLaws.{bfs-path}
-use Rattle.plan.specs.Plan.{State, branchOf, Pair, closings, pathBefore, opening, exchanged, pairsFrom, pairs}
+use Rattle.plan.specs.Plan.{Pair, closings, pathBefore, opening, exchanged, pairsFrom, pairs}
 use Rattle.plan.specs.LiveLaws.{live-one}
 use Rattle.plan.specs.Plannable.{Regular, Free, Plannable}
 use Rattle.plan.specs.Exchanges.{Fits, opened-live, closing-closed, opening-opened, exchanged-other, exchanged-tree}
@@ -31,30 +31,6 @@ use Rattle.plan.specs.Stages.{Leads, there, next}
 chain-within : {G : Net} {S R : Branches} {a b : ℕ} {l : List ℕ} → Chain G S a b l → ((x : ℕ) → List·Memᴰ x l → S x → R x) → Chain G R a b l
 chain-within (stay e) h = stay e
 chain-within (step {k = k} s e c) h = step (h k (List·Memᴰ·head refl) s) e (chain-within c (λ x m. h x (List·Memᴰ·tail m)))
-
-distinct-append : (l : List ℕ) (x : ℕ) → Distinct l → ¬ List·Memᴰ x l → Distinct (l ++ (x ∷ []))
-distinct-append [] x d n = (List·Memᴰ·not-nil, tt)
-distinct-append (y ∷ l) x d n = (λ m. go (List·Memᴰ·append-cases l m), distinct-append l x (d .1) (λ m. n (List·Memᴰ·tail m)))
-  where
-    go : List·Memᴰ y l ⊎ List·Memᴰ y (x ∷ []) → ⊥
-    go (inl m) = d .0 m
-    go (inr m) = n (List·Memᴰ·head (sym (List·Memᴰ·eq-of-singleton m)))
-
-distinct-those : (p : ℕ → Bool) (n : ℕ) → Distinct (those p n)
-unfolding those upTo
-distinct-those p zero = tt
-distinct-those p (suc n) = go (p n) refl (distinct-those p n)
-  where
-    go : (b : Bool) → p n ≡ b → Distinct (those p n) → Distinct (those p (suc n))
-    go true t ih = rw (those-more p n, t) (distinct-append (those p n) n ih (λ m. absurd (omega (arith, of-those p n n m .0))))
-    go false t ih = rw (those-more p n, t) ih
-
-distinct-map : (f : ℕ → ℕ) (l : List ℕ) → Distinct l → ((x y : ℕ) → List·Memᴰ x l → List·Memᴰ y l → f x ≡ f y → x ≡ y) → Distinct (map f l)
-distinct-map f [] d h = tt
-distinct-map f (x ∷ l) d h = (
-  λ m. let (y, k, e) = Memᴰ·of-map f l m in d .0 (Memᴰ·cast (h x y (List·Memᴰ·head refl) (List·Memᴰ·tail k) (sym e)) k),
-  distinct-map f l (d .1) (λ y z k m. h y z (List·Memᴰ·tail k) (List·Memᴰ·tail m)),
-)
 
 -- a branch live in one of two states only is in service, and it has a switch that differs: where those are operable, it can be moved
 one-only : (N : Network) (s t : State) → Free N s t → (k : ℕ) → live N s k ≡ true → live N t k ≡ false → Switchable N k

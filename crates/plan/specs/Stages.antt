@@ -10,9 +10,10 @@ use native.Mathlib.Omega.{arith}
 use lib.ListN.{length, drop, getElem?}
 use Rattle.numbers.specs.Tests.{clash}
 use Rattle.network.specs.Records.{Network}
+use Rattle.network.specs.Switches.{State, byte, branchOf}
 use Rattle.graph.specs.Graph.{Live, Tree}
 use Rattle.graph.specs.Feeder.{feeder}
-use Rattle.plan.specs.Plan.{State, byte, branchOf, Pair, exchanged, Moves, movesOf}
+use Rattle.plan.specs.Plan.{Pair, exchanged, Moves, movesOf}
 use Rattle.plan.specs.Claim.{carriedOut, turned, turnedIf, Step, forward, back, found, Point, taken, run}
 use Rattle.plan.specs.Plannable.{Regular}
 use Rattle.plan.specs.Exchanges.{turnedPair, opened-live, exchanged-other}

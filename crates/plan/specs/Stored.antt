@@ -11,10 +11,11 @@ use Rattle.network.specs.Records.{recordsOf}
 use Rattle.network.specs.Answers.{accepted}
 use Rattle.network.specs.Check.{checkRecords}
 use Rattle.network.specs.Live.{checkState}
+use Rattle.network.specs.Switches.{State}
 use Rattle.graph.specs.declared.rows.Graph.{Graph}
 use Rattle.graph.specs.Rows.{flag, rowNet, rowPath}
 use Rattle.plan.specs.declared.pairs.PairList.{PairList}
-use Rattle.plan.specs.Plan.{State, Moves}
+use Rattle.plan.specs.Plan.{Moves}
 
 -- the pairs in a list
 unfoldable pub movesIn : PairList → List Moves

@@ -14,13 +14,14 @@ use Rattle.network.specs.Check.{checkRecords}
 use Rattle.network.specs.Inside.{Inside}
 use Rattle.network.specs.InsideLaws.{check-inside}
 use Rattle.network.specs.Live.{baseState}
+use Rattle.network.specs.Switches.{branchOf, GoodState}
 use Rattle.printing.specs.Printed.{written}
 use Rattle.printing.specs.CallLaws.{call-passed}
 use Rattle.graph.specs.Feeder.{radialIn}
 use Rattle.losses.specs.Loss.{lossIn}
-use Rattle.plan.specs.Plan.{branchOf, plan, checkPlan, planText, planned}
+use Rattle.plan.specs.Plan.{plan, checkPlan, planText, planned}
 use Rattle.plan.specs.Claim.{SwitchingPlan}
-use Rattle.plan.specs.Plannable.{GoodState, Free}
+use Rattle.plan.specs.Plannable.{Free}
 use Rattle.plan.specs.Accepted.{plan-accepted}
 use Rattle.plan.specs.Proof.{demand3}
 use Rattle.reconfiguration.specs.Exchange.{exchange}

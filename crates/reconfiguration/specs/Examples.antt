@@ -15,12 +15,11 @@ use Rattle.numbers.specs.Choose.{those, least, firstSome, firstOf, indexOf, _or
 use Rattle.network.specs.Records.{Network}
 use Rattle.network.specs.Faults.{among, ties}
 use Rattle.network.specs.Live.{live, openOn, baseState}
+use Rattle.network.specs.Switches.{State, swapped, toggled}
 use Rattle.graph.specs.Walk.{far, neighbours, reached, enter, enterAll, turn, walkBy, walk, byOf, across, back, bfsPath}
 use Rattle.graph.specs.Radial.{radial}
 use Rattle.graph.specs.Feeder.{feeder, position, radialIn}
 use Rattle.losses.specs.Loss.{walkLoad, downstream, termOf, totalOf, loss, lossIn}
-use Rattle.plan.specs.Plan.{State}
-use Rattle.reconfiguration.specs.Switches.{swapped, toggled}
 use Rattle.reconfiguration.specs.Exchange.{loopOf, sectionOf, swapWith, trial, improves, kept, roundOf, afterRound, exchangeRounds, exchange}
 use Rattle.reconfiguration.specs.Tabu.{allowed, lesser, bestMove, lastSeven, afterMove, tabuRounds, tabu}
 use Rattle.reconfiguration.specs.Exhaustive as Ex

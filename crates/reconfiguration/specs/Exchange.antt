@@ -10,11 +10,10 @@ use Rattle.numbers.specs.UpTo.{upTo}
 use Rattle.numbers.specs.Choose.{least, firstSome}
 use Rattle.network.specs.Records.{Network}
 use Rattle.network.specs.Live.{live, baseState}
+use Rattle.network.specs.Switches.{State, byte, branchOf, operable, size, isTie, swapped}
 use Rattle.graph.specs.Walk.{bfsPath}
 use Rattle.graph.specs.Feeder.{feeder, radialIn}
 use Rattle.losses.specs.Loss.{lossIn}
-use Rattle.plan.specs.Plan.{State, byte, branchOf, operable}
-use Rattle.reconfiguration.specs.Switches.{size, isTie, swapped}
 
 -- "the normally open, operable, still open switches"
 abbrev pub seen : Network → State → ℕ → Bool

@@ -9,12 +9,12 @@ use native.Mathlib.Decide.{ℕ-discrete, decLt}
 use native.Mathlib.Omega.{arith}
 use lib.ListN.{length, set, List·getD-eq-default}
 use lib.Seq.{getD-set-same, getD-set-other}
-use Rattle.numbers.specs.Counts.{count, eqb-of, count-drop}
+use borrow.Author.Tests.{eqb-true}
+use Rattle.numbers.specs.Counts.{count, count-drop}
 use Rattle.numbers.specs.Tests.{both, clash, not-so}
 use Rattle.network.specs.Records.{Network}
 use Rattle.network.specs.Live.{baseState}
-use Rattle.plan.specs.Plan.{State, byte, operable}
-use Rattle.reconfiguration.specs.Switches.{size, isTie, swapped}
+use Rattle.network.specs.Switches.{State, byte, operable, size, isTie, swapped}
 use Rattle.reconfiguration.specs.Exchange.{seen, roundOf, Exchange, afterRound, exchange}
 use Rattle.reconfiguration.specs.Found.{IfSome}
 use Rattle.reconfiguration.specs.ExchangeLaws.{Swap, round-swaps, rounds-keep}
@@ -31,7 +31,7 @@ module _ (s : State) (tie section : ℕ) where
 module _ (N : Network) where
   -- what is seen is an open tie
   seen-open : (s : State) (i : ℕ) → seen N s i ≡ true → (isTie N i ≡ true) × (byte s i ≡ 1)
-  seen-open s i e = let p = both (isTie N i) _ e in (p .0, eqb-of _ _ (both (operable N i) _ (p .1) .1))
+  seen-open s i e = let p = both (isTie N i) _ e in (p .0, eqb-true _ _ (both (operable N i) _ (p .1) .1))
 
   module _ (s t : State) (w : Swap N s t) where
     tie-open : (isTie N (w .tie) ≡ true) × (byte s (w .tie) ≡ 1)

@@ -13,16 +13,15 @@ use Rattle.network.specs.declared.topology.PowerNetwork.{PowerNetwork}
 use Rattle.network.specs.Records.{Network, recordsOf}
 use Rattle.network.specs.Answers.{accepted}
 use Rattle.network.specs.Check.{checkRecords}
-use Rattle.network.specs.InsideLaws.{check-inside}
 use Rattle.network.specs.Live.{baseState}
 use Rattle.losses.specs.Loss.{lossIn}
-use Rattle.plan.specs.Plan.{State}
 use Rattle.reconfiguration.specs.declared.exchange.Trial.{Trial}
 use Rattle.reconfiguration.specs.declared.exchange.BranchExchange.{BranchExchange}
 use Rattle.reconfiguration.specs.States.{stateOf}
 use Rattle.reconfiguration.specs.Given.{Held, Base}
-use Rattle.reconfiguration.specs.StateLaws.{held, state-held, switches-listed, few-switches}
-use Rattle.reconfiguration.specs.Switches.{swapped}
+use Rattle.network.specs.Listed.{switches-listed, few-switches}
+use Rattle.network.specs.Switches.{State, swapped}
+use Rattle.reconfiguration.specs.StateLaws.{held, state-held}
 use Rattle.reconfiguration.specs.Exchange.{roundOf, Exchange, afterRound, exchangeRounds, exchange}
 use Rattle.reconfiguration.specs.Found.{IfSome}
 use Rattle.reconfiguration.specs.FromBase.{base-good}
@@ -79,9 +78,6 @@ pub record Standing (n : PowerNetwork) (y : BranchExchange) : Type 0 where
 module _ (n : PowerNetwork) (ok : checkRecords (recordsOf n) ≡ accepted tt) where
   few : n .«switch_count» ≤ 512
   few = few-switches n ok
-
-  pub rounds-few : n .«max_iterations» ≤ 1000
-  rounds-few = unfold recordsOf in check-inside (recordsOf n) .0 ok .iterations
 
   base-long : length (baseState (recordsOf n)) ≡ n .«switch_count»
   base-long = base-good (recordsOf n) .long ∙ switches-listed n

@@ -15,11 +15,11 @@ use Rattle.network.specs.declared.topology.PowerNetwork.{PowerNetwork}
 use Rattle.network.specs.Records.{noSwitch, recordsOf}
 use Rattle.graph.specs.Feeder.{radialIn}
 use Rattle.losses.specs.Loss.{lossIn}
-use Rattle.plan.specs.Plan.{State, byte, branchOf, operable}
 use Rattle.reconfiguration.specs.States.{stateOf}
 use Rattle.reconfiguration.specs.Given.{Held}
-use Rattle.reconfiguration.specs.StateLaws.{switches-listed, switch-at, byte-at, swapped-state, swapped-held}
-use Rattle.reconfiguration.specs.Switches.{isTie, swapped}
+use Rattle.network.specs.Listed.{switches-listed, switch-at}
+use Rattle.network.specs.Switches.{State, byte, branchOf, operable, isTie, swapped}
+use Rattle.reconfiguration.specs.StateLaws.{byte-at, swapped-state, swapped-held}
 use Rattle.reconfiguration.specs.Exchange.{sectionOf, swapWith}
 use Rattle.reconfiguration.specs.Found.{IfSome}
 use Rattle.reconfiguration.specs.ExchangeValues.{sectionAt, trialOf}

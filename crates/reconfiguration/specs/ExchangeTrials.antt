@@ -1,13 +1,13 @@
 -- What the code holds of a trial: the first swap along a path, the loop of a tie by the rows, and the last improving trial of a round.
 use mathlib.Core.Path.{_≡_, refl, sym, ap, _∙_}
 use mathlib.Core.Bool.{Bool, true, false, cond, _&&_}
-use mathlib.Core.List.{List, _++_}
+use mathlib.Core.List.{List}
 use mathlib.Core.Option.{Option, none, some}
 use Prim.Native.Nat.{ℕ, _+_, _-_, _≤_, _<_}
 use native.Mathlib.Omega.{arith}
 use lib.Dec.{eqb}
 use lib.Ieee.{Float, binary64, sub, lt}
-use lib.ListN.{length, getD, take, drop, replicate, length-append, length-replicate, length-take}
+use lib.ListN.{length, getD, take, drop, replicate, length-take}
 use lib.Seq.{getD-take, take-append-seam}
 use Rattle.numbers.specs.Constants.{zero64, billionth}
 use Rattle.numbers.specs.Tests.{clash}
@@ -18,7 +18,9 @@ use Rattle.network.specs.Records.{Network, noSwitch, recordsOf}
 use Rattle.network.specs.Answers.{accepted}
 use Rattle.network.specs.Check.{checkRecords}
 use Rattle.network.specs.InsideLaws.{check-inside}
-use Rattle.network.specs.InsidePositions.{on-a-branch}
+use Rattle.network.specs.Listed.{switches-listed, switch-at}
+use Rattle.network.specs.Positions.{on-a-branch}
+use Rattle.network.specs.Switches.{State, byte, branchOf}
 use Rattle.graph.specs.declared.rows.Graph.{Graph}
 use Rattle.graph.specs.declared.walks.Path.{Path}
 use Rattle.graph.specs.Rows.{filled, pathOf, rowNet, rowPath}
@@ -26,10 +28,9 @@ use Rattle.graph.specs.Feeder.{feeder}
 use Rattle.graph.specs.FeederLaws.{feeder-sound, feeder-small}
 use Rattle.graph.specs.FeederRows.{feederGraph, liveFlags}
 use Rattle.graph.specs.FeederRowLaws.{feeder-row-ends, live-row-path}
-use Rattle.plan.specs.Plan.{State, byte, branchOf}
 use Rattle.reconfiguration.specs.declared.exchange.Trial.{Trial}
 use Rattle.reconfiguration.specs.States.{stateOf}
-use Rattle.reconfiguration.specs.StateLaws.{switches-listed, switch-at, byte-at}
+use Rattle.reconfiguration.specs.StateLaws.{byte-at}
 use Rattle.reconfiguration.specs.Exchange.{seen, loopOf, sectionOf, swapWith, trial, improves, kept}
 use Rattle.reconfiguration.specs.ExchangeValues.{trialOf, seeing}
 use Rattle.reconfiguration.specs.Firsts.{first-next, first-found}
@@ -73,13 +74,6 @@ module _ (N : Network) (c : NetworkConfiguration) (f : ℕ → Option State) (ar
       go (some t) p e = e ∙ ap (trialOf N c) (sym (first-found f path i t inside (here (some t) p)) ∙ q)
 
 -- ---- a path as the code holds it
-pub path-short : (l : List ℕ) (p : Path) → p ≡ pathOf l → length (p .branch) ≡ 256 → p .count ≤ 256
-unfolding pathOf filled
-path-short l p e h =
-    let n : p .count ≡ length l = ap (λ x. x .count) e in
-    let m : length (l ++ replicate (256 - length l) 0) ≡ 256 = sym (ap (λ x. length (x .branch)) e) ∙ h in
-    omega (arith, simp (length-append, length-replicate) at m)
-
 path-list : (l : List ℕ) (p : Path) → p ≡ pathOf l → take (p .count) (p .branch) ≡ l
 unfolding pathOf filled
 path-list l p e = rw e (take-append-seam l (replicate (256 - length l) 0))
@@ -89,22 +83,16 @@ module _ (n : PowerNetwork) (ok : checkRecords (recordsOf n) ≡ accepted tt) (t
   abbrev on : ℕ
   on = getD (n .switches) tie noSwitch .«branch_idx»
 
-  on-listed : branchOf (recordsOf n) tie < length (recordsOf n .branches)
-  on-listed = on-a-branch (recordsOf n) (check-inside (recordsOf n) .0 ok) tie (omega (arith, switches-listed n))
-
   same-branch : branchOf (recordsOf n) tie ≡ on
   same-branch = ap (λ w. w .«branch_idx») (switch-at n tie h)
-
-  pub tie-on : on < 512
-  tie-on = omega (arith, on-listed, same-branch, check-inside (recordsOf n) .0 ok .counts .1)
 
   loop-by-rows : length (n .buses) ≡ 256 → (s : State) → rowPath (feederGraph n) (liveFlags (recordsOf n) s) (rowNet (feederGraph n) .from on) (rowNet (feederGraph n) .to on) ≡ loopOf (recordsOf n) s tie
   unfolding loopOf
   loop-by-rows sized s =
       let k = branchOf (recordsOf n) tie in
-      let listed : k < feeder (recordsOf n) .branches = unfold feeder in on-listed in
-      let ends = feeder-row-ends n sized ok k listed in
       let inside = check-inside (recordsOf n) .0 ok in
+      let listed : k < feeder (recordsOf n) .branches = unfold feeder in on-a-branch (recordsOf n) inside tie (omega (arith, switches-listed n)) in
+      let ends = feeder-row-ends n sized ok k listed in
       let small : feeder (recordsOf n) .from k < 256 = omega (arith, feeder-sound (recordsOf n) inside k listed .0, feeder-small (recordsOf n) inside) in
       rw (← same-branch, ends .0, ends .1) (live-row-path n sized ok s (feeder (recordsOf n) .from k) (feeder (recordsOf n) .to k) small)
 

@@ -7,8 +7,8 @@ use Rattle.numbers.specs.Constants.{zero64}
 use Rattle.network.specs.declared.configuration.NetworkConfiguration.{NetworkConfiguration}
 use Rattle.network.specs.Configuration.{configurationOf}
 use Rattle.network.specs.Records.{Network}
+use Rattle.network.specs.Switches.{State}
 use Rattle.losses.specs.Loss.{lossIn}
-use Rattle.plan.specs.Plan.{State}
 use Rattle.reconfiguration.specs.declared.exchange.Trial.{Trial}
 use Rattle.reconfiguration.specs.declared.exchange.BranchExchange.{BranchExchange}
 use Rattle.reconfiguration.specs.Exchange.{seen, trial, kept, Exchange}

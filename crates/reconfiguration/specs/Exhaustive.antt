@@ -9,10 +9,9 @@ use Rattle.numbers.specs.Counts.{count}
 use Rattle.network.specs.Records.{Network}
 use Rattle.network.specs.Faults.{ties}
 use Rattle.network.specs.Live.{baseState}
+use Rattle.network.specs.Switches.{State, size, isTie}
 use Rattle.graph.specs.Feeder.{radialIn}
 use Rattle.losses.specs.Loss.{lossIn}
-use Rattle.plan.specs.Plan.{State}
-use Rattle.reconfiguration.specs.Switches.{size, isTie}
 
 abbrev pub bit : ℕ → ℕ → Bool
 bit mask i = eqb (mask / 2 ^ i % 2) 1

@@ -11,12 +11,10 @@ use Rattle.numbers.specs.UpTo.{upTo-keeps}
 use Rattle.network.specs.Records.{Network}
 use Rattle.network.specs.Faults.{ties}
 use Rattle.network.specs.Live.{stateByte, live, baseState}
+use Rattle.network.specs.Switches.{byte, size, isTie, GoodState}
 use Rattle.graph.specs.Feeder.{radialIn}
 use Rattle.losses.specs.Loss.{lossIn}
-use Rattle.plan.specs.Plan.{byte}
 use Rattle.plan.specs.LiveLaws.{live-less}
-use Rattle.plan.specs.Plannable.{GoodState}
-use Rattle.reconfiguration.specs.Switches.{size, isTie}
 use Rattle.reconfiguration.specs.Exhaustive.{bit, masked, Least, lesser, withLoss, Exhaustive, tryMask, exhaustive, leastOrBase}
 use Rattle.reconfiguration.specs.Found.{IfSome, cond-holds}
 use Rattle.reconfiguration.specs.FromBase.{base-byte, base-good}

@@ -19,8 +19,8 @@ use Rattle.network.specs.Check.{checkRecords}
 use Rattle.network.specs.Faults.{ties, methodByte}
 use Rattle.network.specs.FaultLaws.{ties-next}
 use Rattle.network.specs.InsideLaws.{check-inside}
-use Rattle.reconfiguration.specs.StateLaws.{switches-listed, switch-at}
-use Rattle.reconfiguration.specs.Switches.{isTie}
+use Rattle.network.specs.Listed.{switches-listed, switch-at}
+use Rattle.network.specs.Switches.{isTie}
 use Rattle.reconfiguration.specs.Exhaustive.{masked}
 use Rattle.reconfiguration.specs.ExhaustiveLaws.{masked-byte, masked-good}
 

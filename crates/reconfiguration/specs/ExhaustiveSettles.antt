@@ -15,9 +15,9 @@ use Rattle.network.specs.Records.{Network}
 use Rattle.network.specs.Faults.{ties}
 use Rattle.network.specs.Inside.{Inside}
 use Rattle.network.specs.Live.{stateByte, baseState}
+use Rattle.network.specs.Switches.{isTie, size}
 use Rattle.graph.specs.Feeder.{radialIn}
 use Rattle.losses.specs.Loss.{lossIn}
-use Rattle.reconfiguration.specs.Switches.{isTie, size}
 use Rattle.reconfiguration.specs.Exhaustive.{bit, masked, lesser, withLoss, Exhaustive, tryMask, exhaustive, leastOrBase}
 use Rattle.reconfiguration.specs.Floats.{lt-self}
 use Rattle.reconfiguration.specs.FromBase.{base-byte, base-good}

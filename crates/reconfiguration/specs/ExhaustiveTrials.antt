@@ -14,12 +14,13 @@ use Rattle.network.specs.Records.{Network, recordsOf}
 use Rattle.network.specs.Answers.{accepted}
 use Rattle.network.specs.Check.{checkRecords}
 use Rattle.network.specs.Configuration.{configurationOf}
+use Rattle.network.specs.Listed.{few-switches}
 use Rattle.graph.specs.Feeder.{radialIn}
 use Rattle.losses.specs.Loss.{lossIn}
 use Rattle.reconfiguration.specs.declared.exhaustive.ExhaustiveSearch.{ExhaustiveSearch}
 use Rattle.reconfiguration.specs.States.{stateOf}
 use Rattle.reconfiguration.specs.Given.{Base}
-use Rattle.reconfiguration.specs.StateLaws.{few-switches, state-held}
+use Rattle.reconfiguration.specs.StateLaws.{state-held}
 use Rattle.reconfiguration.specs.Exhaustive.{masked, Least, lesser, withLoss, Exhaustive, tryMask, leastOrBase}
 use Rattle.reconfiguration.specs.ExhaustiveMasks.{masked-long}
 use Rattle.reconfiguration.specs.ExhaustiveValues.{isSome, exhaustiveOf, withRadial}

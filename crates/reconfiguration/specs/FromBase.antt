@@ -11,9 +11,7 @@ use lib.ListN.{length, set, length-set, length-map, List·getD-map}
 use lib.Seq.{getD-set-same, getD-set-other}
 use Rattle.network.specs.Records.{Network, noSwitch}
 use Rattle.network.specs.Live.{stateByte, baseState}
-use Rattle.plan.specs.Plan.{State, byte, operable}
-use Rattle.plan.specs.Plannable.{GoodState}
-use Rattle.reconfiguration.specs.Switches.{size, isTie, swapped, toggled}
+use Rattle.network.specs.Switches.{State, byte, operable, size, isTie, swapped, toggled, GoodState}
 
 pub record FromBase (N : Network) (s : State) : Type 0 where
   pub good : GoodState N s

@@ -1,4 +1,3 @@
-pub mod Switches
 pub mod States
 pub mod Given
 pub mod Exchange

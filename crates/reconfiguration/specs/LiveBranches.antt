@@ -7,13 +7,13 @@ use Rattle.numbers.specs.Tests.{clash, same-test}
 use Rattle.network.specs.Records.{Network}
 use Rattle.network.specs.Inside.{Inside}
 use Rattle.network.specs.Live.{live}
+use Rattle.network.specs.Switches.{State}
 use Rattle.graph.specs.Graph.{Tree}
 use Rattle.graph.specs.Trees.{part-is-whole}
 use Rattle.graph.specs.RadialLaws.{radial-tree}
 use Rattle.graph.specs.Feeder.{feeder, LiveIn, radialIn}
 use Rattle.graph.specs.FeederLaws.{feeder-sound, feeder-small}
 use Rattle.losses.specs.Loss.{lossIn}
-use Rattle.plan.specs.Plan.{State}
 use Rattle.plan.specs.Claim.{SameLive}
 use Rattle.plan.specs.LiveLaws.{live-listed}
 

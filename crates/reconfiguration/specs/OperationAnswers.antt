@@ -15,9 +15,8 @@ use Rattle.network.specs.Check.{checkRecords}
 use Rattle.network.specs.Live.{checkState}
 use Rattle.printing.specs.Printed.{written}
 use Rattle.printing.specs.CallLaws.{call-refused, call-short, call-done}
-use Rattle.plan.specs.Plan.{State}
-use Rattle.plan.specs.Accepted.{state-accepted}
-use Rattle.reconfiguration.specs.StateLaws.{switches-listed, few-switches}
+use Rattle.network.specs.Switches.{State}
+use Rattle.network.specs.Listed.{state-accepted, switches-listed, few-switches}
 use Rattle.reconfiguration.specs.Operations.{operations, operationsText, listed}
 use Rattle.reconfiguration.specs.OperationValues.{Stated, differs}
 use Rattle.reconfiguration.specs.OperationLines.{length-text, length-operations}

@@ -10,16 +10,16 @@ use lib.Dec.{eqb}
 use lib.ListN.{length, take, drop, length-append}
 use lib.Seq.{sets, length-sets}
 use borrow.Rule.Slice.PartMut.{putMid}
+use borrow.Author.Tests.{eq-eqb, ne-eqb}
 use Rattle.numbers.specs.UpTo.{upTo, upTo-more}
-use Rattle.numbers.specs.Counts.{count, count-yes, count-no, eqb-true, eqb-false}
+use Rattle.numbers.specs.Counts.{count, count-yes, count-no}
 use Rattle.network.specs.declared.switch.Switch.{Switch}
 use Rattle.network.specs.Records.{Network}
+use Rattle.network.specs.Switches.{State, byte, size, switch}
 use Rattle.printing.specs.declared.writer.SwitchOperation.{SwitchOperation}
 use Rattle.printing.specs.Printed.{operation, operationText, written}
 use Rattle.printing.specs.LineTexts as Texts
 use Rattle.printing.specs.WrittenLaws.{sets-append, written-sets, written-part, length-frame}
-use Rattle.plan.specs.Plan.{State, byte}
-use Rattle.reconfiguration.specs.Switches.{size, switch}
 use Rattle.reconfiguration.specs.Operations.{operationTo, operationOf, operations, operationsText}
 use Rattle.reconfiguration.specs.OperationValues.{differs, lineOf}
 
@@ -40,11 +40,11 @@ text-more l o = Texts.lines-more _ l o
 module _ (w : Switch) (from to : ℕ) where
   stays : from ≡ to → lineOf w from to ≡ []
   unfolding lineOf
-  stays e = rw (eqb-true e)
+  stays e = rw (eq-eqb _ _ e)
 
   changes : (from ≡ to → ⊥) → lineOf w from to ≡ operationText (operationTo w to)
   unfolding lineOf
-  changes d = rw (eqb-false from to d)
+  changes d = rw (ne-eqb from to d)
 
   length-change : (from ≡ to → ⊥) → length (lineOf w from to) ≡ 9
   length-change d = ap length (changes d) ∙ length-line (operationTo w to)
@@ -64,10 +64,10 @@ module _ (w : Switch) (from to : ℕ) where
 -- ---- how many switches stand otherwise
 module _ (from to : State) (i : ℕ) where
   pub one-same : byte from i ≡ byte to i → count (differs from to) (i + 1) ≡ count (differs from to) i
-  one-same e = rw add-one (count-no (differs from to) i (rw (eqb-true e)))
+  one-same e = rw add-one (count-no (differs from to) i (rw (eq-eqb _ _ e)))
 
   pub one-other : (byte from i ≡ byte to i → ⊥) → count (differs from to) (i + 1) ≡ count (differs from to) i + 1
-  one-other d = rw (add-one i, add-one) (count-yes (differs from to) i (rw (eqb-false (byte from i) (byte to i) d)))
+  one-other d = rw (add-one i, add-one) (count-yes (differs from to) i (rw (ne-eqb (byte from i) (byte to i) d)))
 
 -- ---- by rising position
 module _ (N : Network) (from to : State) where

@@ -7,8 +7,8 @@ use lib.Dec.{eqb}
 use lib.ListN.{length}
 use Rattle.network.specs.declared.switch.Switch.{Switch}
 use Rattle.network.specs.declared.topology.PowerNetwork.{PowerNetwork}
+use Rattle.network.specs.Switches.{State, byte}
 use Rattle.printing.specs.Printed.{operationText}
-use Rattle.plan.specs.Plan.{State, byte}
 use Rattle.reconfiguration.specs.Operations.{operationTo}
 
 -- a byte for each listed switch in both states

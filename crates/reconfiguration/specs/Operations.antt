@@ -10,14 +10,13 @@ use Rattle.network.specs.Answers.{Answer, accepted, refused, _andThen_}
 use Rattle.network.specs.Check.{checkRecords}
 use Rattle.network.specs.Live.{checkState}
 use Rattle.network.specs.declared.switch.Switch.{Switch}
+use Rattle.network.specs.Switches.{State, byte, size, switch}
 use Rattle.printing.specs.declared.writer.SwitchOperation.{SwitchOperation}
 use Rattle.printing.specs.declared.writer.SwitchAction.the-variants.{Open, Close}
 use Rattle.printing.specs.Printed.{operationText}
 use Rattle.printing.specs.Calls.{Call, called}
-use Rattle.plan.specs.Plan.{State, byte}
 use Rattle.reconfiguration.specs.declared.operations.OperationsAnswer.{OperationsAnswer}
 use Rattle.reconfiguration.specs.declared.operations.OperationsAnswer.the-variants.{Operations, Refused}
-use Rattle.reconfiguration.specs.Switches.{size, switch}
 
 -- what is done to a switch so that it stands as its byte in a state says
 unfoldable pub operationTo : Switch → ℕ → SwitchOperation

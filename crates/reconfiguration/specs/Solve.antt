@@ -11,10 +11,10 @@ use Rattle.network.specs.declared.switch.ReconfigAlgorithm.the-variants.{Branch
 use Rattle.network.specs.Answers.{Answer, accepted, refused}
 use Rattle.network.specs.Check.{checkRecords}
 use Rattle.network.specs.Live.{baseState}
+use Rattle.network.specs.Switches.{State}
 use Rattle.printing.specs.Calls.{Call, called}
 use Rattle.graph.specs.Feeder.{radialIn}
 use Rattle.losses.specs.Loss.{lossIn}
-use Rattle.plan.specs.Plan.{State}
 use Rattle.reconfiguration.specs.declared.solve.ReconfigResult.{ReconfigResult}
 use Rattle.reconfiguration.specs.declared.solve.SolveAnswer.{SolveAnswer}
 use Rattle.reconfiguration.specs.declared.solve.SolveAnswer.the-variants.{Solved, Refused}

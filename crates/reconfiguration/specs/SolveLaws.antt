@@ -1,9 +1,8 @@
 -- What the code of `solve` holds is what the definition says: the search by each method, the base, the result, and the call case by case.
 use mathlib.Core.Path.{_≡_, refl, sym, ap, _∙_}
 use mathlib.Core.Bool.{Bool, true}
-use mathlib.Core.List.{List, [], _∷_}
-use Prim.Native.Nat.{ℕ, _+_, _≤_, _<_}
-use native.Mathlib.Omega.{arith}
+use mathlib.Core.List.{List}
+use Prim.Native.Nat.{ℕ, _≤_, _<_}
 use lib.Dec.{ltb}
 use lib.Ieee.{Float}
 use lib.ListN.{length, take}
@@ -18,6 +17,7 @@ use Rattle.network.specs.Answers.{accepted, refused, answerOf}
 use Rattle.network.specs.Check.{checkRecords}
 use Rattle.network.specs.Configuration.{configurationOf}
 use Rattle.network.specs.Live.{baseState}
+use Rattle.network.specs.Listed.{switches-listed, few-switches}
 use Rattle.graph.specs.Feeder.{radialIn}
 use Rattle.losses.specs.Loss.{lossIn}
 use Rattle.printing.specs.Printed.{written}
@@ -28,7 +28,7 @@ use Rattle.reconfiguration.specs.declared.exhaustive.ExhaustiveSearch as
 use Rattle.reconfiguration.specs.declared.solve.Found.{Found}
 use Rattle.reconfiguration.specs.States.{stateOf}
 use Rattle.reconfiguration.specs.Given.{Base}
-use Rattle.reconfiguration.specs.StateLaws.{switches-listed, few-switches, state-held}
+use Rattle.reconfiguration.specs.StateLaws.{state-held}
 use Rattle.reconfiguration.specs.FromBase.{base-good}
 use Rattle.reconfiguration.specs.Exchange.{exchange}
 use Rattle.reconfiguration.specs.ExchangeValues.{exchangeOf}

@@ -13,31 +13,17 @@ use Rattle.numbers.specs.UpTo.{table}
 use Rattle.numbers.specs.TableLaws.{length-table, getD-table, as-table, take-table, table-cong}
 use Rattle.network.specs.declared.configuration.NetworkConfiguration.{NetworkConfiguration}
 use Rattle.network.specs.declared.topology.PowerNetwork.{PowerNetwork}
-use Rattle.network.specs.Records.{noBranch, noSwitch, recordsOf}
-use Rattle.network.specs.Answers.{accepted}
-use Rattle.network.specs.Check.{checkRecords}
-use Rattle.network.specs.InsideLaws.{check-inside}
+use Rattle.network.specs.Records.{noBranch, recordsOf}
 use Rattle.network.specs.Configuration.{configurationOf}
+use Rattle.network.specs.Listed.{switches-listed}
 use Rattle.network.specs.Live.{openOn, live}
 use Rattle.network.specs.LiveLaws.{open-take}
+use Rattle.network.specs.Switches.{byte, swapped, toggled}
 use Rattle.graph.specs.FeederRows.{liveFlags}
-use Rattle.plan.specs.Plan.{byte}
 use Rattle.reconfiguration.specs.States.{stateOf}
 use Rattle.reconfiguration.specs.Given.{Held}
-use Rattle.reconfiguration.specs.Switches.{switch, swapped, toggled}
 
 module _ (n : PowerNetwork) where
-  pub switches-listed : length (recordsOf n .switches) ≡ n .«switch_count»
-  unfolding recordsOf
-  switches-listed = length-table _ (n .«switch_count»)
-
-  pub few-switches : checkRecords (recordsOf n) ≡ accepted tt → n .«switch_count» ≤ 512
-  few-switches ok = omega (arith, check-inside (recordsOf n) .0 ok .counts .2, switches-listed)
-
-  pub switch-at : (i : ℕ) → i < n .«switch_count» → switch (recordsOf n) i ≡ getD (n .switches) i noSwitch
-  unfolding recordsOf
-  switch-at i h = getD-table (λ j. getD (n .switches) j noSwitch) (n .«switch_count») i noSwitch h
-
   module _ (c : NetworkConfiguration) where
     pub byte-at : (i : ℕ) → i < n .«switch_count» → byte (stateOf n c) i ≡ getD (c .switches) i 0
     unfolding stateOf
@@ -47,8 +33,8 @@ module _ (n : PowerNetwork) where
     unfolding live stateOf
     live-listed k =
         ap (λ b. getD (recordsOf n .branches) k noBranch .status && not b)
-        (sym (open-take (n .«switch_count») (recordsOf n .switches) (c .switches) k (inl (omega (arith, switches-listed))))
-        ∙ ap (λ ws. openOn ws (take (n .«switch_count») (c .switches)) k) (take-all (n .«switch_count») (recordsOf n .switches) (omega (arith, switches-listed))))
+        (sym (open-take (n .«switch_count») (recordsOf n .switches) (c .switches) k (inl (omega (arith, switches-listed n))))
+        ∙ ap (λ ws. openOn ws (take (n .«switch_count») (c .switches)) k) (take-all (n .«switch_count») (recordsOf n .switches) (omega (arith, switches-listed n))))
 
     -- what `live_branches` answers are the flags of the state
     pub flags-listed : table (live (recordsOf n) (c .switches)) 512 ≡ liveFlags (recordsOf n) (stateOf n c)

@@ -9,10 +9,9 @@ use Rattle.numbers.specs.UpTo.{upTo}
 use Rattle.network.specs.Records.{Network}
 use Rattle.network.specs.Faults.{among}
 use Rattle.network.specs.Live.{baseState}
+use Rattle.network.specs.Switches.{State, operable, size, switch, toggled}
 use Rattle.graph.specs.Feeder.{radialIn}
 use Rattle.losses.specs.Loss.{lossIn}
-use Rattle.plan.specs.Plan.{State, operable}
-use Rattle.reconfiguration.specs.Switches.{size, switch, toggled}
 
 -- a move that can be made: the state after it, its loss, and the id of the switch that it moves
 pub record Move : Type 0 where

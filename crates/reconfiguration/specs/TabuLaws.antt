@@ -9,10 +9,9 @@ use Rattle.numbers.specs.Tests.{both}
 use Rattle.numbers.specs.UpTo.{upTo-keeps}
 use Rattle.network.specs.Records.{Network}
 use Rattle.network.specs.Live.{baseState}
+use Rattle.network.specs.Switches.{State, operable, size, toggled}
 use Rattle.graph.specs.Feeder.{radialIn}
 use Rattle.losses.specs.Loss.{lossIn}
-use Rattle.plan.specs.Plan.{State, operable}
-use Rattle.reconfiguration.specs.Switches.{size, toggled}
 use Rattle.reconfiguration.specs.Tabu.{Move, Tabu, moveOf, allowed, lesser, bestMove, afterMove, tabuRounds, tabu}
 use Rattle.reconfiguration.specs.Found.{IfSome, cond-holds}
 

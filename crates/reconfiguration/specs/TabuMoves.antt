@@ -16,20 +16,18 @@ use Rattle.network.specs.Answers.{accepted}
 use Rattle.network.specs.Check.{checkRecords}
 use Rattle.network.specs.Faults.{among}
 use Rattle.network.specs.InsideLaws.{check-inside}
-use Rattle.network.specs.InsidePositions.{on-a-branch}
+use Rattle.network.specs.Listed.{switches-listed, few-switches, branch-at, switch-at, switch-listed, switch-small}
 use Rattle.network.specs.ReadLaws.{pastBranch, branch-read}
 use Rattle.network.specs.Configuration.{configurationOf}
+use Rattle.network.specs.Switches.{State, branchOf, operable, size, switch, toggled}
 use Rattle.numbers.specs.UpTo.{upTo, upTo-more}
-use Rattle.numbers.specs.TableLaws.{length-table, getD-table}
 use Rattle.graph.specs.Feeder.{radialIn}
 use Rattle.losses.specs.Loss.{lossIn}
-use Rattle.plan.specs.Plan.{State, branchOf, operable}
 use Rattle.plan.specs.Claim.{SameLive}
 use Rattle.reconfiguration.specs.declared.tabu.Candidate.{Candidate}
 use Rattle.reconfiguration.specs.declared.tabu.TabuSearch.{TabuSearch}
 use Rattle.reconfiguration.specs.States.{stateOf}
-use Rattle.reconfiguration.specs.StateLaws.{switches-listed, few-switches, switch-at, state-held, held, toggled-state, toggled-held}
-use Rattle.reconfiguration.specs.Switches.{size, switch, toggled}
+use Rattle.reconfiguration.specs.StateLaws.{state-held, held, toggled-state, toggled-held}
 use Rattle.reconfiguration.specs.LiveBranches.{same-radial, same-loss}
 use Rattle.reconfiguration.specs.Toggles.{toggled-unserved, toggled-radial}
 use Rattle.reconfiguration.specs.Tabu.{Move, Tabu, moveOf, allowed, lesser}
@@ -74,23 +72,13 @@ module _ (n : PowerNetwork) (ok : checkRecords (recordsOf n) ≡ accepted tt) (i
   switch-is : switch (recordsOf n) i ≡ sw
   switch-is = switch-at n i l ∙ sym is
 
-  branches-listed : length (recordsOf n .branches) ≡ n .«branch_count»
-  unfolding recordsOf
-  branches-listed = length-table _ (n .«branch_count»)
-
-  on-listed : sw .«branch_idx» < n .«branch_count»
-  on-listed = omega (arith, on-a-branch (recordsOf n) (check-inside (recordsOf n) .0 ok) i (omega (arith, switches-listed n)), ap (λ v. v .«branch_idx») switch-is, branches-listed)
-
-  pub on-branch : sw .«branch_idx» < 512
-  on-branch = omega (arith, on-listed, check-inside (recordsOf n) .0 ok .counts .1, branches-listed)
-
   -- what the code reads
   pub switch-read : length (n .branches) ≡ 512 → (on : ℕ) → on ≡ sw .«branch_idx» → SwitchAt n i sw (getD (n .branches) on pastBranch .status)
   switch-read sized on e =
       record {
         below = l;
         here = is;
-        status = ap (λ k. getD (n .branches) k pastBranch .status) e ∙ ap (λ b. b .status) (branch-read (n .branches) (sw .«branch_idx») sized on-branch);
+        status = ap (λ k. getD (n .branches) k pastBranch .status) e ∙ ap (λ b. b .status) (branch-read (n .branches) (sw .«branch_idx») sized (rw is (switch-small n ok i l)));
       }
 
 -- ---- where the search stands
@@ -142,10 +130,9 @@ module _ (n : PowerNetwork) (y : TabuSearch) (x : Tabu) (w : Stands n y x) where
     own = switch-is n ok i (at .below) sw (at .here)
 
     status-is : getD (N .branches) (branchOf N i) noBranch .status ≡ served
-    unfolding recordsOf
     status-is =
         ap (λ v. getD (N .branches) (v .«branch_idx») noBranch .status) own
-        ∙ ap (λ v. v .status) (getD-table (λ k. getD (n .branches) k noBranch) (n .«branch_count») (sw .«branch_idx») noBranch (on-listed n ok i (at .below) sw (at .here)))
+        ∙ ap (λ v. v .status) (branch-at n (sw .«branch_idx») (rw (at .here) (switch-listed n ok i (at .below))))
         ∙ sym (at .status)
 
     unserved : served ≡ false → SameLive N (x .state) t

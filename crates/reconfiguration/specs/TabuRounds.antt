@@ -16,13 +16,13 @@ use Rattle.network.specs.Check.{checkRecords}
 use Rattle.network.specs.Configuration.{configurationOf}
 use Rattle.network.specs.Live.{baseState}
 use Rattle.graph.specs.Feeder.{radialIn}
-use Rattle.losses.specs.Loss.{lossIn}
-use Rattle.plan.specs.Plan.{State}
 use Rattle.reconfiguration.specs.declared.tabu_list.TabuList.{TabuList}
 use Rattle.reconfiguration.specs.declared.tabu.Candidate.{Candidate}
 use Rattle.reconfiguration.specs.declared.tabu.TabuSearch.{TabuSearch}
 use Rattle.reconfiguration.specs.States.{stateOf}
-use Rattle.reconfiguration.specs.StateLaws.{state-held, switches-listed, few-switches}
+use Rattle.network.specs.Listed.{switches-listed, few-switches}
+use Rattle.network.specs.Switches.{State}
+use Rattle.reconfiguration.specs.StateLaws.{state-held}
 use Rattle.reconfiguration.specs.Given.{Base}
 use Rattle.reconfiguration.specs.FromBase.{FromBase, base-good, from-base, toggled-from-base}
 use Rattle.reconfiguration.specs.Found.{IfSome}

@@ -12,9 +12,9 @@ use Rattle.numbers.specs.Tests.{clash}
 use Rattle.network.specs.Records.{Network}
 use Rattle.network.specs.Inside.{Inside}
 use Rattle.network.specs.Live.{baseState}
+use Rattle.network.specs.Switches.{toggled}
 use Rattle.graph.specs.Feeder.{radialIn}
 use Rattle.losses.specs.Loss.{lossIn}
-use Rattle.reconfiguration.specs.Switches.{toggled}
 use Rattle.reconfiguration.specs.Tabu.{Move, Tabu, bestMove, afterMove, tabuRounds, tabu}
 use Rattle.reconfiguration.specs.Found.{IfSome}
 use Rattle.reconfiguration.specs.Floats.{lt-self}
@@ -76,7 +76,3 @@ module _ (N : Network) where
         go : (n : ℕ) → 0 < n → SameBest (tabuRounds N n (tabuStart N)) (next N (tabuStart N))
         go zero l = absurd (omega arith)
         go (suc n) l = unfold tabuRounds in stays-settled n (next N (tabuStart N)) (settles (tabuStart N) (bestMove N (tabuStart N)) (bestMove-moves N (tabuStart N)))
-
-    pub tabu-of-radial : radialIn N (baseState N) ≡ true → SameBest (tabu N) (tabuStart N)
-    unfolding tabu
-    tabu-of-radial r = stays-settled (N .iterations) (tabuStart N) (inr (r, lt-self _))

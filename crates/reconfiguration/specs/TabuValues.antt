@@ -12,12 +12,12 @@ use Rattle.network.specs.declared.switch.Switch.{Switch}
 use Rattle.network.specs.declared.topology.PowerNetwork.{PowerNetwork}
 use Rattle.network.specs.Configuration.{configurationOf}
 use Rattle.network.specs.Records.{Network, noBranch, noSwitch, recordsOf}
+use Rattle.network.specs.Switches.{toggled}
 use Rattle.graph.specs.Feeder.{radialIn}
 use Rattle.losses.specs.Loss.{lossIn}
 use Rattle.reconfiguration.specs.declared.tabu_list.TabuList.{TabuList}
 use Rattle.reconfiguration.specs.declared.tabu.Candidate.{Candidate}
 use Rattle.reconfiguration.specs.declared.tabu.TabuSearch.{TabuSearch}
-use Rattle.reconfiguration.specs.Switches.{toggled}
 use Rattle.reconfiguration.specs.Tabu.{Move, Tabu, moveOf, allowed, lesser}
 use Rattle.reconfiguration.specs.FromBase.{FromBase}
 

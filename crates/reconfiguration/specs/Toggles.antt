@@ -7,18 +7,16 @@ use native.Mathlib.Decide.{ℕ-discrete}
 use lib.Dec.{eqb}
 use lib.ListN.{getD, set}
 use lib.Seq.{getD-set-other}
-use Rattle.numbers.specs.Counts.{eqb-true, eqb-of}
+use borrow.Author.Tests.{eq-eqb, eqb-true}
 use Rattle.numbers.specs.Tests.{clash, not-so}
 use Rattle.network.specs.Records.{Network, noBranch}
 use Rattle.network.specs.Inside.{Inside}
 use Rattle.network.specs.Live.{live}
+use Rattle.network.specs.Switches.{State, byte, branchOf, size, toggled, GoodState}
 use Rattle.graph.specs.Feeder.{radialIn}
-use Rattle.plan.specs.Plan.{State, byte, branchOf}
 use Rattle.plan.specs.Claim.{SameLive}
 use Rattle.plan.specs.LiveLaws.{InService, On, live-so, live-if, live-less, moved-other, opened-dead, closed-live}
-use Rattle.plan.specs.Plannable.{GoodState}
 use Rattle.plan.specs.Accepted.{inside-regular}
-use Rattle.reconfiguration.specs.Switches.{size, toggled}
 use Rattle.reconfiguration.specs.LiveBranches.{same-radial, radial-part-same}
 
 module _ (N : Network) (inside : Inside N) (s : State) where
@@ -31,12 +29,12 @@ module _ (N : Network) (inside : Inside N) (s : State) where
       go true e v = radial-part-same N inside s (set s i 0) r v (λ k. live-less N (set s i 0) s k (λ j o. opens j (ℕ-discrete j i)))
         where
           opens : (j : ℕ) → Dec (j ≡ i) → byte (set s i 0) j ≡ 1 → byte s j ≡ 1
-          opens j (yes q) h = rw q (eqb-of _ _ e)
+          opens j (yes q) h = rw q (eqb-true _ _ e)
           opens j (no n) h = sym (getD-set-other s i j 0 0 n) ∙ h
       go false e v = λ k. sym (radial-part-same N inside (set s i 1) s v r (λ x. live-less N s (set s i 1) x (λ j o. opens j (ℕ-discrete j i))) k)
         where
           opens : (j : ℕ) → Dec (j ≡ i) → byte s j ≡ 1 → byte (set s i 1) j ≡ 1
-          opens j (yes q) h = clash (eqb-true (rw q at h)) e
+          opens j (yes q) h = clash (eq-eqb _ _ (rw q at h)) e
           opens j (no n) h = getD-set-other s i j 1 0 n ∙ h
 
   module _ (good : GoodState N s) (i : ℕ) (l : i < size N) where
@@ -52,11 +50,11 @@ module _ (N : Network) (inside : Inside N) (s : State) where
         only j p = inside-regular N inside .alone p own
 
         go : (b : Bool) → eqb (byte s i) 1 ≡ b → live N s (branchOf N i) ≢ live N (set s i (cond b 0 1)) (branchOf N i)
-        go true e h = live-so N s (branchOf N i) (h ∙ closed-live N s (branchOf N i) i own (good .long) only served) .1 i own (eqb-of _ _ e)
+        go true e h = live-so N s (branchOf N i) (h ∙ closed-live N s (branchOf N i) i own (good .long) only served) .1 i own (eqb-true _ _ e)
         go false e h = clash (live-if N s (branchOf N i) served (λ j p b. closed j (only j p) b)) (h ∙ opened-dead N s (branchOf N i) i own (good .long))
           where
             closed : (j : ℕ) → j ≡ i → byte s j ≢ 1
-            closed j q b = clash (eqb-true (rw q at b)) e
+            closed j q b = clash (eq-eqb _ _ (rw q at b)) e
 
     -- a switch on an out-of-service branch makes none live or dead
     pub toggled-unserved : getD (N .branches) (branchOf N i) noBranch .status ≡ false → SameLive N s (toggled s i)

@@ -9,7 +9,7 @@ ghost use lib.Ieee.{lt};
 ghost use Rattle.network.specs.Configuration.{configurationOf};
 ghost use Rattle.network.specs.Faults.{ties};
 ghost use Rattle.network.specs.Records.{Network, recordsOf};
-ghost use Rattle.plan.specs.Plan.{State};
+ghost use Rattle.network.specs.Switches.{State};
 ghost use Rattle.reconfiguration.specs.Given.{Given, Base};
 ghost use Rattle.reconfiguration.specs.Exhaustive.{masked, Exhaustive, tryMask, exhaustive};
 ghost use Rattle.reconfiguration.specs.ExhaustiveValues.{exhaustiveOf, withRadial};

@@ -5,15 +5,15 @@ use mathlib.Core.List.{List}
 use Prim.Native.Nat.{ℕ, zero, suc, _+_, _%_, _^_}
 use lib.Dec.{T, eqb}
 use lib.Ieee.{Float, binary64, isNan, toBits}
-use lib.ListN.{length, getD, replicate}
+use lib.ListN.{length, replicate}
 use borrow.Author.Tests.{eq-eqb, ne-eqb}
 use Rattle.numbers.specs.UpTo.{upTo, upTo-more}
-use Rattle.numbers.specs.TableLaws.{length-table}
+use Rattle.network.specs.Listed.{buses-listed, branches-listed, switches-listed}
 use Rattle.network.specs.Answers.{Answer, accepted, refused, _andThen_}
 use Rattle.network.specs.AnswerLaws.{then-iff}
 use Rattle.network.specs.Check.{checkRecords}
 use Rattle.network.specs.Live.{checkState}
-use Rattle.network.specs.Records.{Network, noBus, noBranch, noSwitch, recordsOf}
+use Rattle.network.specs.Records.{Network, recordsOf}
 use Rattle.network.specs.declared.topology.PowerNetwork.{PowerNetwork}
 use Rattle.printing.specs.Printed.{truthByte}
 use Rattle.frames.specs.Text.{readText}
@@ -24,7 +24,7 @@ use Rattle.printing.specs.Calls.{checkRoom, Call, answered, called}
 use Rattle.plan.specs.Plan.{planned}
 use Rattle.reconfiguration.specs.Answers.{best-loss}
 use Rattle.reconfiguration.specs.Solve.{best, Result, result, solved}
-use Rattle.controller.specs.Calls.{onRecords, textRadiality, textLoss, textPlan}
+use Rattle.controller.specs.Calls.{onRecords}
 use Rattle.controller.specs.CallLaws.{numbered, NoNan, radiality-answered, loss-answered, plan-answered, radiality-refused, loss-refused, plan-refused}
 use Rattle.timing.specs.Rounds.{valueOf, recordCount, searchValue, asked, total}
 
@@ -35,9 +35,9 @@ count-refused t n p e = ap (λ x. valueOf (onRecords x (λ N. accepted (recordCo
 
 pub count-accepted : (t : List ℕ) (n : PowerNetwork) → readText t ≡ accepted (recordsOf n)
     → n .«bus_count» + n .«branch_count» + n .«switch_count» ≡ valueOf (onRecords (readText t) (λ N. accepted (recordCount N)))
-unfolding onRecords recordCount recordsOf
+unfolding onRecords recordCount
 count-accepted t n e =
-    sym (rw (length-table (λ i. getD (n .buses) i noBus) (n .«bus_count»), length-table (λ i. getD (n .branches) i noBranch) (n .«branch_count»), length-table (λ i. getD (n .switches) i noSwitch) (n .«switch_count»)))
+    sym (rw (buses-listed n, branches-listed n, switches-listed n))
     ∙ ap (λ x. valueOf (onRecords x (λ N. accepted (recordCount N)))) (sym e)
 
 -- ---- the calls by their kind

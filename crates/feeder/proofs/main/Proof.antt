@@ -7,13 +7,6 @@ use Rattle.answers.specs.PrintingLaws.{printed-count}
 use borrow.Author.Needs.{needs}
 use Rattle.feeder.proofs.main.Statement.{statement}
 use Rattle.feeder.proofs.main.Tie as tie
-use Rattle.feeder.proofs.main.Reads as reads
-use Rattle.feeder.proofs.main.Lts as lts
-use Rattle.answers.proofs.printer.answer_text.Reads as answer-text-reads
-use Rattle.io.proofs.large_buffer.Reads as large-buffer-reads
-use Rattle.io.proofs.read_full.Reads as read-full-reads
-use Rattle.io.proofs.write_all.Reads as write-all-reads
-use Rattle.numbers.proofs.wide16.Reads as wide16-reads
 
 large-buffer-requires : tie.Need-large-buffer-requires
 large-buffer-requires c κs = search needs

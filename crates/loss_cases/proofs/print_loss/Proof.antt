@@ -6,8 +6,6 @@ use lib.Ieee.{Float, nan, inf, fin, lt, eq, le, isNan}
 use borrow.Author.Needs.{needs}
 use Rattle.loss_cases.proofs.print_loss.Statement.{statement}
 use Rattle.loss_cases.proofs.print_loss.Tie as tie
-use Rattle.io.proofs.print_hex.Reads as print-hex-reads
-use Rattle.io.proofs.write_all.Reads as write-all-reads
 
 at-least-no-nan : (z x : Float) → le z x ≡ true → T (not (isNan x))
 unfolding le lt eq isNan

@@ -3,8 +3,6 @@ use Prim.Native.Nat.{_≤_, _-_}
 use borrow.Author.Needs.{needs}
 use Rattle.replay.proofs.replay.Statement.{statement}
 use Rattle.replay.proofs.replay.Tie as tie
-use Rattle.replay.proofs.counted.Reads as counted-reads
-use Rattle.replay.proofs.next_entry.Reads as next-entry-reads
 
 abbrev Inv-loop : tie.InvT-loop
 Inv-loop found₀ found = (found .differences ≤ found .texts) × (found .texts ≤ 65535)

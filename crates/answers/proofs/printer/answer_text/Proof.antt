@@ -1,5 +1,5 @@
 -- `answer_text` meets its contract: the lines are made in memory of the call's own, which is long enough, and copied where the slice is.
-use mathlib.Core.Path.{_≡_, ap, _∙_}
+use mathlib.Core.Path.{ap, _∙_}
 use native.Mathlib.Omega.{arith}
 use native.Mathlib.Numerals.{unary-clauses}
 use lib.ListN.{length}
@@ -9,10 +9,6 @@ use Rattle.answers.proofs.PrinterLaws.{no-room, all-printed}
 use borrow.Author.Needs.{needs}
 use Rattle.answers.proofs.printer.answer_text.Statement.{statement}
 use Rattle.answers.proofs.printer.answer_text.Tie as tie
-use Rattle.answers.proofs.printer.answer_text.Reads as reads
-use Rattle.answers.proofs.printer.answer_text.Lts as lts
-use Rattle.answers.proofs.printer.print_text.Reads as print-text-reads
-use Rattle.printing.proofs.writer.write_bytes.Reads as write-bytes-reads
 
 slice-aggregate-print-text : tie.Need-slice-aggregate-print-text
 slice-aggregate-print-text c = search needs

@@ -1,5 +1,5 @@
 -- `print_network` meets its contract: a checked network's search is not refused, and its lines stand one behind the other.
-use mathlib.Core.Path.{_≡_, sym, ap, _∙_}
+use mathlib.Core.Path.{ap, _∙_}
 use native.Mathlib.Omega.{arith}
 use lib.ListN.{length}
 use Rattle.network.specs.Records.{recordsOf}
@@ -11,12 +11,6 @@ use Rattle.answers.proofs.PrinterLaws.{base-held, solved-result, solved
 use borrow.Author.Needs.{needs}
 use Rattle.answers.proofs.printer.print_network.Statement.{statement}
 use Rattle.answers.proofs.printer.print_network.Tie as tie
-use Rattle.answers.proofs.printer.print_network.Reads as reads
-use Rattle.answers.proofs.printer.print_network.Lts as lts
-use Rattle.answers.proofs.printer.write_moves.Reads as write-moves-reads
-use Rattle.answers.proofs.printer.write_result.Reads as write-result-reads
-use Rattle.network.proofs.configuration.base_configuration.Reads as base-configuration-reads
-use Rattle.reconfiguration.proofs.solve.solve.Reads as solve-reads
 
 base-configuration-requires : tie.Need-base-configuration-requires
 base-configuration-requires c κs = search needs

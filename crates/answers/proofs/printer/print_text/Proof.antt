@@ -2,16 +2,12 @@
 use mathlib.Core.Path.{sym}
 use Rattle.frames.specs.Text.{readText}
 use Rattle.frames.specs.Claim.{claim}
+use Rattle.frames.specs.ReadingLaws.{read-accepted}
 use Rattle.answers.specs.PrintingLaws.{length-refusal}
-use Rattle.answers.proofs.PrinterLaws.{reading-accepted, text-printed, text-refused}
+use Rattle.answers.proofs.PrinterLaws.{text-printed, text-refused}
 use borrow.Author.Needs.{needs}
 use Rattle.answers.proofs.printer.print_text.Statement.{statement}
 use Rattle.answers.proofs.printer.print_text.Tie as tie
-use Rattle.answers.proofs.printer.print_text.Reads as reads
-use Rattle.answers.proofs.printer.print_text.Lts as lts
-use Rattle.answers.proofs.printer.print_network.Reads as print-network-reads
-use Rattle.frames.proofs.reader.read_text.Reads as read-text-reads
-use Rattle.printing.proofs.writer.write_refusal.Reads as write-refusal-reads
 
 read-text-requires : tie.Need-read-text-requires
 read-text-requires c κs = search needs
@@ -23,7 +19,7 @@ print-network-requires : tie.Need-print-network-requires
 print-network-requires c κs =
     let read = c .before .before .before .before in
     let start = c .before .before .before .before .before .before .before in
-    (claim .passed (start .args .text .now) _ (reading-accepted (readText (start .args .text .now)) (read .read-text .ensures) (c .before .before .enum-told .given .1)), start .pre)
+    (claim .passed (start .args .text .now) _ (read-accepted (readText (start .args .text .now)) _ (read .read-text .ensures) (c .before .before .enum-told .given .1)), start .pre)
 
 enum-known-verdict : tie.Need-enum-known-verdict
 enum-known-verdict c = search needs

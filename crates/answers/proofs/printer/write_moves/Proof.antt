@@ -1,5 +1,5 @@
 -- `write_moves` meets its contract: the plan's lines stand behind the operations' lines, and those behind the 81 line.
-use mathlib.Core.Path.{_≡_, sym}
+use mathlib.Core.Path.{sym}
 use Prim.Native.Nat.{_+_, _-_}
 use native.Mathlib.Omega.{arith}
 use lib.ListN.{length, length-drop}
@@ -12,10 +12,6 @@ use Rattle.answers.proofs.PrinterLaws.{moves-room, moves-stored, moves-
 use borrow.Author.Needs.{needs}
 use Rattle.answers.proofs.printer.write_moves.Statement.{statement}
 use Rattle.answers.proofs.printer.write_moves.Tie as tie
-use Rattle.answers.proofs.printer.write_moves.Reads as reads
-use Rattle.answers.proofs.printer.write_moves.Lts as lts
-use Rattle.answers.proofs.printer.write_operations.Reads as write-operations-reads
-use Rattle.answers.proofs.printer.write_plan.Reads as write-plan-reads
 
 sub-write-operations : tie.Need-sub-write-operations
 sub-write-operations c = search needs

@@ -4,15 +4,11 @@ use Prim.Native.Nat.{ℕ, _*_}
 use native.Mathlib.Omega.{arith}
 use native.Mathlib.Numerals.{unary-clauses}
 use lib.ListN.{length}
-use Rattle.reconfiguration.specs.StateLaws.{few-switches}
+use Rattle.network.specs.Listed.{few-switches}
 use Rattle.answers.proofs.PrinterLaws.{planBytes, plan-printed}
 use borrow.Author.Needs.{needs}
 use Rattle.answers.proofs.printer.write_plan.Statement.{statement}
 use Rattle.answers.proofs.printer.write_plan.Tie as tie
-use Rattle.answers.proofs.printer.write_plan.Reads as reads
-use Rattle.answers.proofs.printer.write_plan.Lts as lts
-use Rattle.numbers.proofs.wide16.Reads as wide16-reads
-use Rattle.plan.proofs.planner.plan.Reads as plan-reads
 
 wide16-requires : tie.Need-wide16-requires
 wide16-requires c κs = search needs

@@ -3,9 +3,6 @@ use Rattle.answers.specs.Printing.{resultText}
 use borrow.Author.Needs.{needs}
 use Rattle.answers.proofs.printer.write_result.Statement.{statement}
 use Rattle.answers.proofs.printer.write_result.Tie as tie
-use Rattle.answers.proofs.printer.write_result.Reads as reads
-use Rattle.answers.proofs.printer.write_result.Lts as lts
-use Rattle.printing.proofs.writer.write_answer.Reads as write-answer-reads
 
 float-to-bits-write-answer : tie.Need-float-to-bits-write-answer
 float-to-bits-write-answer c = search needs

@@ -5,10 +5,6 @@ use Rattle.controller.specs.Calls.{numbersOf}
 use borrow.Author.Needs.{needs}
 use Rattle.controller.proofs.answer.text_numbers.Statement.{statement}
 use Rattle.controller.proofs.answer.text_numbers.Tie as tie
-use Rattle.controller.proofs.answer.text_numbers.Reads as reads
-use Rattle.controller.proofs.answer.text_numbers.Lts as lts
-use Rattle.controller.proofs.answer.answered.Reads as answered-reads
-use Rattle.controller.proofs.answer.refusal.Reads as refusal-reads
 
 enum-known-answer : tie.Need-enum-known-answer
 enum-known-answer c = search needs

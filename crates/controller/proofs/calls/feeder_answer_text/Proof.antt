@@ -3,10 +3,6 @@ use Rattle.controller.specs.CallLaws.{numbers-beside}
 use borrow.Author.Needs.{needs}
 use Rattle.controller.proofs.calls.feeder_answer_text.Statement.{statement}
 use Rattle.controller.proofs.calls.feeder_answer_text.Tie as tie
-use Rattle.controller.proofs.calls.feeder_answer_text.Reads as reads
-use Rattle.controller.proofs.calls.feeder_answer_text.Lts as lts
-use Rattle.answers.proofs.printer.answer_text.Reads as answer-text-reads
-use Rattle.controller.proofs.answer.text_numbers.Reads as text-numbers-reads
 
 answer-text-requires : tie.Need-answer-text-requires
 answer-text-requires c κs = search needs

@@ -1,7 +1,8 @@
 -- `feeder_loss` meets its contract: the text is refused, or the call on its records answers; no loss is a NaN.
 use mathlib.Core.Path.{ap, _∙_}
+use Rattle.frames.specs.ReadingLaws.{read-refused, read-accepted}
 use Rattle.controller.specs.Calls.{numbersOf}
-use Rattle.controller.specs.CallLaws.{loss-no-nan, read-refused, read-accepted, loss-refused, loss-answered}
+use Rattle.controller.specs.CallLaws.{loss-no-nan, loss-refused, loss-answered}
 use borrow.Author.Needs.{needs}
 use Rattle.controller.proofs.calls.feeder_loss.Statement.{statement}
 use Rattle.controller.proofs.calls.feeder_loss.Tie as tie

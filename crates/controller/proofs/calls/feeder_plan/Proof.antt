@@ -1,6 +1,7 @@
 -- `feeder_plan` meets its contract: the text is refused, or the plan on its records is written.
 use mathlib.Core.Path.{_∙_}
-use Rattle.controller.specs.CallLaws.{read-refused, read-accepted, plan-refused, plan-answered, numbers-beside}
+use Rattle.frames.specs.ReadingLaws.{read-refused, read-accepted}
+use Rattle.controller.specs.CallLaws.{plan-refused, plan-answered, numbers-beside}
 use borrow.Author.Needs.{needs}
 use Rattle.controller.proofs.calls.feeder_plan.Statement.{statement}
 use Rattle.controller.proofs.calls.feeder_plan.Tie as tie

@@ -1,7 +1,8 @@
 -- `feeder_radiality` meets its contract: the text is refused, or the call on its records answers.
 use mathlib.Core.Path.{ap, _∙_}
+use Rattle.frames.specs.ReadingLaws.{read-refused, read-accepted}
 use Rattle.controller.specs.Calls.{numbersOf}
-use Rattle.controller.specs.CallLaws.{read-refused, read-accepted, radiality-refused, radiality-answered}
+use Rattle.controller.specs.CallLaws.{radiality-refused, radiality-answered}
 use borrow.Author.Needs.{needs}
 use Rattle.controller.proofs.calls.feeder_radiality.Statement.{statement}
 use Rattle.controller.proofs.calls.feeder_radiality.Tie as tie

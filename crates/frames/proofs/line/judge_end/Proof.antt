@@ -1,11 +1,10 @@
 -- `judge_end` meets its contract: nothing behind the last frame is accepted; a line there is refused for its characters, else 2.
-use mathlib.Core.Path.{sym, ap, _∙_}
+use mathlib.Core.Path.{sym, _∙_}
 use native.Mathlib.Omega.{arith}
 use lib.ListN.{length-drop}
 use borrow.Author.Needs.{needs}
-use Rattle.network.specs.Answers.{answerOf}
+use Rattle.network.specs.AnswerLaws.{refused-then, accepted-then}
 use Rattle.frames.specs.FirstLineLaws.{end-then, end-missing}
-use Rattle.frames.proofs.VerdictLaws.{refused-then, accepted-then}
 use Rattle.frames.proofs.line.judge_end.Statement.{statement}
 use Rattle.frames.proofs.line.judge_end.Tie as tie
 
@@ -29,14 +28,14 @@ returns-2 c =
     let d = c .before .before in
     let s = d .before .before .before .before in
     let l = length-drop (s .args .at) (s .args .text .now) in
-    ap answerOf (c .enum-told2 .given .1) ∙ sym (end-then _ _ (omega arith) ∙ refused-then _ (d .judge-characters .ensures) (c .enum-told2 .given .1))
+    refused-then _ _ _ _ _ (c .enum-told2 .given .1) (d .judge-characters .ensures) ∙ sym (end-then _ _ (omega arith))
 
 returns-3 : tie.Need-returns-3
 returns-3 c =
     let d = c .before .before in
     let s = d .before .before .before .before in
     let l = length-drop (s .args .at) (s .args .text .now) in
-    sym (end-then _ _ (omega arith) ∙ accepted-then _ (d .judge-characters .ensures) (c .enum-told .given .1))
+    accepted-then _ _ _ (c .enum-told .given .1) (d .judge-characters .ensures) ∙ sym (end-then _ _ (omega arith))
 
 pub judge-end-spec : {M : Type 1} → statement M
 judge-end-spec =

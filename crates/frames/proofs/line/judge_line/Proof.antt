@@ -4,9 +4,9 @@ use native.Mathlib.Omega.{arith}
 use lib.ListN.{take, length-drop}
 use borrow.Author.Needs.{needs}
 use Rattle.network.specs.Answers.{answerOf}
+use Rattle.network.specs.AnswerLaws.{refused-then, accepted-then}
 use Rattle.frames.specs.Hex.{number}
 use Rattle.frames.specs.FirstLineLaws.{clear-at, other-size, other-kind, as-wanted, frame-then, frame-missing}
-use Rattle.frames.proofs.VerdictLaws.{refused-then, accepted-then}
 use Rattle.frames.proofs.PartLaws.{part-is, part-digits}
 use Rattle.frames.proofs.line.judge_line.Statement.{statement}
 use Rattle.frames.proofs.line.judge_line.Tie as tie
@@ -29,7 +29,7 @@ enum-told-2 c = search needs
 returns-2 : tie.Need-returns-2
 returns-2 c =
     let d = c .before .before in
-    ap answerOf (c .enum-told2 .given .1) ∙ sym (frame-then _ _ _ _ ∙ refused-then _ (d .judge-characters .ensures) (c .enum-told2 .given .1))
+    refused-then _ _ _ _ _ (c .enum-told2 .given .1) (d .judge-characters .ensures) ∙ sym (frame-then _ _ _ _)
 
 returns-3 : tie.Need-returns-3
 returns-3 c =
@@ -38,7 +38,7 @@ returns-3 c =
     let e = d .before .before in
     let s = e .before .before in
     let clear = clear-at _ _ _ _ (d .before .line-length .ensures) (s .pre .0) (e .if1 .left) (sym (ap answerOf (v .enum-told .given .1)) ∙ d .judge-characters .ensures) in
-    sym (frame-then _ _ _ _ ∙ accepted-then _ (d .judge-characters .ensures) (v .enum-told .given .1) ∙ other-size _ _ _ _ _ _ clear (c .if2 .taken))
+    sym (frame-then _ _ _ _ ∙ sym (accepted-then _ _ _ (v .enum-told .given .1) (d .judge-characters .ensures)) ∙ other-size _ _ _ _ _ _ clear (c .if2 .taken))
 
 add-byte : tie.Need-add-byte
 add-byte c =
@@ -76,7 +76,7 @@ returns-4 c =
     let e = d .before .before in
     let s = e .before .before in
     let clear = clear-at _ _ _ _ (d .before .line-length .ensures) (s .pre .0) (e .if1 .left) (sym (ap answerOf (v .enum-told .given .1)) ∙ d .judge-characters .ensures) in
-    sym (frame-then _ _ _ _ ∙ accepted-then _ (d .judge-characters .ensures) (v .enum-told .given .1)
+    sym (frame-then _ _ _ _ ∙ sym (accepted-then _ _ _ (v .enum-told .given .1) (d .judge-characters .ensures))
     ∙ other-kind _ _ _ _ _ _ clear (λ q. c .if3 .taken (c .before .byte .ensures ∙ ap (λ x. number (take 2 x)) (part-is _ (s .args .at) _) ∙ q)))
 
 returns-5 : tie.Need-returns-5
@@ -87,7 +87,7 @@ returns-5 c =
     let e = d .before .before in
     let s = e .before .before in
     let clear = clear-at _ _ _ _ (d .before .line-length .ensures) (s .pre .0) (e .if1 .left) (sym (ap answerOf (v .enum-told .given .1)) ∙ d .judge-characters .ensures) in
-    sym (frame-then _ _ _ _ ∙ accepted-then _ (d .judge-characters .ensures) (v .enum-told .given .1)
+    sym (frame-then _ _ _ _ ∙ sym (accepted-then _ _ _ (v .enum-told .given .1) (d .judge-characters .ensures))
     ∙ as-wanted _ _ _ _ _ _ clear (g .if2 .left) (sym (c .before .byte .ensures ∙ ap (λ x. number (take 2 x)) (part-is _ (s .args .at) _)) ∙ c .if3 .left))
 
 pub judge-line-spec : {M : Type 1} → statement M

@@ -1,9 +1,9 @@
 -- `settle` meets its contract: the check's verdict first, then that of the line at which reading stopped, then the network.
-use mathlib.Core.Path.{refl, sym, ap, _∙_}
+use mathlib.Core.Path.{refl, ap, _∙_}
 use borrow.Author.Needs.{needs}
 use Rattle.network.specs.declared.error.Verdict.the-variants.{Accepted}
+use Rattle.network.specs.AnswerLaws.{refused-first, accepted-then}
 use Rattle.frames.specs.Reading.{readingOf}
-use Rattle.frames.proofs.VerdictLaws.{refused-then, accepted-then}
 use Rattle.frames.proofs.reader.settle.Statement.{statement}
 use Rattle.frames.proofs.reader.settle.Tie as tie
 
@@ -20,7 +20,7 @@ returns : tie.Need-returns
 returns c =
     let k = c .before .before in
     let d = k .before .before in
-    c .refusal .ensures ∙ sym (ap readingOf (refused-then _ (d .check .ensures) (k .v .given .1)))
+    c .refusal .ensures ∙ ap readingOf (refused-first _ _ _ _ _ (k .v .given .1) (d .check .ensures))
 
 enum-told : tie.Need-enum-told
 enum-told c = search needs
@@ -36,7 +36,7 @@ returns-2 c =
     let k = c .before .before in
     let v = k .before .before in
     let d = v .before .before in
-    c .refusal2 .ensures ∙ sym (ap readingOf (accepted-then _ (d .check .ensures) (v .enum-told .given .1) ∙ refused-then _ refl (k .stopped .given .1)))
+    c .refusal2 .ensures ∙ ap readingOf (refused-first _ _ _ _ _ (k .stopped .given .1) refl ∙ accepted-then _ _ _ (v .enum-told .given .1) (d .check .ensures))
 
 enum-told-2 : tie.Need-enum-told-2
 enum-told-2 c = search needs
@@ -48,7 +48,7 @@ returns-3 c =
     let d = v .before .before in
     let s = d .before .before in
     ap (λ n. record { verdict = Accepted; network = n }) (s .pre)
-    ∙ sym (ap readingOf (accepted-then _ (d .check .ensures) (v .enum-told .given .1) ∙ accepted-then _ refl (c .enum-told2 .given .1)))
+    ∙ ap readingOf (accepted-then _ _ _ (c .enum-told2 .given .1) refl ∙ accepted-then _ _ _ (v .enum-told .given .1) (d .check .ensures))
 
 pub settle-spec : {M : Type 1} → statement M
 settle-spec =

@@ -4,7 +4,8 @@ use lib.ListN.{length}
 use Rattle.graph.specs.Walk.{walkBy}
 use Rattle.graph.specs.Rows.{rowNeighbours}
 use Rattle.graph.specs.Walking.{WayOf}
-use Rattle.graph.proofs.Leading.{walked-few, path-few, path-found, path-none}
+use Rattle.graph.specs.Filled.{walked-few, path-few}
+use Rattle.graph.proofs.Leading.{path-found, path-none}
 use borrow.Author.Needs.{needs}
 use Rattle.graph.proofs.path.bfs_path.Statement.{statement}
 use Rattle.graph.proofs.path.bfs_path.Tie as tie

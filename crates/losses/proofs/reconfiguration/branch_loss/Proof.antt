@@ -1,8 +1,9 @@
 -- `branch_loss` meets its contract: the walk's array is as long as the walk, at most 256, and the load in it is the walk's load.
 use mathlib.Core.Path.{_≡_}
 use lib.ListN.{length}
+use Rattle.graph.specs.Filled.{walked-few}
 use Rattle.losses.specs.RowLoss.{loadBehind}
-use Rattle.losses.proofs.Laws.{walked-short, walked-load}
+use Rattle.losses.proofs.Laws.{walked-load}
 use borrow.Author.Needs.{needs}
 use Rattle.losses.proofs.reconfiguration.branch_loss.Statement.{statement}
 use Rattle.losses.proofs.reconfiguration.branch_loss.Tie as tie
@@ -28,7 +29,7 @@ walk-rows-requires c κs = search needs
 downstream-load-mw-requires : tie.Need-downstream-load-mw-requires
 downstream-load-mw-requires c κs =
     let long : length (c .walk-rows .result .bus) ≡ 256 = search needs in
-    (c .before .before .before .pre .0, walked-short _ (c .walk-rows .result) (c .walk-rows .ensures) long)
+    (c .before .before .before .pre .0, walked-few (c .walk-rows .result) _ (c .walk-rows .ensures) long)
 
 branch-term-requires : tie.Need-branch-term-requires
 branch-term-requires c κs = search needs

@@ -3,7 +3,6 @@ use mathlib.Core.Path.{_≡_, refl}
 use Prim.Native.Nat.{_≤_, _<_, _-_}
 use native.Mathlib.Omega.{arith}
 use lib.ListN.{length}
-use borrow.Author.Needs.{needs}
 use Rattle.numbers.specs.UpTo.{upTo}
 use Rattle.losses.specs.RowLoss.{powers, arrayLoad}
 use Rattle.losses.proofs.Laws.{load-more}

@@ -1,8 +1,8 @@
 -- `opening` meets its contract: the path between the ends of branch k, read off its two halves, and the first unwanted branch on it.
 use mathlib.Core.Path.{_≡_, _∙_}
 use lib.ListN.{length}
+use Rattle.graph.specs.Filled.{path-few}
 use Rattle.plan.specs.Stored.{rowOpening}
-use Rattle.plan.proofs.Unwanted.{path-fits}
 use borrow.Author.Needs.{needs}
 use Rattle.plan.proofs.pairs.opening.Statement.{statement}
 use Rattle.plan.proofs.pairs.opening.Tie as tie
@@ -34,7 +34,7 @@ bfs-path-requires c κs = search needs
 first-unwanted-requires : tie.Need-first-unwanted-requires
 first-unwanted-requires c κs =
     let l : length (c .bfs-path .result .branch) ≡ 256 = search needs in
-    path-fits _ _ (c .bfs-path .ensures) l
+    path-few _ _ (c .bfs-path .ensures) l
 
 returns : tie.Need-returns
 unfolding rowOpening

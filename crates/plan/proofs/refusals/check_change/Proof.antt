@@ -4,8 +4,9 @@ use lib.ListN.{length}
 use borrow.Author.Tests.{not-true, not-false}
 use Rattle.network.specs.ReadLaws.{length-of}
 use Rattle.network.proofs.bus.Bus.{the-type}
+use Rattle.network.specs.AnswerLaws.{decides, gives-way}
 use Rattle.plan.proofs.Passing.{checked-counts}
-use Rattle.plan.proofs.Answering.{decides, gives-way, not-radial, is-radial}
+use Rattle.plan.proofs.Answering.{not-radial, is-radial}
 use borrow.Author.Needs.{needs}
 use Rattle.plan.proofs.refusals.check_change.Statement.{statement}
 use Rattle.plan.proofs.refusals.check_change.Tie as tie
@@ -47,7 +48,7 @@ returns-2 c =
     let g = w .before .before in
     let s = g .before .before .before in
     decides _ (not-radial _ (buses s) (s .pre .network) _ _ (g .graph-of .ensures) (w .live-in2 .ensures) (c .before .is-radial2 .ensures) (not-true _ (c .if2 .taken)))
-    ∙ gives-way (is-radial _ (buses s) (s .pre .network) _ _ (g .graph-of .ensures) (w .before .live-in .ensures) (r .is-radial .ensures) (not-false _ (c .before .before .if1 .left)))
+    ∙ gives-way _ (is-radial _ (buses s) (s .pre .network) _ _ (g .graph-of .ensures) (w .before .live-in .ensures) (r .is-radial .ensures) (not-false _ (c .before .before .if1 .left)))
 
 check-locked-requires : tie.Need-check-locked-requires
 check-locked-requires c κs = search needs
@@ -60,8 +61,8 @@ returns-3 c =
     let g = w .before .before in
     let s = g .before .before .before in
     c .check-locked .ensures
-    ∙ gives-way (is-radial _ (buses s) (s .pre .network) _ _ (g .graph-of .ensures) (w .live-in2 .ensures) (v .is-radial2 .ensures) (not-false _ (c .before .if2 .left)))
-    ∙ gives-way (is-radial _ (buses s) (s .pre .network) _ _ (g .graph-of .ensures) (w .before .live-in .ensures) (r .is-radial .ensures) (not-false _ (v .before .if1 .left)))
+    ∙ gives-way _ (is-radial _ (buses s) (s .pre .network) _ _ (g .graph-of .ensures) (w .live-in2 .ensures) (v .is-radial2 .ensures) (not-false _ (c .before .if2 .left)))
+    ∙ gives-way _ (is-radial _ (buses s) (s .pre .network) _ _ (g .graph-of .ensures) (w .before .live-in .ensures) (r .is-radial .ensures) (not-false _ (v .before .if1 .left)))
 
 pub check-change-spec : {M : Type 1} → statement M
 check-change-spec =

@@ -3,7 +3,6 @@ use Prim.Native.Nat.{_≤_, _-_}
 use borrow.Author.Needs.{needs}
 use Rattle.radiality_cases.proofs.drawn.drawn_state.Statement.{statement}
 use Rattle.radiality_cases.proofs.drawn.drawn_state.Tie as tie
-use Rattle.radiality_cases.proofs.drawn.drawn_byte.Reads as drawn-byte-reads
 
 abbrev Inv-loop : tie.InvT-loop
 Inv-loop network draws n state₀ i₀ state i = i ≤ 20

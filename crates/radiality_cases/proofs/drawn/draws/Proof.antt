@@ -3,8 +3,6 @@ use Prim.Native.Nat.{_≤_, _-_}
 use borrow.Author.Needs.{needs}
 use Rattle.radiality_cases.proofs.drawn.draws.Statement.{statement}
 use Rattle.radiality_cases.proofs.drawn.draws.Tie as tie
-use Rattle.radiality_cases.proofs.drawn.next.Reads as next-reads
-use Rattle.radiality_cases.proofs.drawn.upper.Reads as upper-reads
 
 abbrev Inv-loop : tie.InvT-loop
 Inv-loop seed out₀ x₀ i₀ out x i = i ≤ 128

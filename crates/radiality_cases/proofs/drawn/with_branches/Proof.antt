@@ -3,9 +3,6 @@ use Prim.Native.Nat.{_≤_, _-_}
 use borrow.Author.Needs.{needs}
 use Rattle.radiality_cases.proofs.drawn.with_branches.Statement.{statement}
 use Rattle.radiality_cases.proofs.drawn.with_branches.Tie as tie
-use Rattle.numbers.proofs.wide16.Reads as wide16-reads
-use Rattle.radiality_cases.proofs.drawn.first_end.Reads as first-end-reads
-use Rattle.radiality_cases.proofs.drawn.second_end.Reads as second-end-reads
 
 abbrev Inv-loop : tie.InvT-loop
 Inv-loop n network₀ draws k₀ network k = k ≤ 20

@@ -3,8 +3,6 @@ use Prim.Native.Nat.{_≤_, _-_}
 use borrow.Author.Needs.{needs}
 use Rattle.radiality_cases.proofs.drawn.with_switches.Statement.{statement}
 use Rattle.radiality_cases.proofs.drawn.with_switches.Tie as tie
-use Rattle.numbers.proofs.wide16.Reads as wide16-reads
-use Rattle.radiality_cases.proofs.drawn.branch_of.Reads as branch-of-reads
 
 abbrev Inv-loop : tie.InvT-loop
 Inv-loop m network₀ draws i₀ network i = i ≤ 20

@@ -3,7 +3,6 @@ use Prim.Native.Nat.{_≤_, _-_}
 use borrow.Author.Needs.{needs}
 use Rattle.radiality_cases.proofs.labels.is_one_label.Statement.{statement}
 use Rattle.radiality_cases.proofs.labels.is_one_label.Tie as tie
-use Rattle.numbers.proofs.wide16.Reads as wide16-reads
 
 abbrev Inv-loop : tie.InvT-loop
 Inv-loop count label n i₀ i = i ≤ 12

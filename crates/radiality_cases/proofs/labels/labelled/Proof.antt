@@ -3,11 +3,6 @@ use Prim.Native.Nat.{_≤_, _-_}
 use borrow.Author.Needs.{needs}
 use Rattle.radiality_cases.proofs.labels.labelled.Statement.{statement}
 use Rattle.radiality_cases.proofs.labels.labelled.Tie as tie
-use Rattle.numbers.proofs.wide16.Reads as wide16-reads
-use Rattle.radiality_cases.proofs.labels.ids_of.Reads as ids-of-reads
-use Rattle.radiality_cases.proofs.labels.joined.Reads as joined-reads
-use Rattle.radiality_cases.proofs.labels.own_labels.Reads as own-labels-reads
-use Rattle.radiality_cases.proofs.labels.position.Reads as position-reads
 
 abbrev Inv-loop : tie.InvT-loop
 Inv-loop network «open» ids count labels₀ k₀ labels k = k ≤ 20

@@ -3,7 +3,6 @@ use Prim.Native.Nat.{_≤_, _-_}
 use borrow.Author.Needs.{needs}
 use Rattle.radiality_cases.proofs.labels.open_branches.Statement.{statement}
 use Rattle.radiality_cases.proofs.labels.open_branches.Tie as tie
-use Rattle.numbers.proofs.wide16.Reads as wide16-reads
 
 abbrev Inv-loop : tie.InvT-loop
 Inv-loop network state count open₀ i₀ «open» i = i ≤ 20

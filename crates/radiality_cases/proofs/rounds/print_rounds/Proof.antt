@@ -3,10 +3,6 @@ use Prim.Native.Nat.{_≤_, _-_}
 use borrow.Author.Needs.{needs}
 use Rattle.radiality_cases.proofs.rounds.print_rounds.Statement.{statement}
 use Rattle.radiality_cases.proofs.rounds.print_rounds.Tie as tie
-use Rattle.radiality_cases.proofs.rounds.print_rounds.Reads as reads
-use Rattle.radiality_cases.proofs.rounds.print_rounds.Lts as lts
-use Rattle.radiality_cases.proofs.rounds.compare.Reads as compare-reads
-use Rattle.radiality_cases.proofs.rounds.print_count.Reads as print-count-reads
 
 abbrev Inv-loop : tie.InvT-loop
 Inv-loop radial₀ differ₀ i₀ t5 t6 t7 radial differ i = (i ≤ 20000) × (radial ≤ i) × (differ ≤ i)

@@ -1,7 +1,8 @@
 -- `branch_exchange_solve` meets its contract: the rounds that are left lead from where it stands to the definition's answer. The measure is the rounds that are left.
 use Prim.Native.Nat.{_-_}
 use native.Mathlib.Omega.{arith}
-use Rattle.reconfiguration.specs.ExchangeRounds.{Standing, standing-base, standing-held, standing-ended, standing-done, standing-next, rounds-few, rounds-rise}
+use Rattle.network.specs.Listed.{rounds-few}
+use Rattle.reconfiguration.specs.ExchangeRounds.{Standing, standing-base, standing-held, standing-ended, standing-done, standing-next, rounds-rise}
 use Rattle.reconfiguration.proofs.exchange.branch_exchange_solve.Statement.{statement}
 use Rattle.reconfiguration.proofs.exchange.branch_exchange_solve.Tie as tie
 

@@ -7,8 +7,9 @@ use borrow.Author.Needs.{needs}
 use Rattle.numbers.specs.UpTo.{upTo, upTo-more}
 use Rattle.network.specs.Records.{recordsOf}
 use Rattle.reconfiguration.specs.States.{stateOf}
-use Rattle.reconfiguration.specs.StateLaws.{flags-listed, switches-listed}
-use Rattle.reconfiguration.specs.Switches.{size}
+use Rattle.reconfiguration.specs.StateLaws.{flags-listed}
+use Rattle.network.specs.Switches.{size}
+use Rattle.network.specs.Listed.{switches-listed}
 use Rattle.reconfiguration.specs.Exchange.{roundOf}
 use Rattle.reconfiguration.specs.ExchangeValues.{trialOf, seeing}
 use Rattle.reconfiguration.proofs.exchange.branch_exchange_step.Statement.{statement}

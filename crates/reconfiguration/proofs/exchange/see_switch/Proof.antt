@@ -3,8 +3,8 @@ use mathlib.Core.Path.{_∙_}
 use native.Mathlib.Omega.{arith}
 use borrow.Author.Needs.{needs}
 use Rattle.network.specs.Records.{recordsOf}
+use Rattle.network.specs.Listed.{few-switches}
 use Rattle.reconfiguration.specs.States.{stateOf}
-use Rattle.reconfiguration.specs.StateLaws.{few-switches}
 use Rattle.reconfiguration.specs.ExchangeTrials.{seen-read, see-unseen, see-worse, see-better}
 use Rattle.reconfiguration.proofs.exchange.see_switch.Statement.{statement}
 use Rattle.reconfiguration.proofs.exchange.see_switch.Tie as tie

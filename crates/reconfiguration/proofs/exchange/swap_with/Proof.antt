@@ -1,7 +1,7 @@
 -- `swap_with` meets its contract: there is no section, or it is open, or the swap is not radial, or it is tried.
 use native.Mathlib.Omega.{arith}
 use borrow.Author.Needs.{needs}
-use Rattle.reconfiguration.specs.StateLaws.{few-switches}
+use Rattle.network.specs.Listed.{few-switches}
 use Rattle.reconfiguration.specs.ExchangeSwaps.{swap-absent, swap-open, swap-loops, swap-tried}
 use Rattle.reconfiguration.specs.ExchangeTrials.{trial-none}
 use Rattle.reconfiguration.proofs.exchange.swap_with.Statement.{statement}

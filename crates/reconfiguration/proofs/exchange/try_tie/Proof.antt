@@ -4,8 +4,9 @@ use denote.Struct.Field.{u16-field}
 use borrow.Author.Needs.{needs}
 use Rattle.network.specs.ReadLaws.{length-of}
 use Rattle.network.proofs.bus.Bus.{the-type}
-use Rattle.reconfiguration.specs.StateLaws.{few-switches}
-use Rattle.reconfiguration.specs.ExchangeTrials.{tie-on, path-short, tie-tried}
+use Rattle.network.specs.Listed.{few-switches, switch-small}
+use Rattle.graph.specs.Filled.{path-few}
+use Rattle.reconfiguration.specs.ExchangeTrials.{tie-tried}
 use Rattle.reconfiguration.proofs.exchange.try_tie.Statement.{statement}
 use Rattle.reconfiguration.proofs.exchange.try_tie.Tie as tie
 
@@ -17,13 +18,13 @@ element-copy-out-find-loop-branches-closed-tie :
 element-copy-out-find-loop-branches-closed-tie c = omega (arith, few-switches (c .args .t1) (c .pre .0 .0))
 
 find-loop-branches-closed-tie-requires : tie.Need-find-loop-branches-closed-tie-requires
-find-loop-branches-closed-tie-requires c κs = tie-on (c .args .t1) (c .pre .0 .0) (c .args .tie) (c .pre .3)
+find-loop-branches-closed-tie-requires c κs = switch-small (c .args .t1) (c .pre .0 .0) (c .args .tie) (c .pre .3)
 
 first-swap-requires : tie.Need-first-swap-requires
 first-swap-requires c κs =
     let start = c .before in
     let long = length-of (u16-field .into) (c .find-loop-branches-closed-tie .result .branch) (c .find-loop-branches-closed-tie .ok .1 .1 .1 .0 .1 .0 .1) in
-    (start .pre .0, start .pre .1, start .pre .3, path-short _ _ (c .find-loop-branches-closed-tie .ensures) long)
+    (start .pre .0, start .pre .1, start .pre .3, path-few _ _ (c .find-loop-branches-closed-tie .ensures) long)
 
 returns : tie.Need-returns
 returns c =

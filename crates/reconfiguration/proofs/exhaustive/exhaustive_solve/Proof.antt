@@ -5,7 +5,7 @@ use native.Mathlib.Omega.{arith}
 use borrow.Author.Needs.{needs}
 use Rattle.numbers.specs.UpTo.{upTo, upTo-more}
 use Rattle.network.specs.Records.{recordsOf}
-use Rattle.reconfiguration.specs.StateLaws.{few-switches}
+use Rattle.network.specs.Listed.{few-switches}
 use Rattle.reconfiguration.specs.Exhaustive.{tryMask, exhaustive}
 use Rattle.reconfiguration.specs.ExhaustiveMasks.{ten-ties}
 use Rattle.reconfiguration.specs.ExhaustiveTrials.{noMask, none-tried, radial-room}

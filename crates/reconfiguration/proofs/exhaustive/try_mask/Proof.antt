@@ -2,7 +2,7 @@
 use mathlib.Core.Path.{ap, _∙_}
 use borrow.Author.Needs.{needs}
 use Rattle.network.specs.Records.{recordsOf}
-use Rattle.reconfiguration.specs.StateLaws.{few-switches}
+use Rattle.network.specs.Listed.{few-switches}
 use Rattle.reconfiguration.specs.ExhaustiveTrials.{mask-passed, mask-radial}
 use Rattle.reconfiguration.specs.ExhaustiveValues.{exhaustiveOf}
 use Rattle.reconfiguration.proofs.exhaustive.try_mask.Statement.{statement}

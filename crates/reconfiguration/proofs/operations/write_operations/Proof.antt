@@ -4,8 +4,8 @@ use Prim.Native.Nat.{_-_, _<_}
 use native.Mathlib.Omega.{arith}
 use borrow.Author.Needs.{needs}
 use Rattle.network.specs.Records.{recordsOf}
-use Rattle.reconfiguration.specs.Switches.{size}
-use Rattle.reconfiguration.specs.StateLaws.{switches-listed, switch-at}
+use Rattle.network.specs.Switches.{size}
+use Rattle.network.specs.Listed.{switches-listed, switch-at}
 use Rattle.reconfiguration.specs.OperationLines.{Lines, lines-none, lines-length, lines-room, lines-more, lines-all}
 use Rattle.reconfiguration.proofs.operations.write_operations.Statement.{statement}
 use Rattle.reconfiguration.proofs.operations.write_operations.Tie as tie

@@ -7,7 +7,7 @@ use borrow.Author.Needs.{needs}
 use Rattle.numbers.specs.TableLaws.{length-table}
 use Rattle.network.specs.declared.configuration.NetworkConfiguration.{NetworkConfiguration}
 use Rattle.network.specs.AnswerLaws.{accepted-so}
-use Rattle.reconfiguration.specs.StateLaws.{few-switches}
+use Rattle.network.specs.Listed.{few-switches}
 use Rattle.reconfiguration.specs.SolveLaws.{not-solved, no-room, all-solved}
 use Rattle.reconfiguration.proofs.solve.solve.Statement.{statement}
 use Rattle.reconfiguration.proofs.solve.solve.Tie as tie

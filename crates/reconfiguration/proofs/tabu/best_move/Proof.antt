@@ -9,11 +9,11 @@ use Rattle.numbers.specs.UpTo.{upTo}
 use Rattle.network.specs.ReadLaws.{length-of}
 use Rattle.network.specs.Records.{recordsOf}
 use Rattle.network.proofs.branch.Branch.{the-type}
-use Rattle.reconfiguration.specs.StateLaws.{few-switches, switches-listed}
-use Rattle.reconfiguration.specs.Switches.{size}
+use Rattle.network.specs.Listed.{switch-small, few-switches, switches-listed}
+use Rattle.network.specs.Switches.{size}
 use Rattle.reconfiguration.specs.Tabu.{Tabu, bestMove}
 use Rattle.reconfiguration.specs.TabuValues.{candidateOf, seeing, Stands}
-use Rattle.reconfiguration.specs.TabuMoves.{on-branch, switch-read, seen-more}
+use Rattle.reconfiguration.specs.TabuMoves.{switch-read, seen-more}
 use Rattle.reconfiguration.proofs.tabu.best_move.Statement.{statement}
 use Rattle.reconfiguration.proofs.tabu.best_move.Tie as tie
 
@@ -48,7 +48,7 @@ element-copy-out-see-kept : tie.Need-element-copy-out-see-kept Inv-loop μ-loop
 element-copy-out-see-kept c =
     let loop = c .before .before .before .before in
     let start = loop .before .before .before in
-    omega (arith, c .wide162 .ensures .0, on-branch (start .args .t1) (start .pre .0 .0) (loop .loop .i) (omega arith) _ refl)
+    omega (arith, c .wide162 .ensures .0, switch-small (start .args .t1) (start .pre .0 .0) (loop .loop .i) (omega arith))
 
 see-kept-requires : tie.Need-see-kept-requires Inv-loop μ-loop
 see-kept-requires c κs =

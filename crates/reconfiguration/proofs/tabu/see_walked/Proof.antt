@@ -6,9 +6,9 @@ use lib.ListN.{getD}
 use Rattle.network.specs.ReadLaws.{pastBranch, length-of}
 use Rattle.network.specs.Records.{noSwitch}
 use Rattle.network.proofs.branch.Branch.{the-type}
-use Rattle.reconfiguration.specs.StateLaws.{few-switches}
+use Rattle.network.specs.Listed.{switch-small, few-switches}
 use Rattle.reconfiguration.specs.TabuValues.{SwitchAt}
-use Rattle.reconfiguration.specs.TabuMoves.{on-branch, switch-read, see-locked, see-unserved, see-walked, see-judged}
+use Rattle.reconfiguration.specs.TabuMoves.{switch-read, see-locked, see-unserved, see-walked, see-judged}
 use Rattle.reconfiguration.proofs.tabu.see_walked.Statement.{statement}
 use Rattle.reconfiguration.proofs.tabu.see_walked.Tie as tie
 
@@ -27,7 +27,7 @@ mul-if1 c = search needs
 element-copy-out-if1 : tie.Need-element-copy-out-if1
 element-copy-out-if1 c =
     let start = c .before .before in
-    omega (arith, c .wide16 .ensures .0, on-branch (start .args .t1) (start .pre .0 .0) (start .args .i) (start .pre .2) _ refl)
+    omega (arith, c .wide16 .ensures .0, switch-small (start .args .t1) (start .pre .0 .0) (start .args .i) (start .pre .2))
 
 toggled-requires : tie.Need-toggled-requires
 toggled-requires c κs =

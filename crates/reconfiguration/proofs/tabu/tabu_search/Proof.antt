@@ -2,7 +2,7 @@
 use Prim.Native.Nat.{_-_}
 use native.Mathlib.Omega.{arith}
 use borrow.Author.Needs.{needs}
-use Rattle.reconfiguration.specs.ExchangeRounds.{rounds-few}
+use Rattle.network.specs.Listed.{rounds-few}
 use Rattle.reconfiguration.specs.TabuMoves.{barred-held}
 use Rattle.reconfiguration.specs.TabuRounds.{Standing, standing-base, standing-ended, standing-done, standing-next}
 use Rattle.reconfiguration.proofs.tabu.tabu_search.Statement.{statement}

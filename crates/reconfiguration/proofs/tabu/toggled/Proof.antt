@@ -1,7 +1,7 @@
 -- `toggled` meets its contract: an open switch is closed, and another opened.
 use borrow.Author.Needs.{needs}
 use borrow.Author.Tests.{eq-eqb, ne-eqb}
-use Rattle.reconfiguration.specs.Switches.{toggled}
+use Rattle.network.specs.Switches.{toggled}
 use Rattle.reconfiguration.proofs.tabu.toggled.Statement.{statement}
 use Rattle.reconfiguration.proofs.tabu.toggled.Tie as tie
 

@@ -1,5 +1,5 @@
 -- `timing_rounds` meets its contract: the text is refused, and every round counts for nothing, or the rounds run on its records.
-use Rattle.controller.specs.CallLaws.{read-refused, read-accepted}
+use Rattle.frames.specs.ReadingLaws.{read-refused, read-accepted}
 use Rattle.timing.specs.RoundLaws.{total-refused}
 use borrow.Author.Needs.{needs}
 use Rattle.timing.proofs.rounds.timing_rounds.Statement.{statement}

@@ -1,6 +1,5 @@
 -- `reading` meets its contract: a refused text counts for nothing, an accepted one for its records.
-use mathlib.Core.Path.{sym, _∙_}
-use Rattle.controller.specs.CallLaws.{read-refused, read-accepted}
+use Rattle.frames.specs.ReadingLaws.{read-refused, read-accepted}
 use Rattle.timing.specs.RoundLaws.{count-refused, count-accepted}
 use borrow.Author.Needs.{needs}
 use Rattle.timing.proofs.values.reading.Statement.{statement}
