@@ -16,7 +16,6 @@ pub mod LowerNumber
 pub mod Steps
 pub mod Split
 pub mod Claim
-pub mod Examples
 pub mod Reading
 pub mod ReadingLaws
 pub mod FirstLine

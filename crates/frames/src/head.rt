@@ -11,7 +11,7 @@ ghost use Rattle.frames.specs.Text.{head, methodOf, headOf, headLineFaul
 ghost use Rattle.frames.specs.FrameReads.{headAnswer, headWith};
 use crate::hex;
 use crate::line;
-use network::check;
+use checks::check;
 use network::error::Verdict;
 use network::switch::ReconfigAlgorithm;
 

@@ -17,7 +17,7 @@ use crate::head::HeadRead;
 use crate::line;
 use crate::pass::Pass;
 use crate::switch;
-use network::check;
+use checks::check;
 use network::error::Verdict;
 use network::switch::ReconfigAlgorithm;
 use network::topology::PowerNetwork;

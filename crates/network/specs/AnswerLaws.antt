@@ -36,6 +36,11 @@ unfolding _andThen_
 then-iff (accepted u) w = (λ e. (refl, e), λ h. h .1)
 then-iff (refused n p) w = (λ e. no-refusal e, λ h. no-refusal (h .0))
 
+pub then-assoc : {A : Type 0} (v w : Answer (Unit {0})) (a : Answer A) → (v andThen w andThen a) ≡ ((v andThen w) andThen a)
+unfolding _andThen_
+then-assoc (accepted u) w a = refl
+then-assoc (refused n p) w a = refl
+
 -- the value of an accepted answer
 abbrev value-of : {A : Type 0} → A → Answer A → A
 value-of d (accepted a) = a

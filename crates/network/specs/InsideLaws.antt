@@ -17,7 +17,7 @@ use Rattle.network.specs.Records.{Network}
 use Rattle.network.specs.Answers.{accepted, Fault, judge}
 use Rattle.network.specs.AnswerLaws.{Passes, judge-iff, then-iff}
 use Rattle.network.specs.Faults.{Head, okBase, okLoad, okR, among, busId, switchId, on, ties, methodByte, headFaults, busFaults, branchFaults, switchFaults}
-use Rattle.network.specs.FaultLaws.{ties-more}
+use Rattle.network.specs.TieLaws.{ties-more}
 use Rattle.network.specs.Check.{headOf, checkRun, checkRecords}
 use Rattle.network.specs.Inside.{Each, Listed, Inside}
 

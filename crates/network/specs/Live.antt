@@ -4,6 +4,7 @@ use mathlib.Core.List.{List, [], _∷_, map}
 use Prim.Native.Nat.{ℕ}
 use lib.Dec.{leb, eqb}
 use lib.ListN.{length, getD}
+use Rattle.network.specs.declared.branch.Branch.{Branch}
 use Rattle.network.specs.declared.switch.Switch.{Switch}
 use Rattle.network.specs.Records.{Network, noBranch}
 use Rattle.network.specs.Answers.{Answer, _if_, judge}
@@ -29,6 +30,10 @@ openOn (w ∷ ws) (b ∷ bs) k = (eqb (w .«branch_idx») k && eqb b 1) || openO
 -- document 01: "A branch is live when its status is 01 and no open switch is on it"
 unfoldable pub live : Network → List ℕ → ℕ → Bool
 live N s k = getD (N .branches) k noBranch .status && not (openOn (N .switches) s k)
+
+-- the same, from flags of the branches with an open switch
+unfoldable pub liveBy : List Branch → List Bool → ℕ → Bool
+liveBy branches opened k = getD branches k noBranch .status && not (getD opened k false)
 
 -- document 01: "The base opens exactly the normally open switches"
 unfoldable pub baseState : Network → List ℕ

@@ -13,11 +13,12 @@ use lib.Seq.{getD-set-same, getD-set-other, take-suc, drop-cons}
 use borrow.Author.Tests.{eq-eqb, ne-eqb, ltb-true, ltb-false}
 use Rattle.numbers.specs.UpTo.{table}
 use Rattle.numbers.specs.TableLaws.{length-table, getD-table, as-table, table-more, take-table, table-cong}
+use Rattle.network.specs.declared.branch.Branch.{Branch}
 use Rattle.network.specs.declared.switch.Switch.{Switch}
 use Rattle.network.specs.declared.topology.PowerNetwork.{PowerNetwork}
-use Rattle.network.specs.Records.{Network, noBranch, noSwitch, recordsOf, padded}
+use Rattle.network.specs.Records.{Network, noBranch, noSwitch, listed, recordsOf, padded}
 use Rattle.network.specs.RecordLaws.{getD-padded, length-padded}
-use Rattle.network.specs.Live.{stateByte, each, openOn, live, baseState}
+use Rattle.network.specs.Live.{stateByte, each, openOn, live, liveBy, baseState}
 use Rattle.network.specs.Configuration.{configurationOf}
 
 -- ---- each byte of a state, by rising position
@@ -130,19 +131,17 @@ unfolding baseState recordsOf
 base-beyond n i h = List·getD-eq-default (baseState (recordsOf n)) 0 (simp (length-map, length-table) h)
 
 -- ---- liveness, branch by branch, from the flags of the branches with an open switch
-unfoldable pub liveBy : PowerNetwork → List Bool → ℕ → Bool
-liveBy n opened k = getD (recordsOf n .branches) k noBranch .status && not (getD opened k false)
+module _ (branches : List Branch) (count : ℕ) (opened : List Bool) (k : ℕ) where
+  pub live-at : k < count → (getD branches k noBranch .status && not (getD opened k false)) ≡ liveBy (listed noBranch branches count) opened k
+  unfolding liveBy
+  live-at h = rw (getD-table (λ i. getD branches i noBranch) count k noBranch h)
 
-pub live-at : (n : PowerNetwork) (opened : List Bool) (k : ℕ) → k < n .«branch_count» → (getD (n .branches) k noBranch .status && not (getD opened k false)) ≡ liveBy n opened k
-unfolding liveBy recordsOf
-live-at n opened k h = rw (getD-table (λ i. getD (n .branches) i noBranch) (n .«branch_count») k noBranch h)
+  pub live-beyond : count ≤ k → liveBy (listed noBranch branches count) opened k ≡ false
+  unfolding liveBy
+  live-beyond h =
+      rw (List·getD-eq-default (listed noBranch branches count) noBranch {n = k} (rw (length-table (λ i. getD branches i noBranch) count) h))
 
-pub live-beyond : (n : PowerNetwork) (opened : List Bool) (k : ℕ) → n .«branch_count» ≤ k → liveBy n opened k ≡ false
-unfolding liveBy recordsOf
-live-beyond n opened k h =
-    rw (List·getD-eq-default (table (λ i. getD (n .branches) i noBranch) (n .«branch_count»)) noBranch {n = k} (rw (length-table (λ i. getD (n .branches) i noBranch) (n .«branch_count»)) h))
-
-pub live-table : (n : PowerNetwork) (s : List ℕ) (opened : List Bool) (size : ℕ) → opened ≡ table (openOn (recordsOf n .switches) s) size
-    → table (liveBy n opened) size ≡ table (live (recordsOf n) s) size
+pub live-table : (N : Network) (s : List ℕ) (opened : List Bool) (size : ℕ) → opened ≡ table (openOn (N .switches) s) size
+    → table (liveBy (N .branches) opened) size ≡ table (live N s) size
 unfolding liveBy live
-live-table n s opened size e = table-cong _ _ size (λ k h. rw (e, getD-table (openOn (recordsOf n .switches) s) size k false h))
+live-table N s opened size e = table-cong _ _ size (λ k h. rw (e, getD-table (openOn (N .switches) s) size k false h))

@@ -15,7 +15,19 @@ use Rattle.network.specs.declared.topology.BusIndex.the-variants.{At, No
 use Rattle.network.specs.declared.topology.PowerNetwork.{PowerNetwork}
 use Rattle.network.specs.Faults.{busId}
 use Rattle.network.specs.Lookups.{busIndex}
-use Rattle.network.specs.Records.{noBus, recordsOf}
+use Rattle.network.specs.Records.{noBus, listed, recordsOf}
+
+-- the first position from i on: i itself, or one behind it
+module _ (x : ℕ) (l : List ℕ) (i : ℕ) (h : i < length l) where
+  pub index-here : getD l i 0 ≡ x → i + indexOf x (drop i l) ≡ i
+  unfolding indexOf
+  index-here q = rw (drop-cons l i 0 h, eq-eqb x (getD l i 0) (sym q)) (add-zero i)
+
+  pub index-behind : (getD l i 0 ≡ x → ⊥) → i + indexOf x (drop i l) ≡ i + 1 + indexOf x (drop (i + 1) l)
+  unfolding indexOf
+  index-behind n =
+      let e : indexOf x (drop i l) ≡ suc (indexOf x (drop (i + 1) l)) = rw (drop-cons l i 0 h, ne-eqb x (getD l i 0) (λ q. n (sym q)), add-one) in
+      omega arith
 
 module _ (x : ℕ) (l : List ℕ) where
   -- x stands at none of the first i positions
@@ -28,14 +40,12 @@ module _ (x : ℕ) (l : List ℕ) where
 
   module _ (i : ℕ) (u : Unseen i) where
     pub unseen-more : i < length l → (getD l i 0 ≡ x → ⊥) → Unseen (i + 1)
-    unfolding Unseen indexOf
-    unseen-more h n =
-        let e : indexOf x (drop i l) ≡ suc (indexOf x (drop (i + 1) l)) = rw (drop-cons l i 0 h, ne-eqb x (getD l i 0) (λ q. n (sym q)), add-one) in
-        omega (arith, u, e)
+    unfolding Unseen
+    unseen-more h n = u ∙ index-behind x l i h n
 
     pub seen-here : i < length l → getD l i 0 ≡ x → indexOf x l ≡ i
-    unfolding Unseen indexOf
-    seen-here h q = u ∙ rw (drop-cons l i 0 h, eq-eqb x (getD l i 0) (sym q)) (add-zero i)
+    unfolding Unseen
+    seen-here h q = u ∙ index-here x l i h q
 
     pub seen-nowhere : length l ≤ i → indexOf x l ≡ i
     unfolding Unseen indexOf
@@ -49,13 +59,14 @@ pub not-found : (buses : List Bus) (id i : ℕ) → length buses ≤ i → index
 unfolding busIndex
 not-found buses id i h e = rw (e, le-ltb i (length buses) h)
 
--- the id at a position of the listed buses
-pub id-at : (count : ℕ) (buses : List Bus) (i : ℕ) → i < count → getD (map busId (take count buses)) i 0 ≡ getD buses i noBus .id
-id-at count buses i h = List·getD-map busId (take count buses) i noBus ∙ ap busId (getD-take count buses i noBus h)
+-- the key at a position of the first n records
+pub key-at : {A : Type 0} (key : A → ℕ) (n : ℕ) (l : List A) (i : ℕ) (d : A) → i < n → getD (map key (take n l)) i (key d) ≡ key (getD l i d)
+key-at key n l i d h = List·getD-map key (take n l) i d ∙ ap key (getD-take n l i d h)
 
 -- inside the limit these are the listed records
+pub listed-first : {A : Type 0} (d : A) (l : List A) (n : ℕ) → n ≤ length l → take n l ≡ listed d l n
+listed-first d l n h = as-table _ n d (take n l) (length-take n l ∙ omega arith) (λ i k. getD-take n l i d k)
+
 pub listed-buses : (n : PowerNetwork) → n .«bus_count» ≤ length (n .buses) → take (n .«bus_count») (n .buses) ≡ recordsOf n .buses
 unfolding recordsOf
-listed-buses n h =
-    as-table _ (n .«bus_count») noBus (take (n .«bus_count») (n .buses)) (length-take (n .«bus_count») (n .buses) ∙ omega arith)
-    (λ i k. getD-take (n .«bus_count») (n .buses) i noBus k)
+listed-buses n h = listed-first noBus (n .buses) (n .«bus_count») h

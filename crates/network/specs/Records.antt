@@ -30,6 +30,10 @@ pub record Network : Type 0 where
   pub branches : List Branch
   pub switches : List Switch
 
+-- the first n of an array, also where it has fewer
+abbrev pub listed : {A : Type 0} → A → List A → ℕ → List A
+listed none l n = table (λ i. getD l i none) n
+
 -- the listed records of a value handed over: as many of each kind as its count says, also where that is over the limit
 unfoldable pub recordsOf : PowerNetwork → Network
 recordsOf n =
@@ -37,9 +41,9 @@ recordsOf n =
       base = n .«base_mva»;
       algorithm = n .algorithm;
       iterations = n .«max_iterations»;
-      buses = table (λ i. getD (n .buses) i noBus) (n .«bus_count»);
-      branches = table (λ i. getD (n .branches) i noBranch) (n .«branch_count»);
-      switches = table (λ i. getD (n .switches) i noSwitch) (n .«switch_count»);
+      buses = listed noBus (n .buses) (n .«bus_count»);
+      branches = listed noBranch (n .branches) (n .«branch_count»);
+      switches = listed noSwitch (n .switches) (n .«switch_count»);
     }
 
 -- the first entries are listed, the others empty

@@ -5,7 +5,7 @@ use mathlib.Core.List.{List}
 use Prim.Native.Nat.{ℕ, _≤_, _<_}
 use lib.Dec.{eqb}
 use lib.ListN.{length, getD, set}
-use Rattle.network.specs.Records.{Network, noSwitch}
+use Rattle.network.specs.Records.{Network, noBranch, noSwitch}
 use Rattle.network.specs.declared.switch.Switch.{Switch}
 
 -- a byte for each switch: 00 closed, 01 open
@@ -32,6 +32,10 @@ branchOf N i = switch N i .«branch_idx»
 
 abbrev pub operable : Network → ℕ → Bool
 operable N i = switch N i .«can_operate»
+
+-- the status of branch k
+abbrev pub inService : Network → ℕ → Bool
+inService N k = getD (N .branches) k noBranch .status
 
 -- document 01's tie: a switch that is normally open. A section is any other switch (`not isTie`)
 abbrev pub isTie : Network → ℕ → Bool

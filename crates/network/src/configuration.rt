@@ -6,10 +6,11 @@ ghost use lib.Dec.{leb};
 ghost use Rattle.numbers.specs.UpTo.{table};
 ghost use Rattle.network.specs.Answers.{answerOf};
 ghost use Rattle.network.specs.Configuration.{configurationOf};
-ghost use Rattle.network.specs.Live.{stateByte, each, checkState, openOn, live, baseState};
-ghost use Rattle.network.specs.Records.{recordsOf};
+ghost use Rattle.network.specs.Live.{stateByte, each, checkState, openOn, liveBy, live, baseState};
+ghost use Rattle.network.specs.Records.{noBranch, noSwitch, listed, recordsOf};
 use crate::branch::Branch;
 use crate::error::Verdict;
+use crate::switch::Switch;
 use crate::topology::PowerNetwork;
 use numbers::at_most;
 use numbers::wide16;
@@ -60,7 +61,7 @@ fn state_byte(opened: bool) -> u8
 }
 
 // Document 01's base: it opens exactly the normally open switches.
-pub fn base_configuration(network: PowerNetwork) -> NetworkConfiguration
+pub fn build_base_configuration(network: PowerNetwork) -> NetworkConfiguration
     ensures { λ r. ⌜ r ≡ configurationOf (baseState (recordsOf network)) ⌝ }
 {
     let count = at_most(
@@ -118,17 +119,18 @@ fn no_branches() -> [bool; 512]
 }
 
 // A flag for each branch position: whether an open switch is on it.
-fn open_branches(network: PowerNetwork, configuration: NetworkConfiguration) -> [bool; 512]
-    ensures { λ r. ⌜ r ≡ table (openOn (recordsOf network .switches) (configuration .switches)) 512 ⌝ }
+fn open_branches(
+    switches: [Switch; 512],
+    count: usize,
+    configuration: NetworkConfiguration,
+) -> [bool; 512]
+    ensures { λ r. ⌜ r ≡ table (openOn (listed noSwitch switches count) (configuration .switches)) 512 ⌝ }
 {
-    let count = at_most(
-        network.switch_count as usize,
-        NetworkConfiguration::MAX_SWITCHES,
-    );
+    let n = at_most(count, NetworkConfiguration::MAX_SWITCHES);
     let mut opened = no_branches();
     let mut i: usize = 0;
-    while i < count {
-        let on = wide16(network.switches[i].branch_idx);
+    while i < n {
+        let on = wide16(switches[i].branch_idx);
         if configuration.switches[i] == NetworkConfiguration::OPEN {
             if on < 512 {
                 opened[on] = true;
@@ -139,20 +141,26 @@ fn open_branches(network: PowerNetwork, configuration: NetworkConfiguration) -> 
     opened
 }
 
+// A flag for each branch position: whether the branch is listed and live, from the flags of those with an open switch.
+fn live_list(branches: [Branch; 512], count: usize, opened: &[bool; 512]) -> [bool; 512]
+    ensures { λ r. ⌜ r ≡ table (liveBy (listed noBranch branches count) (now (opened .entry))) 512 ⌝ }
+{
+    let m = at_most(count, PowerNetwork::MAX_BRANCHES as usize);
+    let mut flags = no_branches();
+    let mut k: usize = 0;
+    while k < m {
+        flags[k] = is_live(branches[k], opened[k]);
+        k += 1;
+    }
+    flags
+}
+
 // A flag for each branch position: whether the branch is live in the state.
 pub fn live_branches(network: PowerNetwork, configuration: NetworkConfiguration) -> [bool; 512]
     ensures { λ r. ⌜ r ≡ table (live (recordsOf network) (configuration .switches)) 512 ⌝ }
 {
-    let count = at_most(
-        network.branch_count as usize,
-        PowerNetwork::MAX_BRANCHES as usize,
-    );
-    let opened = open_branches(network, configuration);
-    let mut flags = no_branches();
-    let mut k: usize = 0;
-    while k < count {
-        flags[k] = is_live(network.branches[k], opened[k]);
-        k += 1;
-    }
-    flags
+    let switches = network.switches;
+    let branches = network.branches;
+    let opened = open_branches(switches, network.switch_count as usize, configuration);
+    live_list(branches, network.branch_count as usize, &opened)
 }

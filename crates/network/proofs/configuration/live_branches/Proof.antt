@@ -1,105 +1,30 @@
--- `live_branches` meets its contract: the first k flags say which branches are live, the others are still false.
-use mathlib.Core.Path.{_≡_, ap, _∙_}
-use mathlib.Core.Bool.{false, not, _&&_}
-use Prim.Native.Nat.{_≤_, _-_}
-use native.Mathlib.Omega.{arith}
-use lib.ListN.{getD}
+-- `live_branches` meets its contract: the flags of the branches with an open switch say which are live.
+use mathlib.Core.Path.{_∙_}
 use borrow.Author.Needs.{needs}
-use Rattle.numbers.specs.TableLaws.{filled, filled-none, filled-more, filled-all}
-use Rattle.network.specs.LiveLaws.{liveBy, live-at, live-beyond, live-table}
-use Rattle.network.specs.ReadLaws.{length-of, branch-read}
-use Rattle.network.proofs.branch.Branch.{the-type}
+use Rattle.network.specs.LiveLaws.{live-table}
+use Rattle.network.specs.Records.{recordsOf}
 use Rattle.network.proofs.configuration.live_branches.Statement.{statement}
 use Rattle.network.proofs.configuration.live_branches.Tie as tie
 
-abbrev Inv-loop : tie.InvT-loop
-Inv-loop network count opened flags₀ k₀ flags k = (k ≤ count) × (flags ≡ filled (liveBy network opened) false 512 k)
+cast-open-branches : tie.Need-cast-open-branches
+cast-open-branches c = search needs
 
-abbrev μ-loop : tie.MeasureT-loop
-μ-loop network count opened flags₀ k₀ flags k = count - k
-
-cast-at-most : tie.Need-cast-at-most Inv-loop μ-loop
-cast-at-most c = search needs
-
-cast-at-most-2 : tie.Need-cast-at-most-2 Inv-loop μ-loop
-cast-at-most-2 c = search needs
-
-at-most-requires : tie.Need-at-most-requires Inv-loop μ-loop
-at-most-requires c κs = search needs
-
-open-branches-requires : tie.Need-open-branches-requires Inv-loop μ-loop
+open-branches-requires : tie.Need-open-branches-requires
 open-branches-requires c κs = search needs
 
-no-branches-requires : tie.Need-no-branches-requires Inv-loop μ-loop
-no-branches-requires c κs = search needs
+cast-live-list : tie.Need-cast-live-list
+cast-live-list c = search needs
 
-loop-holds : tie.Need-loop-holds Inv-loop μ-loop
-loop-holds c = (search needs, c .no-branches .ensures ∙ filled-none _ _ _)
+live-list-requires : tie.Need-live-list-requires
+live-list-requires c κs = search needs
 
-mul-is-live : tie.Need-mul-is-live Inv-loop μ-loop
-mul-is-live c = search needs
-
-element-copy-out-is-live : tie.Need-element-copy-out-is-live Inv-loop μ-loop
-element-copy-out-is-live c = search needs
-
-array-read-is-live : tie.Need-array-read-is-live Inv-loop μ-loop
-array-read-is-live c = search needs
-
-is-live-requires : tie.Need-is-live-requires Inv-loop μ-loop
-is-live-requires c κs = search needs
-
-array-write-flags : tie.Need-array-write-flags Inv-loop μ-loop
-array-write-flags c = search needs
-
-add-k : tie.Need-add-k Inv-loop μ-loop
-add-k c = search needs
-
-loop-less : tie.Need-loop-less Inv-loop μ-loop
-loop-less c = search needs
-
-loop-again : tie.Need-loop-again Inv-loop μ-loop
-loop-again c =
-    let at = c .before .before .before in
-    let opened = at .before .before in
-    let start = opened .before .before in
-    let read = branch-read (start .args .t1 .branches) (at .loop .k) (length-of (the-type .to) (start .args .t1 .branches) (start .good .0 .1 .1 .1 .0 .1 .0 .1)) (search needs) in (
-      search needs,
-      rw (
-        at .loop .inv .1,
-        c .is-live .ensures
-            ∙ ap (λ b. b .status && not (getD (opened .open-branches .result) (at .loop .k) false)) read
-            ∙ live-at (start .args .t1) (opened .open-branches .result) (at .loop .k) (search needs),
-      )
-          (filled-more _ false 512 (at .loop .k) (search needs)),
-    )
-
-returns : tie.Need-returns Inv-loop μ-loop
+returns : tie.Need-returns
+unfolding recordsOf
 returns c =
-    let loop = c .before .loop in
     let opened = c .before .before .before in
-    let start = opened .before .before in
-    loop .inv .1
-    ∙ filled-all _ false 512 (loop .k) (λ j h l. live-beyond (start .args .t1) _ j (omega arith))
-    ∙ live-table (start .args .t1) _ _ 512 (opened .open-branches .ensures)
+    c .live-list .ensures ∙ live-table (recordsOf (opened .before .before .before .before .args .network)) _ _ 512 (opened .open-branches .ensures)
 
 pub live-branches-spec : {M : Type 1} → statement M
 live-branches-spec =
     tie.close
-    (tie.spec
-    Inv-loop
-    μ-loop
-    cast-at-most
-    cast-at-most-2
-    at-most-requires
-    open-branches-requires
-    no-branches-requires
-    loop-holds
-    mul-is-live
-    element-copy-out-is-live
-    array-read-is-live
-    is-live-requires
-    array-write-flags
-    add-k
-    loop-less
-    loop-again
-    returns)
+    (tie.spec cast-open-branches open-branches-requires cast-live-list live-list-requires returns)

@@ -10,18 +10,15 @@ use Rattle.numbers.specs.UpTo.{table}
 use Rattle.numbers.specs.TableLaws.{table-cong}
 use Rattle.network.specs.LiveLaws.{openSoFar, open-none, open-closed, open-beyond, open-set, open-all}
 use Rattle.network.specs.ReadLaws.{length-of}
-use Rattle.network.specs.Records.{recordsOf, noSwitch}
+use Rattle.network.specs.Records.{noSwitch}
 use Rattle.network.proofs.configuration.open_branches.Statement.{statement}
 use Rattle.network.proofs.configuration.open_branches.Tie as tie
 
 abbrev Inv-loop : tie.InvT-loop
-Inv-loop network configuration count opened₀ i₀ opened i = (i ≤ count) × (opened ≡ table (openSoFar (λ j. getD (network .switches) j noSwitch) (configuration .switches) i) 512)
+Inv-loop count switches configuration n opened₀ i₀ opened i = (i ≤ n) × (opened ≡ table (openSoFar (λ j. getD switches j noSwitch) (configuration .switches) i) 512)
 
 abbrev μ-loop : tie.MeasureT-loop
-μ-loop network configuration count opened₀ i₀ opened i = count - i
-
-cast-at-most : tie.Need-cast-at-most Inv-loop μ-loop
-cast-at-most c = search needs
+μ-loop count switches configuration n opened₀ i₀ opened i = n - i
 
 at-most-requires : tie.Need-at-most-requires Inv-loop μ-loop
 at-most-requires c κs = search needs
@@ -54,14 +51,14 @@ loop-less : tie.Need-loop-less Inv-loop μ-loop
 loop-less c = search needs
 
 -- the configuration has 512 bytes
-bytes : (c : tie.Start Inv-loop μ-loop) → length (c .args .t2 .switches) ≡ 512
-bytes c = length-of (u8-field .into) (c .args .t2 .switches) (c .good .1 .0 .1 .1 .0 .1 .0 .1)
+bytes : (c : tie.Start Inv-loop μ-loop) → length (c .args .t3 .switches) ≡ 512
+bytes c = length-of (u8-field .into) (c .args .t3 .switches) (c .good .1 .1 .0 .1 .1 .0 .1 .0 .1)
 
 loop-again : tie.Need-loop-again Inv-loop μ-loop
 loop-again c =
     let at = c .before .before .before .before in
     let start = at .before .before .before in
-    let h : at .loop .i < length (start .args .t2 .switches) = omega (arith, bytes start) in (
+    let h : at .loop .i < length (start .args .t3 .switches) = omega (arith, bytes start) in (
       search needs,
       ⊎-elim
           (λ w. w .2 ∙ rw (at .loop .inv .1) (open-set _ _ 512 (at .loop .i) h _ (c .before .before .wide16 .ensures .0) (w .1 .taken) (w .0 .taken)))
@@ -72,11 +69,10 @@ loop-again c =
     )
 
 returns : tie.Need-returns Inv-loop μ-loop
-unfolding recordsOf
 returns c =
     let loop = c .before .loop in
     let start = c .before .before .before .before in
-    loop .inv .1 ∙ table-cong _ _ 512 (λ k h. open-all _ (start .args .t2 .switches) (start .args .t1 .«switch_count») (loop .i) k (omega (arith, bytes start)))
+    loop .inv .1 ∙ table-cong _ _ 512 (λ k h. open-all _ (start .args .t3 .switches) (start .args .count) (loop .i) k (omega (arith, bytes start)))
 
 pub open-branches-spec : {M : Type 1} → statement M
 open-branches-spec =
@@ -84,7 +80,6 @@ open-branches-spec =
     (tie.spec
     Inv-loop
     μ-loop
-    cast-at-most
     at-most-requires
     no-branches-requires
     loop-holds

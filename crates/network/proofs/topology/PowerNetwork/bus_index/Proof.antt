@@ -6,7 +6,7 @@ use native.Mathlib.Omega.{arith}
 use lib.ListN.{length, getD, take, length-take, length-map}
 use borrow.Author.Needs.{needs}
 use Rattle.network.specs.Faults.{busId}
-use Rattle.network.specs.LookupLaws.{Unseen, unseen-none, unseen-more, seen-here, seen-nowhere, found-at, not-found, id-at}
+use Rattle.network.specs.LookupLaws.{Unseen, unseen-none, unseen-more, seen-here, seen-nowhere, found-at, not-found, key-at}
 use Rattle.network.specs.ReadLaws.{pastBus, length-of, bus-read}
 use Rattle.network.proofs.bus.Bus.{the-type}
 use Rattle.network.proofs.topology.PowerNetwork.bus_index.Statement.{statement}
@@ -49,7 +49,7 @@ listed c =
     let i = c .before .loop .i in
     let e = size (c .before .before .before) in
     let h : i < length (take (n .«bus_count») (n .buses)) = rw (length-take (n .«bus_count») (n .buses)) (omega arith) in
-    (h, rw (length-map (take (n .«bus_count») (n .buses)) busId) h, id-at (n .«bus_count») (n .buses) i (omega arith) ∙ ap busId (sym (bus-read (n .buses) i e (omega arith))))
+    (h, rw (length-map (take (n .«bus_count») (n .buses)) busId) h, key-at busId (n .«bus_count») (n .buses) i pastBus (omega arith))
 
 returns : tie.Need-returns Inv-loop μ-loop
 returns c =

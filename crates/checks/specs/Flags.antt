@@ -1,0 +1,48 @@
+-- A flag for each number below a size: whether the number is among those met so far.
+use mathlib.Core.Path.{_≡_, refl, sym, _∙_}
+use mathlib.Core.Bool.{Bool, true, false, _||_, or-true, or-false}
+use mathlib.Core.List.{List, [], _∷_, _++_}
+use Prim.Native.Nat.{ℕ, _<_}
+use native.Mathlib.Decide.{ℕ-discrete}
+use lib.Dec.{eqb}
+use lib.ListN.{length, getD, set, replicate, length-set, length-replicate, getD-replicate}
+use lib.Seq.{getD-set-same, getD-set-other}
+use borrow.Author.Tests.{eq-eqb, ne-eqb}
+use Rattle.numbers.specs.UpTo.{table}
+use Rattle.numbers.specs.TableLaws.{length-table, getD-table, as-table}
+use Rattle.network.specs.Faults.{among}
+
+unfoldable pub flags : ℕ → List ℕ → List Bool
+flags size xs = table (λ x. among x xs) size
+
+among-more : (y x : ℕ) (xs : List ℕ) → among y (xs ++ (x ∷ [])) ≡ (among y xs || eqb y x)
+unfolding among
+among-more y x [] = or-false (eqb y x)
+among-more y x (z ∷ xs) = rw (among-more y x xs) (go (eqb y z))
+  where
+    go : (b : Bool) → (b || (among y xs || eqb y x)) ≡ (b || among y xs || eqb y x)
+    go true = refl
+    go false = refl
+
+pub length-flags : (size : ℕ) (xs : List ℕ) → length (flags size xs) ≡ size
+unfolding flags
+length-flags size xs = length-table _ size
+
+pub flag-at : (size x : ℕ) (xs : List ℕ) → x < size → getD (flags size xs) x false ≡ among x xs
+unfolding flags
+flag-at size x xs h = getD-table _ size x false h
+
+pub no-flags : (size : ℕ) → replicate size false ≡ flags size []
+unfolding flags among
+no-flags size = as-table _ size false (replicate size false) (length-replicate size false) (λ i h. getD-replicate size i false false h)
+
+-- one number more
+pub set-flag : (size x : ℕ) (xs : List ℕ) → x < size → set (flags size xs) x true ≡ flags size (xs ++ (x ∷ []))
+unfolding flags
+set-flag size x xs h = as-table _ size false (set (flags size xs) x true) (length-set (flags size xs) x true ∙ length-flags size xs) (λ i k. go i k (ℕ-discrete i x))
+  where
+    go : (i : ℕ) → i < size → Dec (i ≡ x) → getD (set (flags size xs) x true) i false ≡ among i (xs ++ (x ∷ []))
+    go i k (yes e) =
+        rw (e, among-more x x xs, eq-eqb x x refl, or-true) (getD-set-same (flags size xs) x true false (rw (length-flags size xs) h))
+    go i k (no n) =
+        getD-set-other (flags size xs) x i true false n ∙ flag-at size i xs k ∙ sym (rw (among-more i x xs, ne-eqb i x n, or-false))

@@ -1,0 +1,6 @@
+pub mod Ids
+pub mod Flags
+pub mod FaultLaws
+pub mod CheckLaws
+pub mod IdLaws
+pub mod WholeCheck

@@ -1,0 +1,44 @@
+-- The check of a value that is handed over, part by part, in the numbers that the value has.
+use mathlib.Core.Path.{_≡_, ap, sym, _∙_}
+use mathlib.Core.Bool.{not, _||_}
+use mathlib.Core.List.{List, [], _∷_}
+use Prim.Native.Nat.{_+_, _≤_}
+use lib.Dec.{ltb}
+use Rattle.numbers.specs.TableLaws.{length-table}
+use Rattle.network.specs.declared.error.Verdict.{Verdict}
+use Rattle.network.specs.declared.error.Verdict.the-variants.{Accepted}
+use Rattle.network.specs.declared.topology.PowerNetwork.{PowerNetwork}
+use Rattle.network.specs.Records.{recordsOf}
+use Rattle.network.specs.Answers.{answerOf, _andThen_, Fault, _if_, judge}
+use Rattle.network.specs.AnswerLaws.{judge-iff, then-assoc}
+use Rattle.network.specs.Faults.{okBase, headFaults, busFaults, branchFaults, switchFaults}
+use Rattle.network.specs.Check.{headOf, checkRun, checkRecords}
+use Rattle.network.specs.InsideLaws.{head-iff}
+
+-- the head's conditions on the value's own counts
+abbrev headRows : PowerNetwork → List Fault
+headRows n =
+    (3 if ltb 1000 (n .«max_iterations»))
+    ∷ (4 if (ltb 256 (n .«bus_count») || ltb 512 (n .«branch_count») || ltb 512 (n .«switch_count»)))
+    ∷ (5 if not (okBase (n .«base_mva»)))
+    ∷ []
+
+rows-are-faults : (n : PowerNetwork) → headRows n ≡ headFaults (headOf (recordsOf n))
+unfolding headFaults headOf recordsOf
+rows-are-faults n = simp length-table
+
+pub whole-check : (n : PowerNetwork) → checkRecords (recordsOf n)
+    ≡ (judge (headRows n) 1
+    andThen (checkRun busFaults [] 2 (recordsOf n .buses)
+    andThen checkRun (λ before. branchFaults (recordsOf n .buses)) [] (2 + n .«bus_count») (recordsOf n .branches))
+    andThen checkRun (switchFaults (headOf (recordsOf n))) [] (2 + n .«bus_count» + n .«branch_count») (recordsOf n .switches))
+unfolding checkRecords headOf headFaults recordsOf
+whole-check n = simp length-table (ap (λ a. judge (headRows n) 1 andThen a) (then-assoc _ _ _))
+
+-- an accepted head has its counts inside their limits
+pub counts-inside : (v : Verdict) (n : PowerNetwork) → v ≡ Accepted → answerOf v ≡ judge (headRows n) 1
+    → (n .«bus_count» ≤ 256) × (n .«branch_count» ≤ 512) × (n .«switch_count» ≤ 512)
+unfolding headOf recordsOf
+counts-inside v n a e =
+    let i = head-iff (headOf (recordsOf n)) .0 (judge-iff (headFaults (headOf (recordsOf n))) 1 .0 (ap (λ l. judge l 1) (sym (rows-are-faults n)) ∙ sym e ∙ ap answerOf a)) in
+    simp length-table at (i .counts)

@@ -1,0 +1,3 @@
+// The check of a feeder's records, and ids looked up in rows.
+pub mod check;
+pub mod ids;
