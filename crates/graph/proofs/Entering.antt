@@ -7,7 +7,7 @@ use native.Mathlib.Omega.{arith}
 use lib.Dec.{eqb}
 use lib.ListN.{length, getD, set, replicate, length-append, length-set, length-map, List·getD-append, List·getD-map}
 use lib.Seq.{getD-set-same, getD-set-other, set-append-seam, append-snoc}
-use borrow.Author.Tests.{eq-eqb, ne-eqb, eqb-true, eqb-false}
+use borrow.Author.Tests.{eqb-true, eqb-false}
 use Rattle.numbers.specs.Counts.{count, count-le, count-drop}
 use Rattle.graph.specs.Walk.{Visit, startAt, reached, enter}
 use Rattle.graph.specs.Rows.{flag, filled}
@@ -36,7 +36,7 @@ reached-snoc x [] v = or-false (eqb x (v .bus))
 reached-snoc x (w ∷ o) v = rw (reached-snoc x o v) (sym (or-assoc (eqb x (w .bus)) (reached x o) (eqb x (v .bus))))
 
 -- a walk in the arrays
-module _ {o : List Visit} {seen : List Bool} {bus by : List ℕ} {n : ℕ} (w : Walking o seen bus by n) where
+module _ {barred : ℕ} {o : List Visit} {seen : List Bool} {bus by : List ℕ} {n : ℕ} (w : Walking barred o seen bus by n) where
   pub few : n ≤ 256
   few = omega (arith, w .counted, w .room, count-le (flag seen) 256)
 
@@ -50,7 +50,7 @@ module _ {o : List Visit} {seen : List Bool} {bus by : List ℕ} {n : ℕ} (w : 
     pub one-fits : n < 256
     one-fits = omega (arith, w .counted, w .room, more-flags, count-le (flag (set seen x true)) 256)
 
-    pub one-more : (k : ℕ) → Walking (o ++ (record { bus = x; by = k } ∷ [])) (set seen x true) (set bus n x) (set by n k) (n + 1)
+    pub one-more : (k : ℕ) → Walking barred (o ++ (record { bus = x; by = k } ∷ [])) (set seen x true) (set bus n x) (set by n k) (n + 1)
     one-more k =
         let v : Visit = record { bus = x; by = k } in
         record {
@@ -65,44 +65,37 @@ module _ {o : List Visit} {seen : List Bool} {bus by : List ℕ} {n : ℕ} (w : 
         column : (f : Visit → ℕ) (v : Visit) → set (filled (map f o)) n (f v) ≡ filled (map f o ++ (f v ∷ []))
         column f v = filled-more (map f o) (f v) n (w .counted ∙ sym (length-map o f)) one-fits
 
-        mark : (y : ℕ) → y < 256 → (b : Bool) → eqb y x ≡ b → getD (set seen x true) y false ≡ (reached y o || eqb y x)
+        mark : (y : ℕ) → y < 256 → (b : Bool) → eqb y x ≡ b → getD (set seen x true) y false ≡ (eqb y barred || (reached y o || eqb y x))
         mark y h true e =
             let q : y ≡ x = eqb-true y x e in
             let l : x < length seen = omega (arith, w .flags) in
-            rw (e, or-true, q) (getD-set-same seen x true false l)
+            rw (e, or-true (reached y o), or-true (eqb y barred), q) (getD-set-same seen x true false l)
         mark y h false e = rw (e, or-false, getD-set-other seen x y true false (eqb-false y x e)) (w .marks y h)
 
 -- what becomes of a bus that a half-branch leads to
-module _ (live : Bool) (barred x k : ℕ) {seen : List Bool} {bus by : List ℕ} {n : ℕ} where
-  pub dead-stays : live ≡ false → (o : List Visit) → Walking o seen bus by n → Walking (enterLive live barred o (record { bus = x; by = k })) seen bus by n
+module _ (live : Bool) (x k : ℕ) {seen : List Bool} {bus by : List ℕ} {n : ℕ} where
+  pub dead-stays : live ≡ false → (barred : ℕ) (o : List Visit) → Walking barred o seen bus by n
+      → Walking barred (enterLive live barred o (record { bus = x; by = k })) seen bus by n
   unfolding enterLive
-  dead-stays e o w = rw e w
-
-  pub barred-stays : x ≡ barred → (o : List Visit) → Walking o seen bus by n → Walking (enterLive live barred o (record { bus = x; by = k })) seen bus by n
-  unfolding enterLive enter
-  barred-stays e o w = rw (eq-eqb x barred e) (either live)
-    where
-      either : (b : Bool) → Walking (cond b o o) seen bus by n
-      either true = w
-      either false = w
+  dead-stays e barred o w = rw e w
 
   module _ (at : ℕ) (same : at ≡ x) (small : at < 256) where
-    pub reached-stays : getD seen at false ≡ true
-        → (o : List Visit) → Walking o seen bus by n → Walking (enterLive live barred o (record { bus = x; by = k })) seen bus by n
+    pub marked-stays : getD seen at false ≡ true
+        → (barred : ℕ) (o : List Visit) → Walking barred o seen bus by n → Walking barred (enterLive live barred o (record { bus = x; by = k })) seen bus by n
     unfolding enterLive enter
-    reached-stays t o w =
-        let r : reached x o ≡ true = sym (w .marks x (omega arith)) ∙ rw same at t in
-        rw (r, or-true) (either live)
+    marked-stays t barred o w =
+        let r : (eqb x barred || reached x o) ≡ true = sym (w .marks x (omega arith)) ∙ rw same at t in
+        rw r (either live)
       where
-        either : (b : Bool) → Walking (cond b o o) seen bus by n
+        either : (b : Bool) → Walking barred (cond b o o) seen bus by n
         either true = w
         either false = w
 
-    pub enters : (end : ℕ) → end ≡ n → live ≡ true → (x ≡ barred → ⊥) → getD seen at false ≡ false
-        → (o : List Visit) → Walking o seen bus by n
-        → Walking (enterLive live barred o (record { bus = x; by = k })) (set seen at true) (set bus end x) (set by end k) (n + 1)
+    pub enters : (end : ℕ) → end ≡ n → live ≡ true → getD seen at false ≡ false
+        → (barred : ℕ) (o : List Visit) → Walking barred o seen bus by n
+        → Walking barred (enterLive live barred o (record { bus = x; by = k })) (set seen at true) (set bus end x) (set by end k) (n + 1)
     unfolding enterLive enter
-    enters end e l ne f o w =
+    enters end e l f barred o w =
         let g : getD seen x false ≡ false = rw same at f in
-        let r : reached x o ≡ false = sym (w .marks x (omega arith)) ∙ g in
-        rw (l, ne-eqb x barred ne, r, e, same) (one-more w x (omega arith) g k)
+        let r : (eqb x barred || reached x o) ≡ false = sym (w .marks x (omega arith)) ∙ g in
+        rw (l, r, e, same) (one-more w x (omega arith) g k)

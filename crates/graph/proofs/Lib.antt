@@ -1,9 +1,7 @@
+pub mod Along
 pub mod Building
 pub mod Counting
 pub mod Entering
 pub mod Expanding
-pub mod Leading
-pub mod Noting
-pub mod Resolving
-pub mod Skipping
+pub mod Listing
 pub mod Turning

@@ -59,6 +59,10 @@ noteEnds k f t r = rows (set (set (r .far) (2 * k) t) (2 * k + 1) f) (r .first) 
 unfoldable pub addBranch : ℕ → ℕ → ℕ → ℕ → Rows → Rows
 addBranch m k f t r = cond (ltb k m) (putBranch k f t (noteEnds k f t r)) (noteEnds k f t r)
 
+-- the other ends of the half-branches of the last n of 512 branches
+unfoldable pub farOf : List ℕ → List ℕ → ℕ → List ℕ
+farOf from to n = upTo (λ far i. set (set far (2 * (511 - i)) (getD to (511 - i) 0)) (2 * (511 - i) + 1) (getD from (511 - i) 0)) (replicate 1024 0) n
+
 -- the rows with the last n of 512 branches, put in from the last on
 unfoldable pub rowsOf : ℕ → List ℕ → List ℕ → ℕ → Rows
 rowsOf m from to n =

@@ -15,33 +15,37 @@ use Rattle.graph.specs.Rows.{flag, netOf, rowsOf, graphOf, rowNeighbours
 use Rattle.graph.specs.RowsHold.{far-hold, rows-long}
 use Rattle.graph.specs.RowsNeighbours.{rows-are-neighbours}
 
--- visits of bus positions below 256
-abbrev Small : List Visit → Type 0
-Small [] = Unit {0}
-Small (v ∷ o) = (v .bus < 256) × Small o
+-- visits of bus positions below size
+abbrev pub Small : ℕ → List Visit → Type 0
+Small size [] = Unit {0}
+Small size (v ∷ o) = (v .bus < size) × Small size o
 
-small-append : (o p : List Visit) → Small o → Small p → Small (o ++ p)
-small-append [] p a b = b
-small-append (v ∷ o) p a b = (a .0, small-append o p (a .1) b)
+module _ (size : ℕ) where
+  small-append : (o p : List Visit) → Small size o → Small size p → Small size (o ++ p)
+  small-append [] p a b = b
+  small-append (v ∷ o) p a b = (a .0, small-append o p (a .1) b)
 
-small-at : (o : List Visit) (i : ℕ) → Small o → getD o i (startAt 0) .bus < 256
-small-at [] i s = omega arith
-small-at (v ∷ o) zero s = s .0
-small-at (v ∷ o) (suc i) s = small-at o i (s .1)
+  small-at : (o : List Visit) (i : ℕ) → 0 < size → Small size o → getD o i (startAt 0) .bus < size
+  small-at [] i z s = z
+  small-at (v ∷ o) zero z s = s .0
+  small-at (v ∷ o) (suc i) z s = small-at o i z (s .1)
 
-small-enterAll : (barred : ℕ) (o vs : List Visit) → Small o → Small vs → Small (enterAll barred o vs)
-unfolding enterAll enter
-small-enterAll barred o [] a b = a
-small-enterAll barred o (v ∷ vs) a b = small-enterAll barred _ vs (go (eqb (v .bus) barred || reached (v .bus) o)) (b .1)
-  where
-    go : (t : Bool) → Small (cond t o (o ++ (v ∷ [])))
-    go true = a
-    go false = small-append o (v ∷ []) a (b .0, tt)
+  small-enterAll : (barred : ℕ) (o vs : List Visit) → Small size o → Small size vs → Small size (enterAll barred o vs)
+  unfolding enterAll enter
+  small-enterAll barred o [] a b = a
+  small-enterAll barred o (v ∷ vs) a b = small-enterAll barred _ vs (go (eqb (v .bus) barred || reached (v .bus) o)) (b .1)
+    where
+      go : (t : Bool) → Small size (cond t o (o ++ (v ∷ [])))
+      go true = a
+      go false = small-append o (v ∷ []) a (b .0, tt)
 
 -- two walks with the same neighbours
-module _ (next next′ : ℕ → List Visit) (same : (u : ℕ) → u < 256 → next u ≡ next′ u) (small : (u : ℕ) → u < 256 → Small (next′ u))
-    (start barred : ℕ) (here : start < 256) where
-  small-turns : (h : ℕ) → Small (upTo (turn next′ barred) (startAt start ∷ []) h)
+module _ (size : ℕ) (next next′ : ℕ → List Visit) (same : (u : ℕ) → u < size → next u ≡ next′ u) (small : (u : ℕ) → u < size → Small size (next′ u))
+    (start barred : ℕ) (here : start < size) where
+  some : 0 < size
+  some = omega arith
+
+  small-turns : (h : ℕ) → Small size (upTo (turn next′ barred) (startAt start ∷ []) h)
   unfolding upTo turn
   small-turns zero = (here, tt)
   small-turns (suc h) = go (ltb h (length o)) (small-turns h)
@@ -49,8 +53,8 @@ module _ (next next′ : ℕ → List Visit) (same : (u : ℕ) → u < 256 → n
       o : List Visit
       o = upTo (turn next′ barred) (startAt start ∷ []) h
 
-      go : (b : Bool) → Small o → Small (cond b (enterAll barred o (next′ (getD o h (startAt 0) .bus))) o)
-      go true s = small-enterAll barred o _ s (small _ (small-at o h s))
+      go : (b : Bool) → Small size o → Small size (cond b (enterAll barred o (next′ (getD o h (startAt 0) .bus))) o)
+      go true s = small-enterAll size barred o _ s (small _ (small-at size o h some s))
       go false s = s
 
   same-turns : (h : ℕ) → upTo (turn next barred) (startAt start ∷ []) h ≡ upTo (turn next′ barred) (startAt start ∷ []) h
@@ -58,7 +62,7 @@ module _ (next next′ : ℕ → List Visit) (same : (u : ℕ) → u < 256 → n
   same-turns zero = refl
   same-turns (suc h) =
       let o = upTo (turn next′ barred) (startAt start ∷ []) h in
-      rw (same-turns h, same (getD o h (startAt 0) .bus) (small-at o h (small-turns h)))
+      rw (same-turns h, same (getD o h (startAt 0) .bus) (small-at size o h some (small-turns h)))
 
   pub same-walk : walkBy next start barred ≡ walkBy next′ start barred
   unfolding walkBy
@@ -71,33 +75,38 @@ pub record Positions (from to : List ℕ) : Type 0 where
   pub from-small : (k : ℕ) → getD from k 0 < 256
   pub to-small : (k : ℕ) → getD to k 0 < 256
 
-module _ (n m : ℕ) (from to : List ℕ) (live : List Bool) (p : Positions from to) (l : length live ≤ 512) where
-  small-far : (u k : ℕ) → Small (walk.far (netOf n m from to) u k)
+module _ (n m : ℕ) (from to : List ℕ) (live : List Bool) (size : ℕ) (ends : (k : ℕ) → k < m → (getD from k 0 < size) × (getD to k 0 < size)) where
+  small-far : (u k : ℕ) → k < m → Small size (walk.far (netOf n m from to) u k)
   unfolding walk.far
-  small-far u k = go (eqb (getD from k 0) u) (eqb (getD to k 0) u)
+  small-far u k l = go (eqb (getD from k 0) u) (eqb (getD to k 0) u)
     where
-      go : (a b : Bool) → Small (cond a (record { bus = getD to k 0; by = k } ∷ []) (cond b (record { bus = getD from k 0; by = k } ∷ []) []))
-      go true b = (p .to-small k, tt)
-      go false true = (p .from-small k, tt)
+      go : (a b : Bool) → Small size (cond a (record { bus = getD to k 0; by = k } ∷ []) (cond b (record { bus = getD from k 0; by = k } ∷ []) []))
+      go true b = (ends k l .1, tt)
+      go false true = (ends k l .0, tt)
       go false false = tt
 
   abbrev scanned : ℕ → ℕ → List Visit
   scanned u i = upTo (λ o k. cond (getD live k false) (o ++ walk.far (netOf n m from to) u k) o) [] i
 
-  small-scan : (u i : ℕ) → Small (scanned u i)
+  small-scan : (u i : ℕ) → i ≤ m → Small size (scanned u i)
   unfolding upTo
-  small-scan u zero = tt
-  small-scan u (suc i) = go (scanned u i) (getD live i false) (small-scan u i)
+  small-scan u zero l = tt
+  small-scan u (suc i) l = go (scanned u i) (getD live i false) (small-scan u i (omega arith))
     where
-      go : (o : List Visit) (b : Bool) → Small o → Small (cond b (o ++ walk.far (netOf n m from to) u i) o)
-      go o true s = small-append o _ s (small-far u i)
+      go : (o : List Visit) (b : Bool) → Small size o → Small size (cond b (o ++ walk.far (netOf n m from to) u i) o)
+      go o true s = small-append size o _ s (small-far u i (omega arith))
       go o false s = s
 
+  pub small-neighbours : (u : ℕ) → Small size (neighbours (netOf n m from to) (flag live) u)
+  unfolding neighbours
+  small-neighbours u = small-scan u m (omega arith)
+
+module _ (n m : ℕ) (from to : List ℕ) (live : List Bool) (p : Positions from to) (l : length live ≤ 512) where
   pub row-walk-is-walk : (start barred : ℕ) → start < 256
       → walkBy (rowNeighbours (graphOf n m from to) live) start barred ≡ walk.walk (netOf n m from to) (flag live) start barred
-  unfolding walk.walk neighbours
+  unfolding walk.walk
   row-walk-is-walk start barred h =
-      same-walk _ _ (λ u s. rows-are-neighbours n m from to live u s l) (λ u s. small-scan u m) start barred h
+      same-walk 256 _ _ (λ u s. rows-are-neighbours n m from to live u s l) (λ u s. small-neighbours n m from to live 256 (λ k b. (p .from-small k, p .to-small k)) u) start barred h
 
   pub row-radial-is-radial : rowRadial (graphOf n m from to) live ≡ radial (netOf n m from to) (flag live)
   unfolding rowRadial radial graphOf

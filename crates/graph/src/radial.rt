@@ -1,29 +1,18 @@
 // Translated and changed from src/network/reconfiguration.rs of oxigrid. Copyright 2024-2026 COOLJAPAN OU (Team Kitasan), Apache License 2.0.
 // Document 01's radiality.
 ghost use mathlib.Core.Path.{_≡_};
-ghost use Prim.Native.Nat.{min};
 ghost use Rattle.numbers.specs.Counts.{count};
 ghost use Rattle.graph.specs.Rows.{flag, rowRadial};
 use crate::rows::Graph;
+use crate::rows::listed;
 use crate::walk::walk;
 use numbers::wide16;
-
-// How many branches an array has a flag for: branch_count, but 512 at most.
-fn flagged(branch_count: u16) -> u16
-    ensures { λ r. ⌜ r ≡ min «branch_count» 512 ⌝ }
-{
-    if branch_count < 512 {
-        branch_count
-    } else {
-        512
-    }
-}
 
 // How many branches are live.
 fn live_count(live: [bool; 512], branch_count: u16) -> u16
     ensures { λ r. ⌜ r ≡ count (flag live) «branch_count» ⌝ }
 {
-    let n = flagged(branch_count);
+    let n = listed(branch_count);
     let mut total = 0u16;
     let mut k = 0u16;
     while k < n {

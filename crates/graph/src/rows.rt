@@ -1,9 +1,10 @@
 // Translated and changed from src/network/reconfiguration.rs of oxigrid. Copyright 2024-2026 COOLJAPAN OU (Team Kitasan), Apache License 2.0.
 // The branches of a feeder by their buses, in place of the source's map of neighbours.
 ghost use mathlib.Core.Path.{_≡_};
-ghost use Prim.Native.Nat.{_<_};
+ghost use mathlib.Core.List.{List};
+ghost use Prim.Native.Nat.{ℕ, _<_, min};
 ghost use lib.ListN.{length, getD, set};
-ghost use Rattle.graph.specs.Rows.{rows, addBranch, graphOf};
+ghost use Rattle.graph.specs.Rows.{rows, putBranch, farOf, graphOf};
 use numbers::wide8;
 use numbers::wide16;
 
@@ -28,57 +29,61 @@ fn put_half(first: &mut [u16; 256], next: &mut [u16; 1024], u: u8, h: u16)
     first[at] = h;
 }
 
-// The ends of branch k are noted, and it goes into the rows of its buses if it is one of branch_count. With equal ends it stands there once.
-fn add_branch(
-    far: &mut [u8; 1024],
-    first: &mut [u16; 256],
-    next: &mut [u16; 1024],
-    branch_count: u16,
-    k: u16,
-    from: u8,
-    to: u8,
-)
-    requires { ⌜ (length (now far) ≡ 1024) × (length (now first) ≡ 256) × (length (now next) ≡ 1024) × (k < 512) ⌝ }
-    ensures { λ _. ⌜ rows (now (far .exit)) (now (first .exit)) (now (next .exit))
-        ≡ addBranch «branch_count» k from to (rows (now (far .entry)) (now (first .entry)) (now (next .entry))) ⌝ }
+// Branch k goes into the rows of its buses. With equal ends it stands there once.
+fn put_branch(first: &mut [u16; 256], next: &mut [u16; 1024], k: u16, from: u8, to: u8)
+    requires { ⌜ (length (now first) ≡ 256) × (length (now next) ≡ 1024) × (k < 512) ⌝ }
+    ensures { λ _. ⌜ ((far : List ℕ) → rows far (now (first .exit)) (now (next .exit))
+        ≡ putBranch k from to (rows far (now (first .entry)) (now (next .entry)))) ⌝ }
 {
     let h = 2 * k;
-    let j = h + 1;
-    let at = wide16(h);
-    let after = wide16(j);
-    far[at] = to;
-    far[after] = from;
-    if k < branch_count {
-        if from == to {
-            put_half(first, next, from, h);
-        } else {
-            put_half(first, next, to, j);
-            put_half(first, next, from, h);
-        }
+    if from == to {
+        put_half(first, next, from, h);
+    } else {
+        put_half(first, next, to, h + 1);
+        put_half(first, next, from, h);
+    }
+}
+
+// The bus at the other end of each half-branch.
+fn far_ends(from: &[u8; 512], to: &[u8; 512]) -> [u8; 1024]
+    ensures { λ r. ⌜ r ≡ farOf (now (from .entry)) (now (to .entry)) 512 ⌝ }
+{
+    let mut far = [0u8; 1024];
+    let mut i = 0usize;
+    while i < 512 {
+        let k = 511 - i;
+        far[2 * k] = to[k];
+        far[2 * k + 1] = from[k];
+        i += 1;
+    }
+    far
+}
+
+// How many branches are listed: branch_count, but 512 at most.
+pub(crate) fn listed(branch_count: u16) -> u16
+    ensures { λ r. ⌜ r ≡ min «branch_count» 512 ⌝ }
+{
+    if branch_count < 512 {
+        branch_count
+    } else {
+        512
     }
 }
 
 impl Graph {
-    // From the last branch to the first, each in front of its buses' rows. Branches from branch_count on are in no row.
+    // From the last listed branch to the first, each in front of its buses' rows. Branches from branch_count on are in no row.
     pub fn new(bus_count: u16, branch_count: u16, from: [u8; 512], to: [u8; 512]) -> Graph
         ensures { λ r. ⌜ r ≡ graphOf «bus_count» «branch_count» from to ⌝ }
     {
-        let mut far = [0u8; 1024];
+        let far = far_ends(&from, &to);
+        let n = listed(branch_count);
         let mut first = [1024u16; 256];
         let mut next = [1024u16; 1024];
         let mut i = 0u16;
-        while i < 512 {
-            let k = 511 - i;
+        while i < n {
+            let k = n - (i + 1);
             let at = wide16(k);
-            add_branch(
-                &mut far,
-                &mut first,
-                &mut next,
-                branch_count,
-                k,
-                from[at],
-                to[at],
-            );
+            put_branch(&mut first, &mut next, k, from[at], to[at]);
             i += 1;
         }
         Graph {

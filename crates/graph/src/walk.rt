@@ -2,6 +2,7 @@
 // The breadth-first walk, by the rows: its own order is its queue.
 ghost use mathlib.Core.Path.{_≡_};
 ghost use mathlib.Core.List.{List};
+ghost use Prim.Native.Nat.{ℕ};
 ghost use Rattle.graph.specs.Walk.{Visit, walkBy, enterAll};
 ghost use Rattle.graph.specs.Rows.{rowLeads, rowNeighbours, rowFrom, leads, walked};
 ghost use Rattle.graph.specs.Walking.{Walking, enterLive};
@@ -10,25 +11,21 @@ use crate::walks::Walk;
 use numbers::wide8;
 use numbers::wide16;
 
-// Bus x is put behind those reached, with branch k, unless the branch is not live or the bus is barred or reached already.
-fn enter(
+// Bus x is put behind those reached, with branch k, unless the branch is not live or the bus is marked: barred, or reached already.
+pub(crate) fn enter(
     seen: &mut [bool; 256],
     bus: &mut [u8; 256],
     by: &mut [u16; 256],
     count: u16,
-    barred: u8,
     live: bool,
     x: u8,
     k: u16,
 ) -> u16
-    requires { ⌜ ((o : List Visit) × Walking o (now seen) (now bus) (now by) count) ⌝ }
-    ensures { λ r. ⌜ ((o : List Visit) → Walking o (now (seen .entry)) (now (bus .entry)) (now (by .entry)) count
-        → Walking (enterLive live barred o (record { bus = x; by = k })) (now (seen .exit)) (now (bus .exit)) (now (by .exit)) r) ⌝ }
+    requires { ⌜ ((barred : ℕ) × (o : List Visit) × Walking barred o (now seen) (now bus) (now by) count) ⌝ }
+    ensures { λ r. ⌜ ((barred : ℕ) (o : List Visit) → Walking barred o (now (seen .entry)) (now (bus .entry)) (now (by .entry)) count
+        → Walking barred (enterLive live barred o (record { bus = x; by = k })) (now (seen .exit)) (now (bus .exit)) (now (by .exit)) r) ⌝ }
 {
     if !live {
-        return count;
-    }
-    if x == barred {
         return count;
     }
     let at = wide8(x);
@@ -48,15 +45,14 @@ fn expand(
     next: &[u16; 1024],
     live: &[bool; 512],
     first: u16,
-    barred: u8,
     seen: &mut [bool; 256],
     bus: &mut [u8; 256],
     by: &mut [u16; 256],
     count: u16,
 ) -> u16
-    requires { ⌜ ((o : List Visit) × Walking o (now seen) (now bus) (now by) count) ⌝ }
-    ensures { λ r. ⌜ ((o : List Visit) → Walking o (now (seen .entry)) (now (bus .entry)) (now (by .entry)) count
-        → Walking (enterAll barred o (leads (now (far .entry)) (now (live .entry)) (rowFrom (now (next .entry)) 1024 first)))
+    requires { ⌜ ((barred : ℕ) × (o : List Visit) × Walking barred o (now seen) (now bus) (now by) count) ⌝ }
+    ensures { λ r. ⌜ ((barred : ℕ) (o : List Visit) → Walking barred o (now (seen .entry)) (now (bus .entry)) (now (by .entry)) count
+        → Walking barred (enterAll barred o (leads (now (far .entry)) (now (live .entry)) (rowFrom (now (next .entry)) 1024 first)))
         (now (seen .exit)) (now (bus .exit)) (now (by .exit)) r) ⌝ }
 {
     let mut end = count;
@@ -69,7 +65,7 @@ fn expand(
         let half = wide16(h);
         let k = h / 2;
         let at = wide16(k);
-        end = enter(seen, bus, by, end, barred, live[at], far[half], k);
+        end = enter(seen, bus, by, end, live[at], far[half], k);
         h = next[half];
         i += 1;
     }
@@ -91,6 +87,8 @@ pub fn walk_rows(
     let mut seen = [false; 256];
     let mut bus = [0u8; 256];
     let mut by = [0u16; 256];
+    let bar = wide8(barred);
+    seen[bar] = true;
     let at = wide8(start);
     seen[at] = true;
     bus[0] = start;
@@ -104,7 +102,6 @@ pub fn walk_rows(
             next,
             live,
             first[u],
-            barred,
             &mut seen,
             &mut bus,
             &mut by,

@@ -1,5 +1,5 @@
 -- The code's arrays and the definitions' lists: a walk's load, and a turn of each loop.
-use mathlib.Core.Path.{_≡_, refl, sym, ap, fun-ext, _∙_}
+use mathlib.Core.Path.{_≡_, refl, sym, ap, _∙_}
 use mathlib.Core.Bool.{Bool, true, false}
 use mathlib.Core.List.{List, _++_, map}
 use Prim.Native.Nat.{ℕ, _+_, _-_, _≤_, _<_, min}
@@ -14,12 +14,11 @@ use Rattle.network.specs.declared.branch.Branch.{Branch}
 use Rattle.network.specs.declared.bus.Power.{Power}
 use Rattle.network.specs.Records.{noBranch}
 use Rattle.graph.specs.declared.rows.Graph.{Graph}
-use Rattle.graph.specs.declared.skips.LiveRows.{LiveRows}
+use Rattle.graph.specs.declared.lists.LiveLists.{LiveLists}
 use Rattle.graph.specs.declared.walks.Walk.{Walk}
 use Rattle.graph.specs.Walk.{Visit, startAt}
-use Rattle.graph.specs.Rows.{flag, filled, walked}
-use Rattle.graph.specs.Skips.{skipped}
-use Rattle.graph.specs.SkipLaws.{skipped-walk}
+use Rattle.graph.specs.Rows.{filled, walked}
+use Rattle.graph.specs.Lists.{liveLists}
 use Rattle.losses.specs.Loss.{walkLoad, termOf, totalOf}
 use Rattle.losses.specs.RowLoss.{noPower, powers, loadAt, arrayLoad, loadBehind, rowTotal, rowLoss}
 
@@ -53,17 +52,17 @@ walked-load loads o w e = rw e (upTo-cong _ _ _ (length o) (λ t i l. rw (at i l
         List·getD-append (map busOf o) _ 0 i h ∙ List·getD-map busOf o i (startAt 0)
 
 -- ---- totals
-module _ (far first next : List ℕ) (loads : List Power) (branches : List Branch) (base : Float) (live : List Bool) where
-  pub total-none : zero64 ≡ rowTotal far first next loads branches base live 0
+module _ (far at near : List ℕ) (loads : List Power) (branches : List Branch) (base : Float) (live : List Bool) where
+  pub total-none : zero64 ≡ rowTotal far at near loads branches base live 0
   unfolding rowTotal totalOf upTo
   total-none = refl
 
-  pub total-live : (k : ℕ) (d : Branch) (t x t′ : Float) → k < length branches → t ≡ rowTotal far first next loads branches base live k → getD live k false ≡ true
-      → x ≡ termOf (getD branches k d .r) (loadBehind far first next live loads k) base → t′ ≡ add binary64 t x → t′ ≡ rowTotal far first next loads branches base live (k + 1)
+  pub total-live : (k : ℕ) (d : Branch) (t x t′ : Float) → k < length branches → t ≡ rowTotal far at near loads branches base live k → getD live k false ≡ true
+      → x ≡ termOf (getD branches k d .r) (loadBehind far at near loads k) base → t′ ≡ add binary64 t x → t′ ≡ rowTotal far at near loads branches base live (k + 1)
   unfolding rowTotal totalOf
   total-live k d t x t′ l e h p q = rw (q, p, e, any-default branches k d noBranch l, upTo-more, h)
 
-  pub total-dead : (k : ℕ) (t t′ : Float) → t ≡ rowTotal far first next loads branches base live k → getD live k false ≡ false → t′ ≡ t → t′ ≡ rowTotal far first next loads branches base live (k + 1)
+  pub total-dead : (k : ℕ) (t t′ : Float) → t ≡ rowTotal far at near loads branches base live k → getD live k false ≡ false → t′ ≡ t → t′ ≡ rowTotal far at near loads branches base live (k + 1)
   unfolding rowTotal totalOf
   total-dead k t t′ e h q = rw (q, e, upTo-more, h)
 
@@ -72,23 +71,16 @@ module _ (g : Graph) (loads : List Power) (branches : List Branch) (base : Float
   unfolding rowLoss
   loss-none e = rw (eq-eqb (g .«bus_count») 0 e)
 
-  -- rows that skip dead half-branches give the same total
-  abbrev liveRows : LiveRows
-  liveRows = skipped (g .first) (g .next) live (min (g .«bus_count») 256) (min (g .«branch_count») 512)
+  -- the lists that the code makes
+  abbrev lists : LiveLists
+  lists = liveLists (g .far) (g .first) (g .next) live (min (g .«bus_count») 256)
 
-  total-skipped : (mw : List Power) (k : ℕ) → length (g .next) ≡ 1024
-      → rowTotal (g .far) (liveRows .first) (liveRows .next) mw branches base live k ≡ rowTotal (g .far) (g .first) (g .next) mw branches base live k
-  unfolding rowTotal loadBehind
-  total-skipped mw k long =
-      ap (λ load. totalOf (flag live) (λ j. getD branches j noBranch .r) load base k)
-      (fun-ext (λ j. ap (walkLoad (loadAt mw)) (skipped-walk (g .far) (g .first) (g .next) live (min (g .«bus_count») 256) (min (g .«branch_count») 512) _ _ long (omega arith))))
-
-  pub loss-all : (k : ℕ) (t : Float) (mw : List Power) (rows : LiveRows) → (g .«bus_count» ≡ 0 → ⊥) → k ≡ min (g .«branch_count») (length live) → mw ≡ loads
-      → length (g .next) ≡ 1024 → rows ≡ liveRows → t ≡ rowTotal (g .far) (rows .first) (rows .next) mw branches base live k → t ≡ rowLoss g loads branches base live
+  pub loss-all : (k : ℕ) (t : Float) (mw : List Power) (made : LiveLists) → (g .«bus_count» ≡ 0 → ⊥) → k ≡ min (g .«branch_count») (length live) → mw ≡ loads → made ≡ lists
+      → t ≡ rowTotal (g .far) (made .at) (made .near) mw branches base live k → t ≡ rowLoss g loads branches base live
   unfolding rowLoss rowTotal totalOf
-  loss-all k t mw rows n e same long made p =
+  loss-all k t mw made n e same m p =
       rw (ne-eqb (g .«bus_count») 0 n, ← same)
-      (p ∙ rw made (total-skipped mw k long) ∙ sym (upTo-idle _ zero64 k (g .«branch_count») (omega arith) (λ i a b. rw (List·getD-eq-default live false (past i a b)))))
+      (p ∙ rw m (sym (upTo-idle _ zero64 k (g .«branch_count») (omega arith) (λ i a b. rw (List·getD-eq-default live false (past i a b))))))
     where
       -- behind the last flag nothing is added
       past : (i : ℕ) → k ≤ i → i < g .«branch_count» → length live ≤ i

@@ -16,8 +16,8 @@ use Rattle.network.specs.InsideLaws.{check-inside}
 use Rattle.network.specs.Live.{live}
 use Rattle.network.specs.Positions.{each-at}
 use Rattle.network.specs.Records.{Network, noBus, noBranch}
-use Rattle.graph.specs.Feeder.{feeder}
-use Rattle.graph.specs.FeederLaws.{feeder-sound}
+use Rattle.radiality.specs.Feeder.{feeder}
+use Rattle.radiality.specs.FeederLaws.{feeder-sound}
 use Rattle.losses.specs.Loss.{lossIn}
 use Rattle.losses.specs.LossLaws.{Limits, loss-within, loss-above-zero}
 

@@ -10,7 +10,7 @@ use Rattle.numbers.specs.Constants.{zero64}
 use Rattle.numbers.specs.UpTo.{upTo}
 use Rattle.graph.specs.Graph.{Net}
 use Rattle.graph.specs.Walk.{Visit, startAt, walk}
-use Rattle.graph.specs.Feeder.{feeder}
+use Rattle.radiality.specs.Feeder.{feeder}
 use Rattle.network.specs.Records.{Network, noBus, noBranch}
 use Rattle.network.specs.Live.{live}
 

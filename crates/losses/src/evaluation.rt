@@ -6,16 +6,17 @@ ghost use Rattle.network.specs.Live.{checkState};
 ghost use Rattle.network.specs.Records.{recordsOf};
 ghost use Rattle.losses.specs.Answers.{lossAnswerOf};
 ghost use Rattle.losses.specs.Loss.{lossIn};
-ghost use Rattle.losses.specs.RowLoss.{loadsOf};
+ghost use Rattle.losses.specs.RowLoss.{loadsAt, loadsOf};
 use crate::reconfiguration::compute_losses_estimate;
-use graph::feeder::graph_of;
+use checks::check::check;
+use network::bus::Bus;
 use network::bus::Power;
-use network::check::check;
 use network::configuration::NetworkConfiguration;
 use network::configuration::check_state;
 use network::configuration::live_branches;
 use network::error::Verdict;
 use network::topology::PowerNetwork;
+use radiality::feeder::graph_of;
 
 // The loss of a state in MW, or document 01's refusal number and place.
 pub enum LossAnswer {
@@ -23,19 +24,27 @@ pub enum LossAnswer {
     Refused { number: u8, place: u16 },
 }
 
-// The loads by bus position.
-pub fn loads_of(network: PowerNetwork) -> [Power; 256]
-    ensures { λ r. ⌜ r ≡ loadsOf network ⌝ }
+// The loads of buses, in their order. An array of buses is handed over, so that no call copies the network.
+fn loads_at(buses: [Bus; 256]) -> [Power; 256]
+    ensures { λ r. ⌜ r ≡ loadsAt buses ⌝ }
 {
     let mut loads = [Power(0.0); 256];
     let mut i: usize = 0;
     while i < 256 {
-        let bus = network.buses[i];
+        let bus = buses[i];
         let pd = bus.pd;
         loads[i] = pd;
         i += 1;
     }
     loads
+}
+
+// The loads by bus position.
+pub fn loads_of(network: PowerNetwork) -> [Power; 256]
+    ensures { λ r. ⌜ r ≡ loadsOf network ⌝ }
+{
+    let buses = network.buses;
+    loads_at(buses)
 }
 
 // The loss of a state. It need not be radial.

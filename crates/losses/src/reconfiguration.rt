@@ -4,9 +4,9 @@ ghost use Prim.Native.Nat.{_≤_, _<_};
 ghost use lib.ListN.{length};
 ghost use Rattle.losses.specs.Loss.{termOf};
 ghost use Rattle.losses.specs.RowLoss.{powers, arrayLoad, loadBehind, rowLoss};
+use graph::lists::live_lists;
+use graph::lists::walk_lists;
 use graph::rows::Graph;
-use graph::skips::skip_dead;
-use graph::walk::walk_rows;
 use graph::walks::Walk;
 use network::branch::Branch;
 use network::bus::Power;
@@ -52,27 +52,26 @@ fn branch_term(branch: Branch, load: Power, base_mva: f64) -> f64
     branch.r * p * p * base_mva
 }
 
-// The loss in live branch k. Rows and loads are lent: no walk copies them.
+// The loss in live branch k. Lists and loads are lent: no walk copies them.
 fn branch_loss(
     far: &[u8; 1024],
-    first: &[u16; 256],
-    next: &[u16; 1024],
-    live: &[bool; 512],
+    at: &[u16; 257],
+    near: &[u8; 1024],
     mw: &[f64; 256],
     branch: Branch,
     base_mva: f64,
     k: usize,
 ) -> f64
     requires { ⌜ (length (now mw) ≡ 256) × (k < 512) ⌝ }
-    ensures { λ r. ⌜ r ≡ termOf (branch .r) (loadBehind (now (far .entry)) (now (first .entry)) (now (next .entry)) (now (live .entry)) (powers (now (mw .entry))) k) «base_mva» ⌝ }
+    ensures { λ r. ⌜ r ≡ termOf (branch .r) (loadBehind (now (far .entry)) (now (at .entry)) (now (near .entry)) (powers (now (mw .entry))) k) «base_mva» ⌝ }
 {
     let to = far[2 * k];
     let from = far[2 * k + 1];
-    let load = downstream_load_mw(mw, walk_rows(far, first, next, live, to, from));
+    let load = downstream_load_mw(mw, walk_lists(at, near, to, from));
     branch_term(branch, load, base_mva)
 }
 
-// The loss of a state, in megawatts: live branches by rising position. Dead branches are taken out of the rows once, not met in each walk.
+// The loss of a state, in megawatts: live branches by rising position. The neighbours by live branches are listed once, and each walk reads the lists.
 pub fn compute_losses_estimate(
     graph: Graph,
     loads: [Power; 256],
@@ -87,23 +86,17 @@ pub fn compute_losses_estimate(
     }
     let n = at_most(wide16(graph.branch_count), 512);
     let far = graph.far;
-    let all_first = graph.first;
-    let all_next = graph.next;
-    let rows = skip_dead(
-        all_first,
-        all_next,
-        live,
-        graph.bus_count,
-        graph.branch_count,
-    );
-    let first = rows.first;
-    let next = rows.next;
+    let first = graph.first;
+    let next = graph.next;
+    let lists = live_lists(&far, &first, &next, &live, graph.bus_count);
+    let at = lists.at;
+    let near = lists.near;
     let mw = megawatts(loads);
     let mut total = 0.0;
     let mut k = 0usize;
     while k < n {
         if live[k] {
-            total = total + branch_loss(&far, &first, &next, &live, &mw, branches[k], base_mva, k);
+            total = total + branch_loss(&far, &at, &near, &mw, branches[k], base_mva, k);
         }
         k += 1;
     }

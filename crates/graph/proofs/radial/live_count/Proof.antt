@@ -17,8 +17,8 @@ Inv-loop branch-count live n total₀ k₀ total k = (k ≤ n) × (total ≡ cou
 abbrev μ-loop : tie.MeasureT-loop
 μ-loop branch-count live n total₀ k₀ total k = n - k
 
-flagged-requires : tie.Need-flagged-requires Inv-loop μ-loop
-flagged-requires c κs = tt
+listed-requires : tie.Need-listed-requires Inv-loop μ-loop
+listed-requires c κs = tt
 
 loop-holds : tie.Need-loop-holds Inv-loop μ-loop
 unfolding count
@@ -65,7 +65,7 @@ live-count-spec =
     (tie.spec
     Inv-loop
     μ-loop
-    flagged-requires
+    listed-requires
     loop-holds
     wide16-requires
     array-read-if1

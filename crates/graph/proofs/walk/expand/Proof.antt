@@ -1,21 +1,21 @@
 -- `expand` meets its contract. The invariant: what is left of the row, entered after what is done, gives the whole; the step is `one-expanded`.
-use Prim.Native.Nat.{_-_}
+use Prim.Native.Nat.{ℕ, _-_}
 use native.Mathlib.Omega.{arith}
 use Rattle.graph.proofs.Expanding.{Expanding, none-expanded, one-expanded, row-ended, row-cut}
 use Rattle.graph.proofs.walk.expand.Statement.{statement}
 use Rattle.graph.proofs.walk.expand.Tie as tie
 
 abbrev Inv-loop : tie.InvT-loop
-Inv-loop far next live first barred seen₀ bus₀ by₀ count end₀ h₀ i₀ seen bus by end h i = Expanding far next live barred first seen₀ bus₀ by₀ count seen bus by end h i
+Inv-loop far next live first seen₀ bus₀ by₀ count end₀ h₀ i₀ seen bus by end h i = (barred : ℕ) → Expanding far live barred next first seen₀ bus₀ by₀ count seen bus by end h i
 
 abbrev μ-loop : tie.MeasureT-loop
-μ-loop far next live first barred seen₀ bus₀ by₀ count end₀ h₀ i₀ seen bus by end h i = 1024 - i
+μ-loop far next live first seen₀ bus₀ by₀ count end₀ h₀ i₀ seen bus by end h i = 1024 - i
 
 loop-holds : tie.Need-loop-holds Inv-loop μ-loop
-loop-holds c = none-expanded _ _ _ _ _ _ _ _ _
+loop-holds c barred = none-expanded _ _ barred _ _ _ _ _ _
 
 returns : tie.Need-returns Inv-loop μ-loop
-returns c = row-ended _ _ _ _ _ _ _ _ _ (c .before .before .loop .inv) (c .if1 .taken)
+returns c barred = row-ended _ _ barred _ _ _ _ _ _ (c .before .before .loop .inv barred) (c .if1 .taken)
 
 wide16-requires : tie.Need-wide16-requires Inv-loop μ-loop
 wide16-requires c κs = tt
@@ -33,8 +33,8 @@ enter-requires : tie.Need-enter-requires Inv-loop μ-loop
 enter-requires c κs =
     let l = c .before .before .before .before .before .before .before .before .before in
     let s = l .before .pre in
-    let b = l .loop .inv .left (s .0) (s .1) in
-    (b .so-far, b .walking)
+    let b = l .loop .inv (s .0) .loop .left (s .1) (s .2) in
+    (s .0, b .so-far, b .holds)
 
 mul-h : tie.Need-mul-h Inv-loop μ-loop
 mul-h c = omega arith
@@ -49,15 +49,15 @@ loop-less : tie.Need-loop-less Inv-loop μ-loop
 loop-less c = omega arith
 
 loop-again : tie.Need-loop-again Inv-loop μ-loop
-loop-again c =
+loop-again c barred =
     let w = c .before .before .before .before .before .before .before in
     let f = w .before .before in
-    one-expanded _ _ _ _ _ _ _ _ _ (f .before .before .loop .inv) _ _ (f .before .loop-test .taken) (f .if1 .left) (w .before .wide16 .ensures .0)
+    one-expanded _ _ barred _ _ _ _ _ _ (f .before .before .loop .inv barred) _ _ (f .before .loop-test .taken) (f .if1 .left) (w .before .wide16 .ensures .0)
     (w .wide162 .ensures .0)
-    (c .before .enter .ensures)
+    (c .before .enter .ensures barred)
 
 returns-2 : tie.Need-returns-2 Inv-loop μ-loop
-returns-2 c = row-cut _ _ _ _ _ _ _ _ _ (c .before .loop .inv) (c .loop-test .left)
+returns-2 c barred = row-cut _ _ barred _ _ _ _ _ _ (c .before .loop .inv barred) (c .loop-test .left)
 
 pub expand-spec : {M : Type 1} → statement M
 expand-spec =

@@ -6,7 +6,7 @@ use Rattle.network.specs.Answers.{accepted, answerOf}
 use Rattle.network.specs.AnswerLaws.{refused-first, accepted-then}
 use Rattle.network.specs.ReadLaws.{length-of}
 use Rattle.network.proofs.bus.Bus.{the-type}
-use Rattle.graph.specs.FeederRowLaws.{state-flags}
+use Rattle.radiality.specs.FeederRowLaws.{state-flags}
 use Rattle.losses.specs.FeederLoss.{feeder-loss}
 use Rattle.losses.proofs.evaluation.evaluate_config.Statement.{statement}
 use Rattle.losses.proofs.evaluation.evaluate_config.Tie as tie

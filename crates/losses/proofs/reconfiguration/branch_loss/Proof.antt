@@ -23,13 +23,13 @@ add-from c = search needs
 element-copy-out-from : tie.Need-element-copy-out-from
 element-copy-out-from c = search needs
 
-walk-rows-requires : tie.Need-walk-rows-requires
-walk-rows-requires c κs = search needs
+walk-lists-requires : tie.Need-walk-lists-requires
+walk-lists-requires c κs = search needs
 
 downstream-load-mw-requires : tie.Need-downstream-load-mw-requires
 downstream-load-mw-requires c κs =
-    let long : length (c .walk-rows .result .bus) ≡ 256 = search needs in
-    (c .before .before .before .pre .0, walked-few (c .walk-rows .result) _ (c .walk-rows .ensures) long)
+    let long : length (c .walk-lists .result .bus) ≡ 256 = search needs in
+    (c .before .before .before .pre .0, walked-few (c .walk-lists .result) _ (c .walk-lists .ensures) long)
 
 branch-term-requires : tie.Need-branch-term-requires
 branch-term-requires c κs = search needs
@@ -38,7 +38,7 @@ returns : tie.Need-returns
 unfolding loadBehind
 returns c =
     let load = c .before in
-    rw (c .branch-term .ensures, load .downstream-load-mw .ensures, walked-load _ _ _ (load .before .walk-rows .ensures))
+    rw (c .branch-term .ensures, load .downstream-load-mw .ensures, walked-load _ _ _ (load .before .walk-lists .ensures))
 
 pub branch-loss-spec : {M : Type 1} → statement M
 branch-loss-spec =
@@ -49,7 +49,7 @@ branch-loss-spec =
     mul-from
     add-from
     element-copy-out-from
-    walk-rows-requires
+    walk-lists-requires
     downstream-load-mw-requires
     branch-term-requires
     returns)

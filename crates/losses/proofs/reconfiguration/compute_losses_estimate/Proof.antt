@@ -11,10 +11,10 @@ use Rattle.losses.proofs.reconfiguration.compute_losses_estimate.Statem
 use Rattle.losses.proofs.reconfiguration.compute_losses_estimate.Tie as tie
 
 abbrev Inv-loop : tie.InvT-loop
-Inv-loop base-mva branches live n far first next mw total₀ k₀ total k = (k ≤ n) × (total ≡ rowTotal far first next (powers mw) branches base-mva live k)
+Inv-loop base-mva branches live n far at near mw total₀ k₀ total k = (k ≤ n) × (total ≡ rowTotal far at near (powers mw) branches base-mva live k)
 
 abbrev μ-loop : tie.MeasureT-loop
-μ-loop base-mva branches live n far first next mw total₀ k₀ total k = n - k
+μ-loop base-mva branches live n far at near mw total₀ k₀ total k = n - k
 
 returns : tie.Need-returns Inv-loop μ-loop
 returns c = loss-none _ _ _ _ _ (c .if1 .taken)
@@ -25,8 +25,8 @@ wide16-requires c κs = tt
 at-most-requires : tie.Need-at-most-requires Inv-loop μ-loop
 at-most-requires c κs = tt
 
-skip-dead-requires : tie.Need-skip-dead-requires Inv-loop μ-loop
-skip-dead-requires c κs = tt
+live-lists-requires : tie.Need-live-lists-requires Inv-loop μ-loop
+live-lists-requires c κs = tt
 
 megawatts-requires : tie.Need-megawatts-requires Inv-loop μ-loop
 megawatts-requires c κs = tt
@@ -58,34 +58,32 @@ branches-long s = search needs
 live-long : (s : tie.Start Inv-loop μ-loop) → length (s .args .t5) ≡ 512
 live-long s = search needs
 
-rows-long : (s : tie.Start Inv-loop μ-loop) → length (s .args .graph .next) ≡ 1024
-rows-long s = search needs
+-- where the branches are counted
+abbrev counted : tie.At-loop Inv-loop μ-loop → tie.After-at-most Inv-loop μ-loop
+counted loop = loop .before .before .before .before .before .before .before .before .before .before .before .before
 
 loop-again : tie.Need-loop-again Inv-loop μ-loop
 loop-again c =
     let loop = c .before .before in
-    let skips = loop .before .before .before .before in
-    let start = skips .before .before .before .before .before .before .before .before in
-    let args = start .args in
-    let long : length (args .t3) ≡ 512 = branches-long start in
-    let inside : loop .loop .k < length (args .t3) = omega arith in (
+    let start = counted loop .before .before .before .before in
+    let long : length (start .args .t3) ≡ 512 = branches-long start in
+    let inside : loop .loop .k < length (start .args .t3) = omega (arith, counted loop .at-most .ensures) in (
       omega arith,
-      ⊎-elim (λ w. total-live _ _ _ _ _ _ _ _ _ _ _ _ inside (loop .loop .inv .1) (w .0 .taken) (w .7 .ensures) (w .8)) (λ w. total-dead _ _ _ _ _ _ _ _ _ _ (loop .loop .inv .1) (w .0 .left) (w .1))
+      ⊎-elim (λ w. total-live _ _ _ _ _ _ _ _ _ _ _ _ inside (loop .loop .inv .1) (w .0 .taken) (w .6 .ensures) (w .7)) (λ w. total-dead _ _ _ _ _ _ _ _ _ _ (loop .loop .inv .1) (w .0 .left) (w .1))
           (c .if2 .came),
     )
 
 returns-2 : tie.Need-returns-2 Inv-loop μ-loop
 returns-2 c =
     let loop = c .before in
-    let skips = loop .before .before .before .before in
-    let count = skips .before .before .before .before in
+    let lists = loop .before .before .before .before in
+    let count = counted loop in
     let tested = count .before .before in
     let start = tested .before .before in
     let args = start .args in
     let long : length (args .t5) ≡ 512 = live-long start in
-    let rows : length (args .graph .next) ≡ 1024 = rows-long start in
     let end : loop .loop .k ≡ min (args .graph .«branch_count») (length (args .t5)) = omega (arith, count .at-most .ensures, count .before .wide16 .ensures .0, loop .loop .inv .0, c .loop-test .left, long) in
-    loss-all _ _ _ _ _ _ _ _ _ (tested .if1 .left) end (loop .before .megawatts .ensures) rows (skips .skip-dead .ensures) (loop .loop .inv .1)
+    loss-all _ _ _ _ _ _ _ _ _ (tested .if1 .left) end (loop .before .megawatts .ensures) (lists .live-lists .ensures) (loop .loop .inv .1)
 
 pub compute-losses-estimate-spec : {M : Type 1} → statement M
 compute-losses-estimate-spec =
@@ -96,7 +94,7 @@ compute-losses-estimate-spec =
     returns
     wide16-requires
     at-most-requires
-    skip-dead-requires
+    live-lists-requires
     megawatts-requires
     loop-holds
     array-read-if2

@@ -1,22 +1,30 @@
--- `Graph::new` meets its contract. The invariant: the arrays are the rows of the last i branches; the step is `one-built`.
+-- `Graph::new` meets its contract. The invariant: the arrays are the rows of the listed branches so far; the step is `one-built`.
 use mathlib.Core.Path.{_≡_}
-use Prim.Native.Nat.{_≤_, _-_}
+use Prim.Native.Nat.{_≤_, _+_, _-_}
 use native.Mathlib.Omega.{arith}
-use Rattle.graph.specs.Rows.{rows, rowsOf}
-use Rattle.graph.proofs.Building.{none-built, built-long, one-built, all-built}
+use Rattle.graph.proofs.Building.{Built, none-built, built-long, one-built, all-built}
 use Rattle.graph.proofs.rows.Graph.new.Statement.{statement}
 use Rattle.graph.proofs.rows.Graph.new.Tie as tie
 
 abbrev Inv-loop : tie.InvT-loop
-Inv-loop bus-count branch-count from to far₀ first₀ next₀ i₀ far first next i = (i ≤ 512) × (rows far first next ≡ rowsOf branch-count from to i)
+Inv-loop bus-count branch-count from to far n first₀ next₀ i₀ first next i = (i ≤ n) × Built from to branch-count first next (512 - n + i)
 
 abbrev μ-loop : tie.MeasureT-loop
-μ-loop bus-count branch-count from to far₀ first₀ next₀ i₀ far first next i = 512 - i
+μ-loop bus-count branch-count from to far n first₀ next₀ i₀ first next i = n - i
+
+far-ends-requires : tie.Need-far-ends-requires Inv-loop μ-loop
+far-ends-requires c κs = tt
+
+listed-requires : tie.Need-listed-requires Inv-loop μ-loop
+listed-requires c κs = tt
 
 loop-holds : tie.Need-loop-holds Inv-loop μ-loop
 loop-holds c =
-    let a = c .args in
-    (omega arith, none-built (a .branch-count) (a .t3) (a .t4))
+    let none : 512 - c .listed .result + 0 ≡ 512 - c .listed .result = omega arith in
+    (omega arith, rw none (none-built _ _ _ (c .listed .result) (c .listed .ensures)))
+
+add-k : tie.Need-add-k Inv-loop μ-loop
+add-k c = omega arith
 
 sub-k : tie.Need-sub-k Inv-loop μ-loop
 sub-k c = omega arith
@@ -24,16 +32,21 @@ sub-k c = omega arith
 wide16-requires : tie.Need-wide16-requires Inv-loop μ-loop
 wide16-requires c κs = tt
 
-array-read-add-branch : tie.Need-array-read-add-branch Inv-loop μ-loop
-array-read-add-branch c = omega arith
+-- as many as 512 are listed
+few : (c : tie.At-loop Inv-loop μ-loop) → c .before .listed .result ≤ 512
+few c = omega (arith, c .before .listed .ensures)
 
-array-read-add-branch-2 : tie.Need-array-read-add-branch-2 Inv-loop μ-loop
-array-read-add-branch-2 c = omega arith
+array-read-put-branch : tie.Need-array-read-put-branch Inv-loop μ-loop
+array-read-put-branch c = omega (arith, few (c .before .before .before .before))
 
-add-branch-requires : tie.Need-add-branch-requires Inv-loop μ-loop
-add-branch-requires c κs =
-    let l = built-long _ _ _ _ (c .before .before .before .before .before .loop .inv .1) in
-    (l .far, l .first, l .next, omega arith)
+array-read-put-branch-2 : tie.Need-array-read-put-branch-2 Inv-loop μ-loop
+array-read-put-branch-2 c = omega (arith, few (c .before .before .before .before))
+
+put-branch-requires : tie.Need-put-branch-requires Inv-loop μ-loop
+put-branch-requires c κs =
+    let loop = c .before .before .before .before in
+    let l = built-long _ _ _ _ (loop .loop .inv .1) in
+    (l .first, l .next, omega (arith, few loop))
 
 add-i : tie.Need-add-i Inv-loop μ-loop
 add-i c = omega arith
@@ -43,13 +56,21 @@ loop-less c = omega arith
 
 loop-again : tie.Need-loop-again Inv-loop μ-loop
 loop-again c =
-    let w = c .before .before .before .before in
-    (omega arith, one-built _ _ _ _ (w .before .before .loop .inv .1) _ (w .wide16 .ensures .0) (c .add-branch .ensures))
+    let w = c .before .before .before in
+    let loop = w .before .before in
+    let n = loop .before .listed .result in
+    let i = loop .loop .i in
+    let l = loop .loop .inv in
+    let m = few loop in
+    let more : 512 - n + i + 1 ≡ 512 - n + (i + 1) = omega arith in
+    let k : n - (i + 1) ≡ 511 - (512 - n + i) = omega (arith, m) in
+    (omega arith, rw more at (one-built _ _ _ _ (l .1) _ _ (w .wide16 .ensures .0) k (omega (arith, loop .before .listed .ensures)) (c .put-branch .ensures)))
 
 returns : tie.Need-returns Inv-loop μ-loop
 returns c =
-    let i = c .before .loop .inv in
-    all-built _ _ _ _ (i .1) _ (i .0) (c .loop-test .left)
+    let loop = c .before in
+    let all : 512 - loop .before .listed .result + loop .loop .i ≡ 512 = omega (arith, few loop) in
+    rw (loop .before .before .far-ends .ensures) (all-built _ _ _ _ (loop .loop .inv .1) _ all)
 
 pub new-spec : {M : Type 1} → statement M
 new-spec =
@@ -57,12 +78,15 @@ new-spec =
     (tie.spec
     Inv-loop
     μ-loop
+    far-ends-requires
+    listed-requires
     loop-holds
+    add-k
     sub-k
     wide16-requires
-    array-read-add-branch
-    array-read-add-branch-2
-    add-branch-requires
+    array-read-put-branch
+    array-read-put-branch-2
+    put-branch-requires
     add-i
     loop-less
     loop-again

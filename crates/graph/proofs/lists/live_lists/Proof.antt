@@ -1,0 +1,77 @@
+-- `live_lists` meets its contract: after u turns the array has the lists of the first u buses, and a turn is `one-rowed`.
+use mathlib.Core.Path.{ap, _∙_}
+use Prim.Native.Nat.{ℕ, _≤_, _-_, min}
+use native.Mathlib.Omega.{arith}
+use Rattle.graph.proofs.Listing.{Rowing, none-rowed, one-rowed, all-rowed}
+use Rattle.graph.proofs.lists.live_lists.Statement.{statement}
+use Rattle.graph.proofs.lists.live_lists.Tie as tie
+
+abbrev Inv-loop : tie.InvT-loop
+Inv-loop far first next live bus-count n at₀ near₀ end₀ u₀ at near end u = (u ≤ n) × Rowing far first next live at near end u
+
+abbrev μ-loop : tie.MeasureT-loop
+μ-loop far first next live bus-count n at₀ near₀ end₀ u₀ at near end u = n - u
+
+wide16-requires : tie.Need-wide16-requires Inv-loop μ-loop
+wide16-requires c κs = tt
+
+at-most-requires : tie.Need-at-most-requires Inv-loop μ-loop
+at-most-requires c κs = tt
+
+loop-holds : tie.Need-loop-holds Inv-loop μ-loop
+loop-holds c = (omega arith, none-rowed _ _ _ _)
+
+-- there are 256 buses at most
+few : (c : tie.At-loop Inv-loop μ-loop) → c .before .at-most .result ≤ 256
+few c = omega (arith, c .before .at-most .ensures)
+
+mul-list-row : tie.Need-mul-list-row Inv-loop μ-loop
+mul-list-row c = omega (arith, few (c .before))
+
+element-copy-out-list-row : tie.Need-element-copy-out-list-row Inv-loop μ-loop
+element-copy-out-list-row c = omega (arith, few (c .before))
+
+list-row-requires : tie.Need-list-row-requires Inv-loop μ-loop
+list-row-requires c κs = tt
+
+add-u : tie.Need-add-u Inv-loop μ-loop
+add-u c = omega (arith, few (c .before .before .before .before))
+
+mul-at : tie.Need-mul-at Inv-loop μ-loop
+mul-at c = omega (arith, few (c .before .before .before .before))
+
+array-write-at : tie.Need-array-write-at Inv-loop μ-loop
+array-write-at c = omega (arith, few (c .before .before .before .before))
+
+loop-less : tie.Need-loop-less Inv-loop μ-loop
+loop-less c = omega arith
+
+loop-again : tie.Need-loop-again Inv-loop μ-loop
+loop-again c =
+    let loop = c .before .before .before .before in
+    (omega arith, one-rowed _ _ _ _ (loop .loop .inv .1) (omega (arith, few loop)) (c .list-row .ensures))
+
+returns : tie.Need-returns Inv-loop μ-loop
+returns c =
+    let loop = c .before in
+    let count = loop .before in
+    all-rowed _ _ _ _ (loop .loop .inv .1) _ (omega (arith, loop .loop .inv .0, c .loop-test .left) ∙ count .at-most .ensures ∙ ap (λ (k : ℕ). min k 256) (count .before .wide16 .ensures .0))
+
+pub live-lists-spec : {M : Type 1} → statement M
+live-lists-spec =
+    tie.close
+    (tie.spec
+    Inv-loop
+    μ-loop
+    wide16-requires
+    at-most-requires
+    loop-holds
+    mul-list-row
+    element-copy-out-list-row
+    list-row-requires
+    add-u
+    mul-at
+    array-write-at
+    loop-less
+    loop-again
+    returns)

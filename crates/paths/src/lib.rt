@@ -1,0 +1,2 @@
+// The path that the walk finds between two buses.
+pub mod path;

@@ -1,0 +1,86 @@
+-- `verify_radiality` meets its contract: the first check that refuses decides; behind both, the rows of the graph and the flags of the live
+-- branches say what the records and the state say.
+use mathlib.Core.Path.{sym, ap, ap₂, _∙_}
+use borrow.Author.Needs.{needs}
+use Rattle.network.specs.Answers.{accepted, answerOf}
+use Rattle.network.specs.AnswerLaws.{refused-first, accepted-then}
+use Rattle.network.specs.ReadLaws.{length-of}
+use Rattle.network.proofs.bus.Bus.{the-type}
+use Rattle.graph.specs.Rows.{rowRadial}
+use Rattle.radiality.specs.FeederRowLaws.{state-flags, live-row-radial}
+use Rattle.radiality.proofs.radiality.verify_radiality.Statement.{statement}
+use Rattle.radiality.proofs.radiality.verify_radiality.Tie as tie
+
+check-requires : tie.Need-check-requires
+check-requires c κs = search needs
+
+enum-known-number : tie.Need-enum-known-number
+enum-known-number c = search needs
+
+returns : tie.Need-returns
+returns c = refused-first _ _ _ _ _ (c .before .number .given .1) (c .before .before .before .check .ensures)
+
+enum-told : tie.Need-enum-told
+enum-told c = search needs
+
+check-state-requires : tie.Need-check-state-requires
+check-state-requires c κs = search needs
+
+enum-known-number-2 : tie.Need-enum-known-number-2
+enum-known-number-2 c = search needs
+
+returns-2 : tie.Need-returns-2
+returns-2 c =
+    let state = c .before .before .before in
+    refused-first _ _ _ _ _ (c .before .number2 .given .1) (state .check-state .ensures)
+    ∙ accepted-then _ _ _ (state .before .enum-told .given .1) (state .before .before .before .check .ensures)
+
+enum-told-2 : tie.Need-enum-told-2
+enum-told-2 c = search needs
+
+of-requires : tie.Need-of-requires
+of-requires c κs = search needs
+
+live-branches-requires : tie.Need-live-branches-requires
+live-branches-requires c κs = search needs
+
+graph-of-requires : tie.Need-graph-of-requires
+graph-of-requires c κs = search needs
+
+is-radial-requires : tie.Need-is-radial-requires
+is-radial-requires c κs = search needs
+
+returns-3 : tie.Need-returns-3
+returns-3 c =
+    let flags = c .before .before in
+    let passed = flags .before .before in
+    let state = passed .before .before in
+    let head = state .before in
+    let records = head .before .before in
+    let start = records .before .before in
+    let ok = sym (records .check .ensures) ∙ ap answerOf (head .enum-told .given .1) in
+    let good = sym (state .check-state .ensures) ∙ ap answerOf (passed .enum-told2 .given .1) in
+    ap accepted
+    (c .is-radial .ensures
+    ∙ ap₂ rowRadial (c .before .graph-of .ensures) (state-flags _ _ 0 ok good _ _ (flags .before .of .ensures) (flags .live-branches .ensures))
+    ∙ live-row-radial (start .args .network) (length-of (the-type .to) (start .args .network .buses) (start .good .0 .1 .1 .0 .1 .0 .1)) ok _)
+    ∙ accepted-then _ _ _ (passed .enum-told2 .given .1) (state .check-state .ensures)
+    ∙ accepted-then _ _ _ (head .enum-told .given .1) (records .check .ensures)
+
+pub verify-radiality-spec : {M : Type 1} → statement M
+verify-radiality-spec =
+    tie.close
+    (tie.spec
+    check-requires
+    enum-known-number
+    returns
+    enum-told
+    check-state-requires
+    enum-known-number-2
+    returns-2
+    enum-told-2
+    of-requires
+    live-branches-requires
+    graph-of-requires
+    is-radial-requires
+    returns-3)

@@ -1,0 +1,32 @@
+-- A feeder's records as a graph: ids become positions. And its radiality in a state of the switches.
+use mathlib.Core.Bool.{Bool}
+use mathlib.Core.List.{List, map}
+use Prim.Native.Nat.{ℕ}
+use lib.ListN.{length, getD}
+use Rattle.numbers.specs.Choose.{indexOf}
+use Rattle.network.specs.Records.{Network, noBranch}
+use Rattle.network.specs.Faults.{busId}
+use Rattle.network.specs.Live.{live}
+use Rattle.graph.specs.Graph.{Net, Branches, Live}
+use Rattle.graph.specs.Radial.{radial}
+
+-- the position of the bus with this id
+unfoldable pub position : Network → ℕ → ℕ
+position N id = indexOf id (map busId (N .buses))
+
+unfoldable pub feeder : Network → Net
+feeder N =
+    record {
+      buses = length (N .buses);
+      branches = length (N .branches);
+      from = λ k. position N (getD (N .branches) k noBranch .«from_bus»);
+      to = λ k. position N (getD (N .branches) k noBranch .«to_bus»);
+    }
+
+-- the live branches of a state, as a set
+abbrev pub LiveIn : Network → List ℕ → Branches
+LiveIn N s = Live (feeder N) (live N s)
+
+-- what `verify_radiality` answers
+unfoldable pub radialIn : Network → List ℕ → Bool
+radialIn N s = radial (feeder N) (live N s)

@@ -1,0 +1,79 @@
+// A feeder's records as a graph: ids are resolved to positions once.
+ghost use mathlib.Core.Path.{_≡_};
+ghost use mathlib.Core.List.{List};
+ghost use Prim.Native.Nat.{ℕ, _≤_, min};
+ghost use lib.ListN.{length};
+ghost use Rattle.checks.specs.Ids.{rows, idRows};
+ghost use Rattle.radiality.specs.FeederRows.{endAt, endsOf, feederGraph};
+use checks::ids::bus_rows;
+use checks::ids::position_of;
+use graph::rows::Graph;
+use network::branch::Branch;
+use network::topology::PowerNetwork;
+use numbers::at_most;
+
+// The position of the bus with this id among n buses whose ids are in rows, and 0 where none has it.
+fn end_at<'a>(
+    ids: &'a [u16; 512],
+    first: &'a [u16; 256],
+    next: &'a [u16; 512],
+    n: usize,
+    id: u16,
+) -> u8
+    requires { ⌜ n ≤ 256 ⌝ }
+    ensures { λ r. ⌜ ((l : List ℕ) → n ≡ length l → rows (now (ids .entry)) (now (first .entry)) (now (next .entry)) ≡ idRows l → r ≡ endAt l id) ⌝ }
+{
+    let at = position_of(ids, first, next, n, id);
+    if at < n {
+        return at as u8;
+    }
+    0
+}
+
+// The positions of the ends of each branch.
+struct Ends {
+    from: [u8; 512],
+    to: [u8; 512],
+}
+
+// Of the listed branches; the others are left at 0.
+fn branch_ends<'a>(
+    branches: [Branch; 512],
+    count: usize,
+    ids: &'a [u16; 512],
+    first: &'a [u16; 256],
+    next: &'a [u16; 512],
+    n: usize,
+) -> Ends
+    requires { ⌜ n ≤ 256 ⌝ }
+    ensures { λ r. ⌜ ((l : List ℕ) → n ≡ length l → rows (now (ids .entry)) (now (first .entry)) (now (next .entry)) ≡ idRows l
+        → (r .from ≡ endsOf (λ b. b .«from_bus») l branches count) × (r .to ≡ endsOf (λ b. b .«to_bus») l branches count)) ⌝ }
+{
+    let m = at_most(count, 512);
+    let mut from = [0u8; 512];
+    let mut to = [0u8; 512];
+    let mut k: usize = 0;
+    while k < m {
+        let branch = branches[k];
+        from[k] = end_at(ids, first, next, n, branch.from_bus);
+        to[k] = end_at(ids, first, next, n, branch.to_bus);
+        k += 1;
+    }
+    Ends { from, to }
+}
+
+// The graph of a feeder's listed buses and branches. An end that is no listed bus stands at position 0.
+pub fn graph_of(network: PowerNetwork) -> Graph
+    ensures { λ r. ⌜ r ≡ feederGraph network ⌝ }
+{
+    let buses = network.buses;
+    let branches = network.branches;
+    let count = network.bus_count as usize;
+    let m = network.branch_count as usize;
+    let n = at_most(count, 256);
+    let rows = bus_rows(buses, count);
+    let ends = branch_ends(branches, m, &rows.ids, &rows.first, &rows.next, n);
+    let from = ends.from;
+    let to = ends.to;
+    Graph::new(network.bus_count, network.branch_count, from, to)
+}

@@ -1,0 +1,3 @@
+// A feeder as a graph of its buses, and its radiality.
+pub mod feeder;
+pub mod radiality;

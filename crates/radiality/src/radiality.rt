@@ -1,0 +1,37 @@
+// Translated and changed from src/network/reconfiguration.rs of oxigrid. Copyright 2024-2026 COOLJAPAN OU (Team Kitasan), Apache License 2.0.
+ghost use mathlib.Core.Path.{_≡_};
+ghost use Rattle.network.specs.Answers.{accepted, _andThen_};
+ghost use Rattle.network.specs.Check.{checkRecords};
+ghost use Rattle.network.specs.Live.{checkState};
+ghost use Rattle.network.specs.Records.{recordsOf};
+ghost use Rattle.radiality.specs.Answers.{radialityOf};
+ghost use Rattle.radiality.specs.Feeder.{radialIn};
+use crate::feeder::graph_of;
+use checks::check::check;
+use graph::radial::is_radial;
+use network::configuration::NetworkConfiguration;
+use network::configuration::check_state;
+use network::configuration::live_branches;
+use network::error::Verdict;
+use network::topology::PowerNetwork;
+
+// Whether a state is radial, or document 01's refusal number and place.
+pub enum Radiality {
+    Radial(bool),
+    Refused { number: u8, place: u16 },
+}
+
+// True for zero buses; else the state is radial when one branch less than there are buses is live and all buses are reached.
+pub fn verify_radiality(network: PowerNetwork, state: &[u8]) -> Radiality
+    ensures { λ r. ⌜ radialityOf r ≡ (checkRecords (recordsOf network) andThen checkState (recordsOf network) (now (state .entry)) 0
+        andThen accepted (radialIn (recordsOf network) (now (state .entry)))) ⌝ }
+{
+    if let Verdict::Refused { number, place } = check(network) {
+        return Radiality::Refused { number, place };
+    }
+    if let Verdict::Refused { number, place } = check_state(network, state, 0) {
+        return Radiality::Refused { number, place };
+    }
+    let live = live_branches(network, NetworkConfiguration::of(state));
+    Radiality::Radial(is_radial(graph_of(network), live))
+}
