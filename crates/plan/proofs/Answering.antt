@@ -12,10 +12,10 @@ use Rattle.network.specs.Answers.{accepted, refused, answerOf, judge}
 use Rattle.network.specs.Check.{checkRecords}
 use Rattle.network.specs.Switches.{State}
 use Rattle.graph.specs.declared.rows.Graph.{Graph}
-use Rattle.graph.specs.Feeder.{radialIn}
+use Rattle.radiality.specs.Feeder.{radialIn}
 use Rattle.graph.specs.Rows.{rowRadial}
-use Rattle.graph.specs.FeederRows.{feederGraph, liveFlags}
-use Rattle.graph.specs.FeederRowLaws.{live-row-radial}
+use Rattle.radiality.specs.FeederRows.{feederGraph, liveFlags}
+use Rattle.radiality.specs.FeederRowLaws.{live-row-radial}
 use Rattle.printing.specs.Printed.{written}
 use Rattle.printing.specs.CallLaws.{call-refused, call-short, call-done}
 use Rattle.plan.specs.declared.pairs.PairList.{PairList}

@@ -13,7 +13,7 @@ use Rattle.network.specs.Answers.{accepted, refused}
 use Rattle.network.specs.Listed.{switches-listed, switch-at}
 use Rattle.network.specs.Switches.{State, byte, branchOf, operable}
 use Rattle.graph.specs.Rows.{flag}
-use Rattle.graph.specs.FeederRows.{liveFlags}
+use Rattle.radiality.specs.FeederRows.{liveFlags}
 use Rattle.plan.specs.Plan.{differing, lockedDifferences, refuseLocked, checkLocked}
 use Rattle.plan.specs.Stored.{Checked}
 use Rattle.plan.specs.Onward.{onward, onward-all, onward-none, onward-yes, onward-no}

@@ -20,11 +20,11 @@ use Rattle.network.specs.Check.{checkRecords}
 use Rattle.network.specs.Live.{live}
 use Rattle.graph.specs.declared.rows.Graph.{Graph}
 use Rattle.graph.specs.Walk.{bfsPath}
-use Rattle.graph.specs.Feeder.{feeder}
-use Rattle.graph.specs.FeederLaws.{feeder-sound, feeder-small, feeder-few}
+use Rattle.radiality.specs.Feeder.{feeder}
+use Rattle.radiality.specs.FeederLaws.{feeder-sound, feeder-small, feeder-few}
 use Rattle.graph.specs.Rows.{flag, rowNet, rowPath}
-use Rattle.graph.specs.FeederRows.{feederGraph, liveFlags}
-use Rattle.graph.specs.FeederRowLaws.{flags-live, feeder-row-ends, feeder-row-path}
+use Rattle.radiality.specs.FeederRows.{feederGraph, liveFlags}
+use Rattle.radiality.specs.FeederRowLaws.{flags-live, feeder-row-ends, feeder-row-path}
 use Rattle.plan.specs.declared.pairs.PairList.{PairList}
 use Rattle.network.specs.Switches.{State, branchOf}
 use Rattle.network.specs.Listed.{switches-listed, few-switches, switch-at}

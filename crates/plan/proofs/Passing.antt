@@ -13,8 +13,8 @@ use Rattle.network.specs.Listed.{switches-listed, few-switches, state-accepted}
 use Rattle.network.specs.Live.{live}
 use Rattle.network.specs.Switches.{State, GoodState}
 use Rattle.graph.specs.Rows.{flag}
-use Rattle.graph.specs.FeederRows.{liveFlags}
-use Rattle.graph.specs.FeederRowLaws.{flags-live}
+use Rattle.radiality.specs.FeederRows.{liveFlags}
+use Rattle.radiality.specs.FeederRowLaws.{flags-live}
 use Rattle.plan.specs.Plan.{checkPlan}
 use Rattle.plan.specs.Stored.{Checked}
 use Rattle.plan.specs.Accepted.{plan-accepted}

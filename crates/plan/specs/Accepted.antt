@@ -23,8 +23,8 @@ use Rattle.network.specs.Inside.{Inside}
 use Rattle.network.specs.Live.{live}
 use Rattle.network.specs.Listed.{state-accepted}
 use Rattle.network.specs.Switches.{State, byte, branchOf, operable, GoodState}
-use Rattle.graph.specs.Feeder.{feeder, radialIn}
-use Rattle.graph.specs.FeederLaws.{feeder-sound, feeder-small, radial-in-tree}
+use Rattle.radiality.specs.Feeder.{feeder, radialIn}
+use Rattle.radiality.specs.FeederLaws.{feeder-sound, feeder-small, radial-in-tree}
 use Rattle.plan.specs.Plan.{switchOn, checkRadial, differing, lockedDifferences, checkLocked, refuseLocked, checkPlan}
 use Rattle.plan.specs.Claim.{switchAt}
 use Rattle.plan.specs.LiveLaws.{On}

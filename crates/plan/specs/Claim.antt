@@ -16,7 +16,7 @@ use Rattle.network.specs.Faults.{switchId}
 use Rattle.network.specs.Live.{live}
 use Rattle.network.specs.Switches.{State, byte, branchOf, operable, GoodState}
 use Rattle.graph.specs.Graph.{Path, Loop, Tree}
-use Rattle.graph.specs.Feeder.{feeder, LiveIn}
+use Rattle.radiality.specs.Feeder.{feeder, LiveIn}
 use Rattle.plan.specs.Plan.{Moves, plan, checkPlan}
 
 -- ---- the two kinds of step

@@ -17,7 +17,7 @@ use Rattle.network.specs.Switches.{State}
 use Rattle.graph.specs.Graph.{Net, Sound}
 use Rattle.graph.specs.Radial.{radial}
 use Rattle.graph.specs.Walk.{walk}
-use Rattle.graph.specs.Feeder.{feeder, radialIn}
+use Rattle.radiality.specs.Feeder.{feeder, radialIn}
 use Rattle.printing.specs.Printed.{pair, pairText}
 use Rattle.printing.specs.WrittenLaws.{length-frame}
 use Rattle.printing.specs.LineTexts.{length-lines}

@@ -13,4 +13,3 @@ pub mod Accepted
 pub mod Proof
 pub mod Empty
 pub mod Length
-pub mod Examples

@@ -18,7 +18,7 @@ use Rattle.network.specs.Records.{Network}
 use Rattle.network.specs.Live.{live}
 use Rattle.network.specs.Switches.{State, byte, branchOf}
 use Rattle.graph.specs.Graph.{Net}
-use Rattle.graph.specs.Feeder.{feeder}
+use Rattle.radiality.specs.Feeder.{feeder}
 use Rattle.plan.specs.Plan.{Pair, exchanged}
 use Rattle.plan.specs.Claim.{OtherPair, otherCarriedOut, othersCarriedOut}
 use Rattle.plan.specs.LiveLaws.{On, live-less}

@@ -13,7 +13,7 @@ use Rattle.network.specs.Records.{Network}
 use Rattle.network.specs.Live.{live}
 use Rattle.network.specs.Switches.{State, byte, branchOf, operable, GoodState}
 use Rattle.graph.specs.Graph.{Net, Branches, Live, Plus, Path, Loop, Tree}
-use Rattle.graph.specs.Feeder.{feeder, LiveIn}
+use Rattle.radiality.specs.Feeder.{feeder, LiveIn}
 use Rattle.graph.specs.Chains.{_⊆_}
 use Rattle.graph.specs.Paths.{path-more}
 use Rattle.graph.specs.Forests.{path-unique}

@@ -14,7 +14,7 @@ use Rattle.network.specs.Live.{live, checkState}
 use Rattle.printing.specs.Printed.{pairText}
 use Rattle.printing.specs.Calls.{Call, called}
 use Rattle.graph.specs.Walk.{bfsPath}
-use Rattle.graph.specs.Feeder.{feeder, radialIn}
+use Rattle.radiality.specs.Feeder.{feeder, radialIn}
 use Rattle.plan.specs.declared.planner.PlanAnswer.{PlanAnswer}
 use Rattle.plan.specs.declared.planner.PlanAnswer.the-variants.{Pairs, Refused}
 

@@ -8,7 +8,7 @@ use Rattle.network.specs.Records.{Network}
 use Rattle.network.specs.Live.{live}
 use Rattle.network.specs.Switches.{State, byte, branchOf, operable, GoodState}
 use Rattle.graph.specs.Graph.{Sound, Tree}
-use Rattle.graph.specs.Feeder.{feeder, LiveIn}
+use Rattle.radiality.specs.Feeder.{feeder, LiveIn}
 use Rattle.plan.specs.Plan.{switchOn}
 use Rattle.plan.specs.Claim.{switchAt}
 use Rattle.plan.specs.LiveLaws.{On}

@@ -16,7 +16,7 @@ use Rattle.network.specs.Records.{Network}
 use Rattle.network.specs.Live.{live}
 use Rattle.network.specs.Switches.{State, branchOf}
 use Rattle.graph.specs.Graph.{Net, Branches, Live, Chain, stay, step, Path, Connected, Tree}
-use Rattle.graph.specs.Feeder.{feeder}
+use Rattle.radiality.specs.Feeder.{feeder}
 use Rattle.graph.specs.Chains.{_⊆_}
 use Rattle.graph.specs.Trees.{tree-forest, part-is-whole}
 use Rattle.graph.specs.WalkLaws.{bfs-path}

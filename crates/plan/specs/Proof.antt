@@ -12,7 +12,7 @@ use Rattle.numbers.specs.Tests.{clash, not-so, same-test}
 use Rattle.network.specs.Records.{Network, noBranch}
 use Rattle.network.specs.Live.{live}
 use Rattle.network.specs.Switches.{State, byte, branchOf}
-use Rattle.graph.specs.Feeder.{feeder}
+use Rattle.radiality.specs.Feeder.{feeder}
 use Rattle.plan.specs.Plan.{Pair, pairs, Moves, movesOf, plan}
 use Rattle.plan.specs.Claim.{turnedIf, Step, back, found, Point, taken, run, after, SameLive, SwitchingPlan, Demand3}
 use Rattle.plan.specs.LiveLaws.{live-so, live-listed}

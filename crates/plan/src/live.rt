@@ -4,7 +4,7 @@ ghost use Prim.Native.Nat.{_≤_};
 ghost use lib.ListN.{length};
 ghost use Rattle.network.specs.Records.{recordsOf};
 ghost use Rattle.graph.specs.Rows.{flag};
-ghost use Rattle.graph.specs.FeederRows.{liveFlags};
+ghost use Rattle.radiality.specs.FeederRows.{liveFlags};
 use network::configuration::NetworkConfiguration;
 use network::configuration::live_branches;
 use network::topology::PowerNetwork;

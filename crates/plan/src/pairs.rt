@@ -13,12 +13,12 @@ ghost use Rattle.plan.specs.Plan.{switchOn, plan, checkPlan};
 ghost use Rattle.plan.specs.Stored.{movesIn, firstUnwanted, rowOpening};
 use crate::live::flagged;
 use crate::live::live_in;
-use graph::feeder::graph_of;
-use graph::path::bfs_path;
 use graph::rows::Graph;
 use graph::walks::Path;
 use network::topology::PowerNetwork;
 use numbers::wide16;
+use paths::path::bfs_path;
+use radiality::feeder::graph_of;
 
 // The pairs of a plan in order: for each the id of the switch that it closes and the id of the one that it opens. Each closes another switch,
 // so that there are no more of them than switches.

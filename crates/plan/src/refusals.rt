@@ -3,19 +3,19 @@ ghost use mathlib.Core.Path.{_≡_};
 ghost use mathlib.Core.Bool.{not, _&&_, _||_};
 ghost use Rattle.network.specs.Answers.{answerOf, _andThen_};
 ghost use Rattle.network.specs.Records.{recordsOf};
-ghost use Rattle.graph.specs.FeederRows.{liveFlags};
+ghost use Rattle.radiality.specs.FeederRows.{liveFlags};
 ghost use Rattle.plan.specs.Plan.{checkRadial, checkLocked, checkPlan};
 ghost use Rattle.plan.specs.Stored.{Checked};
 use crate::live::flagged;
 use crate::live::live_in;
-use graph::feeder::graph_of;
+use checks::check::check;
 use graph::radial::is_radial;
-use network::check::check;
 use network::configuration::check_state;
 use network::error::Verdict;
 use network::switch::Switch;
 use network::topology::PowerNetwork;
 use numbers::wide16;
+use radiality::feeder::graph_of;
 
 // Whether exactly one of the two is so.
 fn differ(a: bool, b: bool) -> bool

@@ -17,7 +17,7 @@ use Rattle.network.specs.Live.{baseState}
 use Rattle.network.specs.Switches.{branchOf, GoodState}
 use Rattle.printing.specs.Printed.{written}
 use Rattle.printing.specs.CallLaws.{call-passed}
-use Rattle.graph.specs.Feeder.{radialIn}
+use Rattle.radiality.specs.Feeder.{radialIn}
 use Rattle.losses.specs.Loss.{lossIn}
 use Rattle.plan.specs.Plan.{plan, checkPlan, planText, planned}
 use Rattle.plan.specs.Claim.{SwitchingPlan}

@@ -12,7 +12,7 @@ use Rattle.network.specs.Records.{Network}
 use Rattle.network.specs.Live.{live, baseState}
 use Rattle.network.specs.Switches.{State, byte, branchOf, operable, size, isTie, swapped}
 use Rattle.graph.specs.Walk.{bfsPath}
-use Rattle.graph.specs.Feeder.{feeder, radialIn}
+use Rattle.radiality.specs.Feeder.{feeder, radialIn}
 use Rattle.losses.specs.Loss.{lossIn}
 
 -- "the normally open, operable, still open switches"

@@ -11,7 +11,7 @@ use Rattle.numbers.specs.UpTo.{upTo-keeps}
 use Rattle.network.specs.Records.{Network}
 use Rattle.network.specs.Live.{baseState}
 use Rattle.network.specs.Switches.{State, byte, branchOf, operable, size, isTie, swapped}
-use Rattle.graph.specs.Feeder.{radialIn}
+use Rattle.radiality.specs.Feeder.{radialIn}
 use Rattle.losses.specs.Loss.{lossIn}
 use Rattle.reconfiguration.specs.Exchange.{seen, loopOf, sectionOf, swapWith, trial, improves, kept, roundOf, Exchange, afterRound, exchangeRounds, exchange}
 use Rattle.reconfiguration.specs.Found.{IfSome, cond-holds, firstSome-holds, least-passes}

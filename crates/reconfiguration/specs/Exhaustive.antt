@@ -10,7 +10,7 @@ use Rattle.network.specs.Records.{Network}
 use Rattle.network.specs.Faults.{ties}
 use Rattle.network.specs.Live.{baseState}
 use Rattle.network.specs.Switches.{State, size, isTie}
-use Rattle.graph.specs.Feeder.{radialIn}
+use Rattle.radiality.specs.Feeder.{radialIn}
 use Rattle.losses.specs.Loss.{lossIn}
 
 abbrev pub bit : ℕ → ℕ → Bool

@@ -12,7 +12,7 @@ use Rattle.network.specs.Records.{Network}
 use Rattle.network.specs.Faults.{ties}
 use Rattle.network.specs.Live.{stateByte, live, baseState}
 use Rattle.network.specs.Switches.{byte, size, isTie, GoodState}
-use Rattle.graph.specs.Feeder.{radialIn}
+use Rattle.radiality.specs.Feeder.{radialIn}
 use Rattle.losses.specs.Loss.{lossIn}
 use Rattle.plan.specs.LiveLaws.{live-less}
 use Rattle.reconfiguration.specs.Exhaustive.{bit, masked, Least, lesser, withLoss, Exhaustive, tryMask, exhaustive, leastOrBase}

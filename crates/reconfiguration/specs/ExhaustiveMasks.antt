@@ -1,4 +1,4 @@
--- Masks as the code goes through them: how many ties there are, the bits of a mask that are left, and the state of a mask.
+-- Masks as the code goes through them: at most ten ties, the bits of a mask that are left, and the state of a mask.
 use mathlib.Core.Path.{_≡_, refl, sym, ap, _∙_}
 use mathlib.Core.Bool.{Bool, true, false, cond}
 use Prim.Native.Nat.{ℕ, suc, _+_, _≤_, _<_, _/_, _%_, _^_}
@@ -9,34 +9,22 @@ use lib.Dec.{eqb}
 use lib.ListN.{length, getD, List·getD-eq-default}
 use lib.Pow.{shr-shr}
 use Rattle.numbers.specs.Counts.{count}
-use Rattle.numbers.specs.UpTo.{table}
-use Rattle.network.specs.declared.switch.Switch.{Switch}
 use Rattle.network.specs.declared.switch.ReconfigAlgorithm.the-variants as method
 use Rattle.network.specs.declared.topology.PowerNetwork.{PowerNetwork}
 use Rattle.network.specs.Records.{noSwitch, recordsOf}
 use Rattle.network.specs.Answers.{accepted}
 use Rattle.network.specs.Check.{checkRecords}
 use Rattle.network.specs.Faults.{ties, methodByte}
-use Rattle.network.specs.FaultLaws.{ties-next}
 use Rattle.network.specs.InsideLaws.{check-inside}
 use Rattle.network.specs.Listed.{switches-listed, switch-at}
 use Rattle.network.specs.Switches.{isTie}
 use Rattle.reconfiguration.specs.Exhaustive.{masked}
 use Rattle.reconfiguration.specs.ExhaustiveLaws.{masked-byte, masked-good}
 
--- ---- how many ties there are
 -- refusal 9 leaves ten
 pub ten-ties : (n : PowerNetwork) → checkRecords (recordsOf n) ≡ accepted tt → n .algorithm ≡ method.Exhaustive → ties (recordsOf n .switches) ≤ 10
 unfolding recordsOf
 ten-ties n ok e = check-inside (recordsOf n) .0 ok .few-ties (ap methodByte e)
-
--- a switch more: a tie is counted, a section is not
-module _ (f : ℕ → Switch) (i t : ℕ) (e : t ≡ ties (table f i)) (tie : Bool) (q : tie ≡ f i .«normally_open») where
-  pub tie-counted : tie ≡ true → t + 1 ≡ ties (table f (i + 1))
-  tie-counted h = add-one t ∙ ap (λ b. cond b (suc t) t) (sym h ∙ q) ∙ ties-next f i t e
-
-  pub section-passed : tie ≡ false → t ≡ ties (table f (i + 1))
-  section-passed h = ap (λ b. cond b (suc t) t) (sym h ∙ q) ∙ ties-next f i t e
 
 -- ---- the bits of a mask: the i-th tie takes bit i, which is the lowest that those before it left
 bit-taken : (tie : Bool) (mask k : ℕ) → cond tie (mask / 2 ^ k / 2) (mask / 2 ^ k) ≡ mask / 2 ^ cond tie (suc k) k

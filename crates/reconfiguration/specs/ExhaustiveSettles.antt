@@ -16,7 +16,7 @@ use Rattle.network.specs.Faults.{ties}
 use Rattle.network.specs.Inside.{Inside}
 use Rattle.network.specs.Live.{stateByte, baseState}
 use Rattle.network.specs.Switches.{isTie, size}
-use Rattle.graph.specs.Feeder.{radialIn}
+use Rattle.radiality.specs.Feeder.{radialIn}
 use Rattle.losses.specs.Loss.{lossIn}
 use Rattle.reconfiguration.specs.Exhaustive.{bit, masked, lesser, withLoss, Exhaustive, tryMask, exhaustive, leastOrBase}
 use Rattle.reconfiguration.specs.Floats.{lt-self}
@@ -25,7 +25,8 @@ use Rattle.reconfiguration.specs.LiveBranches.{same-loss, radial-part-sa
 use Rattle.reconfiguration.specs.ExhaustiveLaws.{masked-more}
 
 module _ (N : Network) where
-  masked-none : masked N 0 ≡ baseState N
+  -- mask 0 is the base
+  pub masked-none : masked N 0 ≡ baseState N
   unfolding masked
   masked-none = sym (as-table _ (size N) 0 (baseState N) (base-good N .long) (λ i l. base-byte N i ∙ go i (isTie N i)))
     where

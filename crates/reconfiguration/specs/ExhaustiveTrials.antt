@@ -11,18 +11,14 @@ use Rattle.numbers.specs.UpTo.{upTo, upTo-keeps}
 use Rattle.network.specs.declared.configuration.NetworkConfiguration.{NetworkConfiguration}
 use Rattle.network.specs.declared.topology.PowerNetwork.{PowerNetwork}
 use Rattle.network.specs.Records.{Network, recordsOf}
-use Rattle.network.specs.Answers.{accepted}
-use Rattle.network.specs.Check.{checkRecords}
 use Rattle.network.specs.Configuration.{configurationOf}
-use Rattle.network.specs.Listed.{few-switches}
-use Rattle.graph.specs.Feeder.{radialIn}
+use Rattle.network.specs.Live.{baseState}
+use Rattle.radiality.specs.Feeder.{radialIn}
 use Rattle.losses.specs.Loss.{lossIn}
 use Rattle.reconfiguration.specs.declared.exhaustive.ExhaustiveSearch.{ExhaustiveSearch}
-use Rattle.reconfiguration.specs.States.{stateOf}
 use Rattle.reconfiguration.specs.Given.{Base}
-use Rattle.reconfiguration.specs.StateLaws.{state-held}
 use Rattle.reconfiguration.specs.Exhaustive.{masked, Least, lesser, withLoss, Exhaustive, tryMask, leastOrBase}
-use Rattle.reconfiguration.specs.ExhaustiveMasks.{masked-long}
+use Rattle.reconfiguration.specs.ExhaustiveSettles.{masked-none}
 use Rattle.reconfiguration.specs.ExhaustiveValues.{isSome, exhaustiveOf, withRadial}
 
 -- ---- a radial state more
@@ -57,22 +53,14 @@ module _ (N : Network) (x : Exhaustive) (y : ExhaustiveSearch) (e : y ≡ exhaus
       go (some a) f = rw f
 
 -- ---- a mask more
-module _ (n : PowerNetwork) (ok : checkRecords (recordsOf n) ≡ accepted tt) (mask : ℕ) (c : NetworkConfiguration) (h : c ≡ configurationOf (masked (recordsOf n) mask)) (x : Exhaustive) (radial : Bool)
-    (q : radial ≡ radialIn (recordsOf n) (stateOf n c)) where
-  tried : stateOf n c ≡ masked (recordsOf n) mask
-  tried = ap (stateOf n) h ∙ state-held n (masked (recordsOf n) mask) (masked-long n mask) (few-switches n ok)
-
-  same-test : radialIn (recordsOf n) (masked (recordsOf n) mask) ≡ radial
-  same-test = ap (radialIn (recordsOf n)) (sym tried) ∙ sym q
-
-  pub mask-passed : radial ≡ false → x ≡ tryMask (recordsOf n) x mask
+module _ (N : Network) (x : Exhaustive) (mask : ℕ) where
+  pub mask-passed : radialIn N (masked N mask) ≡ false → x ≡ tryMask N x mask
   unfolding tryMask
-  mask-passed f = rw (same-test, f)
+  mask-passed f = rw f
 
-  pub mask-radial : radial ≡ true → (loss : Float) → loss ≡ lossIn (recordsOf n) (stateOf n c)
-      → withRadial x (record { state = masked (recordsOf n) mask; loss = loss }) ≡ tryMask (recordsOf n) x mask
+  pub mask-radial : radialIn N (masked N mask) ≡ true → (loss : Float) → loss ≡ lossIn N (masked N mask) → withRadial x (record { state = masked N mask; loss = loss }) ≡ tryMask N x mask
   unfolding tryMask
-  mask-radial t loss l = rw (same-test, t, l, tried)
+  mask-radial t loss l = rw (t, l)
 
 -- ---- after the first masks
 abbrev pub noMask : Exhaustive
@@ -82,6 +70,16 @@ noMask = record { least = none; radial = 0 }
 pub none-tried : (n : PowerNetwork) (c : NetworkConfiguration) (loss : Float) → Base n c loss → record { found = false; configuration = c; loss = loss; radial = 0 } ≡ exhaustiveOf (recordsOf n) noMask
 unfolding exhaustiveOf leastOrBase
 none-tried n c loss b = rw (b .0, b .1)
+
+-- the base is the state of mask 0
+module _ (N : Network) where
+  pub base-passed : radialIn N (baseState N) ≡ false → noMask ≡ tryMask N noMask 0
+  base-passed f = mask-passed N noMask 0 (rw (masked-none N) f)
+
+  pub base-radial : radialIn N (baseState N) ≡ true → (loss : Float) → loss ≡ lossIn N (baseState N) → withRadial noMask (record { state = baseState N; loss = loss }) ≡ tryMask N noMask 0
+  base-radial t loss l =
+      ap (λ s. withRadial noMask (record { state = s; loss = loss })) (sym (masked-none N))
+      ∙ mask-radial N noMask 0 (ap (radialIn N) (masked-none N) ∙ t) loss (l ∙ ap (lossIn N) (sym (masked-none N)))
 
 radial-few : (N : Network) (m : ℕ) → upTo (tryMask N) noMask m .radial ≤ m
 unfolding tryMask

@@ -1,11 +1,41 @@
--- The value by which the code holds where the exhaustive search stands.
-use mathlib.Core.Bool.{Bool, true, false}
+-- The values by which the code holds the ties, the live branches of a mask, and where the exhaustive search stands.
+use mathlib.Core.Bool.{Bool, true, false, cond}
+use mathlib.Core.List.{List}
 use mathlib.Core.Option.{Option, none, some}
-use Prim.Native.Nat.{suc}
+use Prim.Native.Nat.{ℕ, suc}
+use lib.ListN.{getD, set}
+use Rattle.numbers.specs.Choose.{those}
+use Rattle.numbers.specs.TableLaws.{filled}
+use Rattle.numbers.specs.UpTo.{upTo}
 use Rattle.network.specs.Configuration.{configurationOf}
 use Rattle.network.specs.Records.{Network}
+use Rattle.network.specs.Switches.{branchOf, size, isTie, inService}
 use Rattle.reconfiguration.specs.declared.exhaustive.ExhaustiveSearch.{ExhaustiveSearch}
-use Rattle.reconfiguration.specs.Exhaustive.{Least, lesser, Exhaustive, leastOrBase}
+use Rattle.reconfiguration.specs.declared.exhaustive.Ties.{Ties}
+use Rattle.reconfiguration.specs.Exhaustive.{bit, Least, lesser, Exhaustive, leastOrBase}
+
+-- ---- ties
+-- the position of the t-th tie among the switches
+abbrev pub tieAt : Network → ℕ → ℕ
+tieAt N t = getD (those (isTie N) (size N)) t 0
+
+-- the branches of the first t ties, and whether they are in service
+unfoldable pub tiesOf : Network → ℕ → Ties
+tiesOf N t =
+    record {
+      count = t;
+      on = filled (λ j. branchOf N (tieAt N j)) 0 10 t;
+      «in_service» = filled (λ j. inService N (branchOf N (tieAt N j))) false 10 t;
+    }
+
+-- flags of live branches, with the t-th tie closed if its bit of the mask is 1
+abbrev pub closing : Ties → ℕ → List Bool → ℕ → List Bool
+closing ties mask flags t = cond (bit mask t) (set flags (getD (ties .on) t 0) (getD (ties .«in_service») t false)) flags
+
+unfoldable pub closedBy : Ties → ℕ → List Bool → List Bool
+closedBy ties mask live = upTo (closing ties mask) live (ties .count)
+
+-- ---- where the search stands
 
 abbrev pub isSome : Option Least → Bool
 isSome none = false

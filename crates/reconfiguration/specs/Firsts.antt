@@ -1,5 +1,5 @@
 -- The least number that passes a test and the first answer along a list, by rising position as a loop finds them.
-use mathlib.Core.Path.{_≡_, refl, _∙_}
+use mathlib.Core.Path.{_≡_, refl, sym, ap, _∙_}
 use mathlib.Core.Bool.{Bool, true, false, cond}
 use mathlib.Core.List.{List}
 use mathlib.Core.Option.{Option, none, some}
@@ -8,25 +8,29 @@ use native.Mathlib.Numerals.{add-one}
 use native.Mathlib.Omega.{arith}
 use lib.ListN.{length, getD, drop, drop-of-length-le}
 use lib.Seq.{drop-cons}
-use Rattle.numbers.specs.UpTo.{upTo, upTo-more, upTo-idle}
+use Rattle.numbers.specs.UpTo.{upTo, upTo-more}
 use Rattle.numbers.specs.Choose.{least, firstSome, _orElse_}
 use Rattle.reconfiguration.specs.Found.{IfSome}
 
 -- ---- the least number that passes a test, by rising position
 module _ (p : ℕ → Bool) where
-  pub least-none : least p 0 ≡ none
-  unfolding least upTo
-  least-none = refl
-
-  pub least-next : (i : ℕ) → p i ≡ false → least p i ≡ none → least p (i + 1) ≡ none
+  -- a number more that does not pass
+  pub least-same : (i : ℕ) → p i ≡ false → least p (i + 1) ≡ least p i
   unfolding least _orElse_
-  least-next i f e = upTo-more _ none i ∙ rw (e, f)
+  least-same i f = upTo-more _ none i ∙ rw f (go (least p i))
+    where
+      go : (found : Option ℕ) → (found orElse none) ≡ found
+      go none = refl
+      go (some j) = refl
 
-  pub least-found : (i n : ℕ) → i < n → p i ≡ true → least p i ≡ none → least p n ≡ some i
+  -- one that passes, and none before it
+  pub least-found : (i : ℕ) → p i ≡ true → least p i ≡ none → least p (i + 1) ≡ some i
   unfolding least _orElse_
-  least-found i n l t e =
-      let here : least p (i + 1) ≡ some i = upTo-more _ none i ∙ rw (e, t) in
-      upTo-idle _ none (i + 1) n (omega arith) (λ j a b. rw here) ∙ here
+  least-found i t e = upTo-more _ none i ∙ rw (e, t)
+
+  pub least-none : (n : ℕ) → ((i : ℕ) → i < n → p i ≡ false) → least p n ≡ none
+  least-none zero h = unfold least upTo in refl
+  least-none (suc n) h = ap (least p) (sym (add-one n)) ∙ least-same n (h n (omega arith)) ∙ least-none n (λ i l. h i (omega arith))
 
   pub least-below : (n : ℕ) → IfSome (λ i. i < n) (least p n)
   unfolding least upTo _orElse_

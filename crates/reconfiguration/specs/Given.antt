@@ -11,7 +11,7 @@ use Rattle.network.specs.Configuration.{configurationOf}
 use Rattle.network.specs.Live.{baseState}
 use Rattle.network.specs.Records.{recordsOf}
 use Rattle.graph.specs.declared.rows.Graph.{Graph}
-use Rattle.graph.specs.FeederRows.{feederGraph}
+use Rattle.radiality.specs.FeederRows.{feederGraph}
 use Rattle.losses.specs.Loss.{lossIn}
 use Rattle.reconfiguration.specs.States.{stateOf, loadsOf}
 

@@ -11,8 +11,8 @@ use Rattle.network.specs.Switches.{State}
 use Rattle.graph.specs.Graph.{Tree}
 use Rattle.graph.specs.Trees.{part-is-whole}
 use Rattle.graph.specs.RadialLaws.{radial-tree}
-use Rattle.graph.specs.Feeder.{feeder, LiveIn, radialIn}
-use Rattle.graph.specs.FeederLaws.{feeder-sound, feeder-small}
+use Rattle.radiality.specs.Feeder.{feeder, LiveIn, radialIn}
+use Rattle.radiality.specs.FeederLaws.{feeder-sound, feeder-small}
 use Rattle.losses.specs.Loss.{lossIn}
 use Rattle.plan.specs.Claim.{SameLive}
 use Rattle.plan.specs.LiveLaws.{live-listed}

@@ -13,7 +13,7 @@ use Rattle.network.specs.Check.{checkRecords}
 use Rattle.network.specs.Live.{baseState}
 use Rattle.network.specs.Switches.{State}
 use Rattle.printing.specs.Calls.{Call, called}
-use Rattle.graph.specs.Feeder.{radialIn}
+use Rattle.radiality.specs.Feeder.{radialIn}
 use Rattle.losses.specs.Loss.{lossIn}
 use Rattle.reconfiguration.specs.declared.solve.ReconfigResult.{ReconfigResult}
 use Rattle.reconfiguration.specs.declared.solve.SolveAnswer.{SolveAnswer}

@@ -1,11 +1,13 @@
 -- What the code of `solve` holds is what the definition says: the search by each method, the base, the result, and the call case by case.
 use mathlib.Core.Path.{_≡_, refl, sym, ap, _∙_}
-use mathlib.Core.Bool.{Bool, true}
+use mathlib.Core.Bool.{Bool, true, false, not}
 use mathlib.Core.List.{List}
 use Prim.Native.Nat.{ℕ, _≤_, _<_}
 use lib.Dec.{ltb}
 use lib.Ieee.{Float}
 use lib.ListN.{length, take}
+use borrow.Author.Tests.{not-false}
+use Rattle.numbers.specs.UpTo.{table}
 use Rattle.network.specs.declared.configuration.NetworkConfiguration.{NetworkConfiguration}
 use Rattle.network.specs.declared.error.Verdict.{Verdict}
 use Rattle.network.specs.declared.error.Verdict.the-variants.{Refused}
@@ -16,9 +18,9 @@ use Rattle.network.specs.Records.{Network, recordsOf}
 use Rattle.network.specs.Answers.{accepted, refused, answerOf}
 use Rattle.network.specs.Check.{checkRecords}
 use Rattle.network.specs.Configuration.{configurationOf}
-use Rattle.network.specs.Live.{baseState}
-use Rattle.network.specs.Listed.{switches-listed, few-switches}
-use Rattle.graph.specs.Feeder.{radialIn}
+use Rattle.network.specs.Live.{live, baseState}
+use Rattle.radiality.specs.Feeder.{radialIn}
+use Rattle.radiality.specs.FeederRows.{liveFlags}
 use Rattle.losses.specs.Loss.{lossIn}
 use Rattle.printing.specs.Printed.{written}
 use Rattle.printing.specs.CallLaws.{call-refused, call-short, call-done}
@@ -27,8 +29,8 @@ use Rattle.reconfiguration.specs.declared.tabu.TabuSearch as tabu-code
 use Rattle.reconfiguration.specs.declared.exhaustive.ExhaustiveSearch as exhaustive-code
 use Rattle.reconfiguration.specs.declared.solve.Found.{Found}
 use Rattle.reconfiguration.specs.States.{stateOf}
-use Rattle.reconfiguration.specs.Given.{Base}
-use Rattle.reconfiguration.specs.StateLaws.{state-held}
+use Rattle.network.specs.Listed.{switches-listed, few-switches}
+use Rattle.reconfiguration.specs.StateLaws.{state-held, flags-held}
 use Rattle.reconfiguration.specs.FromBase.{base-good}
 use Rattle.reconfiguration.specs.Exchange.{exchange}
 use Rattle.reconfiguration.specs.ExchangeValues.{exchangeOf}
@@ -38,7 +40,7 @@ use Rattle.reconfiguration.specs.Exhaustive.{exhaustive}
 use Rattle.reconfiguration.specs.ExhaustiveValues.{exhaustiveOf}
 use Rattle.reconfiguration.specs.Solve.{bestBy, best, reduction, reductionOf, Result, result, solved}
 use Rattle.reconfiguration.specs.SolveValues.{foundOf}
-use Rattle.reconfiguration.specs.Answers.{best-good}
+use Rattle.reconfiguration.specs.Answers.{best-good, best-radial}
 
 module _ (n : PowerNetwork) where
   abbrev N : Network
@@ -66,8 +68,8 @@ module _ (n : PowerNetwork) where
 
   -- ---- of a checked network
   module _ (ok : checkRecords N ≡ accepted tt) where
-    pub base-given : {base : NetworkConfiguration} {loss : Float} → base ≡ configurationOf (baseState N) → loss ≡ lossIn N (stateOf n base) → Base n base loss
-    base-given e l = (e, l ∙ ap (lossIn N) (ap (stateOf n) e ∙ state-held n (baseState N) (base-good N .long ∙ switches-listed n) (few-switches n ok)))
+    pub base-flags : {base : NetworkConfiguration} {flags : List Bool} → base ≡ configurationOf (baseState N) → flags ≡ table (live N (base .switches)) 512 → flags ≡ liveFlags N (baseState N)
+    base-flags e q = flags-held n (baseState N) (base-good N .long ∙ switches-listed n) (few-switches n ok) _ e _ q
 
     pub best-long : length (best N .state) ≡ n .«switch_count»
     best-long = best-good N .long ∙ switches-listed n
@@ -75,15 +77,22 @@ module _ (n : PowerNetwork) where
     pub best-held : {c : NetworkConfiguration} → c ≡ configurationOf (best N .state) → stateOf n c ≡ best N .state
     best-held e = ap (stateOf n) e ∙ state-held n (best N .state) best-long (few-switches n ok)
 
+    pub best-flags : {c : NetworkConfiguration} {flags : List Bool} → c ≡ configurationOf (best N .state) → flags ≡ table (live N (c .switches)) 512 → flags ≡ liveFlags N (best N .state)
+    best-flags e q = flags-held n (best N .state) best-long (few-switches n ok) _ e _ q
+
+    -- from a radial base every answer is radial
+    pub radial-kept : {base-radial radial : Bool} → base-radial ≡ radialIn N (baseState N) → not base-radial ≡ false → radial ≡ true → radial ≡ radialIn N (best N .state)
+    radial-kept r t e = e ∙ sym (best-radial N (sym r ∙ not-false _ t))
+
     module _ {found : Found} (f : found ≡ foundOf (best N)) where
       pub found-state : found .configuration ≡ configurationOf (best N .state)
       unfolding foundOf
       found-state = ap (λ x. x .configuration) f
 
-      pub found-result : {radial : Bool} {base percent : Float} → radial ≡ radialIn N (stateOf n (found .configuration)) → base ≡ lossIn N (baseState N) → percent ≡ reduction base (found .loss)
+      pub found-result : {radial : Bool} {base percent : Float} → radial ≡ radialIn N (best N .state) → base ≡ lossIn N (baseState N) → percent ≡ reduction base (found .loss)
           → record { radial = radial; base-loss = base; best-loss = found .loss; reduction = percent; iterations = found .iterations; converged = found .converged } ≡ result N
       unfolding result reductionOf foundOf
-      found-result q b p = rw (p, q, best-held found-state, b, f)
+      found-result q b p = rw (p, q, b, f)
 
 -- ---- the call
 module _ (n : PowerNetwork) (out : List ℕ) where

@@ -1,4 +1,4 @@
--- Radiality and loss of a state, by the rows of its feeder and the arrays that the code has; and the loads by bus position.
+-- Radiality and loss of a state, by the rows of its feeder and the flags of its live branches; and the loads by bus position.
 use mathlib.Core.Path.{_≡_, refl, sym, ap, _∙_}
 use mathlib.Core.Bool.{Bool}
 use mathlib.Core.List.{List}
@@ -9,24 +9,22 @@ use Rattle.numbers.specs.UpTo.{table}
 use Rattle.numbers.specs.TableLaws.{as-table, table-cong}
 use Rattle.network.specs.declared.bus.Power.{Power}
 use Rattle.network.specs.declared.bus.Bus.{Bus}
-use Rattle.network.specs.declared.configuration.NetworkConfiguration.{NetworkConfiguration}
 use Rattle.network.specs.declared.topology.PowerNetwork.{PowerNetwork}
 use Rattle.network.specs.Records.{noBus, recordsOf}
 use Rattle.network.specs.Answers.{accepted}
 use Rattle.network.specs.Check.{checkRecords}
-use Rattle.network.specs.Live.{live}
 use Rattle.network.specs.ReadLaws.{pastBus, bus-read}
 use Rattle.graph.specs.declared.rows.Graph.{Graph}
-use Rattle.graph.specs.Feeder.{radialIn}
+use Rattle.radiality.specs.Feeder.{radialIn}
 use Rattle.graph.specs.Rows.{rowRadial}
-use Rattle.graph.specs.FeederRows.{feederGraph}
-use Rattle.graph.specs.FeederRowLaws.{live-row-radial}
+use Rattle.radiality.specs.FeederRows.{feederGraph, liveFlags}
+use Rattle.radiality.specs.FeederRowLaws.{live-row-radial}
 use Rattle.losses.specs.Loss.{lossIn}
 use Rattle.losses.specs.RowLoss.{noPower, rowLoss}
 use Rattle.losses.specs.RowLoss as rows
 use Rattle.losses.specs.FeederLoss.{live-row-loss}
-use Rattle.reconfiguration.specs.States.{stateOf, loadsOf}
-use Rattle.reconfiguration.specs.StateLaws.{flags-listed}
+use Rattle.network.specs.Switches.{State}
+use Rattle.reconfiguration.specs.States.{loadsOf}
 
 module _ (n : PowerNetwork) (sized : length (n .buses) ≡ 256) where
   -- ---- loads
@@ -44,11 +42,10 @@ module _ (n : PowerNetwork) (sized : length (n .buses) ≡ 256) where
   same-loads : loadsOf n ≡ rows.loadsOf n
   same-loads = sym loads-all ∙ table-cong _ _ 256 (λ i h. load-at i)
 
-  -- ---- of what a configuration holds
-  module _ (ok : checkRecords (recordsOf n) ≡ accepted tt) (c : NetworkConfiguration) (g : Graph) (flags : List Bool) (a : g ≡ feederGraph n)
-      (b : flags ≡ table (live (recordsOf n) (c .switches)) 512) where
-    pub configuration-radial : (r : Bool) → r ≡ rowRadial g flags → r ≡ radialIn (recordsOf n) (stateOf n c)
-    configuration-radial r e = e ∙ rw (a, b, flags-listed n c) (live-row-radial n sized ok (stateOf n c))
+  -- ---- of a state, by the flags of its live branches
+  module _ (ok : checkRecords (recordsOf n) ≡ accepted tt) (s : State) (g : Graph) (flags : List Bool) (a : g ≡ feederGraph n) (b : flags ≡ liveFlags (recordsOf n) s) where
+    pub flags-radial : (r : Bool) → r ≡ rowRadial g flags → r ≡ radialIn (recordsOf n) s
+    flags-radial r e = e ∙ rw (a, b) (live-row-radial n sized ok s)
 
-    pub configuration-loss : (loads : List Power) (r : Float) → loads ≡ loadsOf n → r ≡ rowLoss g loads (n .branches) (n .«base_mva») flags → r ≡ lossIn (recordsOf n) (stateOf n c)
-    configuration-loss loads r l e = e ∙ rw (a, b, flags-listed n c, l, same-loads) (live-row-loss n sized ok (stateOf n c))
+    pub flags-loss : (loads : List Power) (r : Float) → loads ≡ loadsOf n → r ≡ rowLoss g loads (n .branches) (n .«base_mva») flags → r ≡ lossIn (recordsOf n) s
+    flags-loss loads r l e = e ∙ rw (a, b, l, same-loads) (live-row-loss n sized ok s)

@@ -10,7 +10,7 @@ use Rattle.network.specs.Records.{Network}
 use Rattle.network.specs.Faults.{among}
 use Rattle.network.specs.Live.{baseState}
 use Rattle.network.specs.Switches.{State, operable, size, switch, toggled}
-use Rattle.graph.specs.Feeder.{radialIn}
+use Rattle.radiality.specs.Feeder.{radialIn}
 use Rattle.losses.specs.Loss.{lossIn}
 
 -- a move that can be made: the state after it, its loss, and the id of the switch that it moves

@@ -1,37 +1,43 @@
 -- A switch more in a round of the tabu search, as the code sees it: it is locked, or its toggle is not radial, or the toggle is a candidate.
 use mathlib.Core.Path.{_≡_, refl, sym, ap, _∙_}
-use mathlib.Core.Bool.{Bool, true, false, cond, not, _||_, and-false}
+use mathlib.Core.Bool.{Bool, true, false, cond, not, _&&_, _||_, and-false}
 use mathlib.Core.List.{List}
 use mathlib.Core.Option.{Option, none, some}
 use Prim.Native.Nat.{ℕ, _+_, _≤_, _<_}
 use native.Mathlib.Omega.{arith}
+use lib.Dec.{eqb}
 use lib.Ieee.{Float, lt}
-use lib.ListN.{length, getD}
+use lib.ListN.{length, getD, set}
+use borrow.Author.Tests.{not-true, not-false}
 use Rattle.network.specs.declared.configuration.NetworkConfiguration.{NetworkConfiguration}
 use Rattle.network.specs.declared.topology.PowerNetwork.{PowerNetwork}
 use Rattle.network.specs.declared.switch.Switch.{Switch}
 use Rattle.network.specs.Inside.{Inside}
-use Rattle.network.specs.Records.{Network, noBranch, noSwitch, recordsOf}
+use Rattle.network.specs.Records.{Network, recordsOf}
 use Rattle.network.specs.Answers.{accepted}
 use Rattle.network.specs.Check.{checkRecords}
 use Rattle.network.specs.Faults.{among}
 use Rattle.network.specs.InsideLaws.{check-inside}
-use Rattle.network.specs.Listed.{switches-listed, few-switches, branch-at, switch-at, switch-listed, switch-small}
-use Rattle.network.specs.ReadLaws.{pastBranch, branch-read}
 use Rattle.network.specs.Configuration.{configurationOf}
-use Rattle.network.specs.Switches.{State, branchOf, operable, size, switch, toggled}
-use Rattle.numbers.specs.UpTo.{upTo, upTo-more}
-use Rattle.graph.specs.Feeder.{radialIn}
+use Rattle.network.specs.Live.{live}
+use Rattle.numbers.specs.Tests.{both}
+use Rattle.numbers.specs.UpTo.{upTo, upTo-more, table}
+use Rattle.radiality.specs.Feeder.{radialIn}
+use Rattle.radiality.specs.FeederRows.{liveFlags}
 use Rattle.losses.specs.Loss.{lossIn}
+use Rattle.network.specs.Switches.{State, branchOf, operable, size, switch, toggled, inService}
 use Rattle.plan.specs.Claim.{SameLive}
 use Rattle.reconfiguration.specs.declared.tabu.Candidate.{Candidate}
 use Rattle.reconfiguration.specs.declared.tabu.TabuSearch.{TabuSearch}
 use Rattle.reconfiguration.specs.States.{stateOf}
-use Rattle.reconfiguration.specs.StateLaws.{state-held, held, toggled-state, toggled-held}
+use Rattle.network.specs.Listed.{switches-listed, few-switches}
+use Rattle.reconfiguration.specs.StateLaws.{byte-at, flags-listed, state-held, held, toggled-held}
+use Rattle.reconfiguration.specs.SwitchReads.{SwitchAt, own-switch, own-status}
 use Rattle.reconfiguration.specs.LiveBranches.{same-radial, same-loss}
+use Rattle.reconfiguration.specs.LiveFlags.{flags-toggled}
 use Rattle.reconfiguration.specs.Toggles.{toggled-unserved, toggled-radial}
 use Rattle.reconfiguration.specs.Tabu.{Move, Tabu, moveOf, allowed, lesser}
-use Rattle.reconfiguration.specs.TabuValues.{tabuListOf, idsOf, HeldList, candidateOf, toggledIn, SwitchAt, seeing, tabuOf, Stands}
+use Rattle.reconfiguration.specs.TabuValues.{tabuListOf, idsOf, HeldList, candidateOf, toggledIn, seeing, tabuOf, Stands}
 use Rattle.reconfiguration.specs.TabuListLaws.{ids-held, list-held}
 
 -- ---- two candidates
@@ -66,20 +72,6 @@ module _ (c : NetworkConfiguration) where
 pub seen-more : (N : Network) (x : Tabu) (c : NetworkConfiguration) (i : ℕ) (r : Candidate) → r ≡ candidateOf c (seeing N x (upTo (seeing N x) none i) i)
     → r ≡ candidateOf c (upTo (seeing N x) none (i + 1))
 seen-more N x c i r e = e ∙ ap (candidateOf c) (sym (upTo-more (seeing N x) none i))
-
--- ---- a switch and its branch
-module _ (n : PowerNetwork) (ok : checkRecords (recordsOf n) ≡ accepted tt) (i : ℕ) (l : i < n .«switch_count») (sw : Switch) (is : sw ≡ getD (n .switches) i noSwitch) where
-  switch-is : switch (recordsOf n) i ≡ sw
-  switch-is = switch-at n i l ∙ sym is
-
-  -- what the code reads
-  pub switch-read : length (n .branches) ≡ 512 → (on : ℕ) → on ≡ sw .«branch_idx» → SwitchAt n i sw (getD (n .branches) on pastBranch .status)
-  switch-read sized on e =
-      record {
-        below = l;
-        here = is;
-        status = ap (λ k. getD (n .branches) k pastBranch .status) e ∙ ap (λ b. b .status) (branch-read (n .branches) (sw .«branch_idx») sized (rw is (switch-small n ok i l)));
-      }
 
 -- ---- where the search stands
 module _ (n : PowerNetwork) (y : TabuSearch) (x : Tabu) (w : Stands n y x) where
@@ -127,13 +119,10 @@ module _ (n : PowerNetwork) (y : TabuSearch) (x : Tabu) (w : Stands n y x) where
     toggled-is = toggled-held n (y .configuration) i (at .below) (rw configuration-is (held n (x .state) long few)) few ∙ ap (λ s. configurationOf (toggled s i)) state-is
 
     own : switch N i ≡ sw
-    own = switch-is n ok i (at .below) sw (at .here)
+    own = own-switch n ok i sw served at
 
-    status-is : getD (N .branches) (branchOf N i) noBranch .status ≡ served
-    status-is =
-        ap (λ v. getD (N .branches) (v .«branch_idx») noBranch .status) own
-        ∙ ap (λ v. v .status) (branch-at n (sw .«branch_idx») (rw (at .here) (switch-listed n ok i (at .below))))
-        ∙ sym (at .status)
+    status-is : inService N (branchOf N i) ≡ served
+    status-is = own-status n ok i sw served at
 
     unserved : served ≡ false → SameLive N (x .state) t
     unserved f = toggled-unserved N inside (x .state) (w .from-base .good) i listed-switch (status-is ∙ f)
@@ -143,52 +132,66 @@ module _ (n : PowerNetwork) (y : TabuSearch) (x : Tabu) (w : Stands n y x) where
       abbrev Best : Candidate → Type 0
       Best r = r ≡ candidateOf (y .configuration) (seeing N x b i)
 
-      pub see-locked : sw .«can_operate» ≡ false → Best best
+      see-locked : sw .«can_operate» ≡ false → Best best
       unfolding allowed
       see-locked f =
           let locked : operable N i ≡ false = ap (λ v. v .«can_operate») own ∙ f in
           rw locked q
 
-      see-loops : radialIn N t ≡ false → Best best
+      pub see-loops : radialIn N t ≡ false → Best best
       unfolding allowed
       see-loops f = rw (f, and-false) q
 
       -- from a radial state
-      pub see-served : y .radial ≡ true → served ≡ true → Best best
-      see-served r f = see-loops (toggled-radial N inside (x .state) (w .from-base .good) i listed-switch (sym radial-is ∙ r) ∙ ap not (status-is ∙ f))
+      pub see-unmoved : y .radial ≡ true → (sw .«can_operate» && not served) ≡ false → Best best
+      see-unmoved r f = go (sw .«can_operate») refl f
+        where
+          kept : served ≡ true → Best best
+          kept e = see-loops (toggled-radial N inside (x .state) (w .from-base .good) i listed-switch (sym radial-is ∙ r) ∙ ap not (status-is ∙ e))
+
+          go : (can : Bool) → sw .«can_operate» ≡ can → (can && not served) ≡ false → Best best
+          go true o f = kept (not-false served f)
+          go false o f = see-locked o
 
       -- from another
-      pub see-unserved : y .radial ≡ false → served ≡ false → Best best
-      see-unserved r f = see-loops (sym (same-radial N (x .state) t (unserved f)) ∙ sym radial-is ∙ r)
+      pub see-unconnected : y .radial ≡ false → (sw .«can_operate» && served) ≡ false → Best best
+      see-unconnected r f = go (sw .«can_operate») refl f
+        where
+          go : (can : Bool) → sw .«can_operate» ≡ can → (can && served) ≡ false → Best best
+          go true o f = see-loops (sym (same-radial N (x .state) t (unserved f)) ∙ sym radial-is ∙ r)
+          go false o f = see-locked o
 
-      module _ (made : NetworkConfiguration) (is : made ≡ toggledIn (y .configuration) i) where
-        judged : stateOf n made ≡ t
-        judged = ap (stateOf n) is ∙ toggled-state n (y .configuration) i (at .below) ∙ ap (λ s. toggled s i) state-is
+      -- ---- the toggle is a candidate
+      module _ (r : Candidate) where
+        abbrev After : Float → Type 0
+        After loss =
+            (c : NetworkConfiguration) (b : Option Move) (m : Move) → best ≡ candidateOf c b
+            → record { found = true; configuration = toggledIn (y .configuration) i; loss = loss; moved = sw .id } ≡ candidateOf c (some m)
+            → r ≡ candidateOf c (cond (not (among (m .moved) (idsOf (y .barred))) || lt (m .loss) (y .«best_loss»)) (lesser b m) b)
 
-        pub see-walked : (radial : Bool) → radial ≡ radialIn N (stateOf n made) → radial ≡ false → Best best
-        see-walked radial e f = see-loops (ap (radialIn N) (sym judged) ∙ sym e ∙ f)
+        see-move : sw .«can_operate» ≡ true → (loss : Float) → radialIn N t ≡ true → loss ≡ lossIn N t → After loss → Best r
+        unfolding allowed candidateOf tabuOf
+        see-move o loss v e h =
+            let can : operable N i ≡ true = ap (λ u. u .«can_operate») own ∙ o in
+            let best-is : y .«best_loss» ≡ x .best-loss = ap (λ z. z .«best_loss») (w .held-by) in
+            let held : record { found = true; configuration = toggledIn (y .configuration) i; loss = loss; moved = sw .id } ≡ candidateOf (y .configuration) (some (moveOf N x i)) = rw (toggled-is, e, own) in
+            rw (can, v, ← barred-ids, ← best-is) (h (y .configuration) b (moveOf N x i) q held)
 
-        -- ---- the toggle is a candidate
-        module _ (o : sw .«can_operate» ≡ true) (r : Candidate) where
-          abbrev After : Float → Type 0
-          After loss =
-              (c : NetworkConfiguration) (b : Option Move) (m : Move) → best ≡ candidateOf c b
-              → record { found = true; configuration = made; loss = loss; moved = sw .id } ≡ candidateOf c (some m)
-              → r ≡ candidateOf c (cond (not (among (m .moved) (idsOf (y .barred))) || lt (m .loss) (y .«best_loss»)) (lesser b m) b)
+        -- from a radial state, on an out-of-service branch
+        pub see-kept : y .radial ≡ true → (sw .«can_operate» && not served) ≡ true → After (y .loss) → Best r
+        unfolding tabuOf
+        see-kept v f =
+            let p = both (sw .«can_operate») (not served) f in
+            let same = unserved (not-true served (p .1)) in
+            see-move (p .0) (y .loss) (sym (same-radial N (x .state) t same) ∙ sym radial-is ∙ v) (ap (λ z. z .loss) (w .held-by) ∙ same-loss N (x .state) t same)
 
-          see-move : (loss : Float) → radialIn N t ≡ true → loss ≡ lossIn N t → After loss → Best r
-          unfolding allowed candidateOf tabuOf
-          see-move loss v e h =
-              let can : operable N i ≡ true = ap (λ u. u .«can_operate») own ∙ o in
-              let best-is : y .«best_loss» ≡ x .best-loss = ap (λ z. z .«best_loss») (w .held-by) in
-              let held : record { found = true; configuration = made; loss = loss; moved = sw .id } ≡ candidateOf (y .configuration) (some (moveOf N x i)) = rw (is, toggled-is, e, own) in
-              rw (can, v, ← barred-ids, ← best-is) (h (y .configuration) b (moveOf N x i) q held)
+        -- from another, where it is radial
+        pub see-walked : (sw .«can_operate» && served) ≡ true → radialIn N t ≡ true → (loss : Float) → loss ≡ lossIn N t → After loss → Best r
+        see-walked f v loss d = see-move (both (sw .«can_operate») served f .0) loss v d
 
-          -- from a radial state, on an out-of-service branch
-          pub see-kept : y .radial ≡ true → served ≡ false → After (y .loss) → Best r
-          unfolding tabuOf
-          see-kept v f = see-move (y .loss) (sym (same-radial N (x .state) t (unserved f)) ∙ sym radial-is ∙ v) (ap (λ z. z .loss) (w .held-by) ∙ same-loss N (x .state) t (unserved f))
-
-          -- where the walk finds it radial
-          pub see-judged : (radial : Bool) → radial ≡ radialIn N (stateOf n made) → radial ≡ true → (loss : Float) → loss ≡ lossIn N (stateOf n made) → After loss → Best r
-          see-judged radial e v loss d = see-move loss (ap (radialIn N) (sym judged) ∙ sym e ∙ v) (d ∙ ap (lossIn N) judged)
+    -- the live branches after the toggle of a connected switch
+    pub toggled-flags : (sw .«can_operate» && served) ≡ true → (flags : List Bool) → flags ≡ table (live N (y .configuration .switches)) 512 → (on : ℕ) → on ≡ sw .«branch_idx»
+        → set flags on (eqb (getD (y .configuration .switches) i 0) 1) ≡ liveFlags N t
+    toggled-flags f flags e on p =
+        rw (e, flags-listed n (y .configuration), ← byte-at n (y .configuration) i (at .below), state-is, p, ← own)
+        (flags-toggled N inside (x .state) (w .from-base .good .long) i listed-switch (status-is ∙ both (sw .«can_operate») served f .1))

@@ -11,20 +11,15 @@ use Rattle.numbers.specs.Tests.{clash}
 use Rattle.network.specs.declared.configuration.NetworkConfiguration.{NetworkConfiguration}
 use Rattle.network.specs.declared.topology.PowerNetwork.{PowerNetwork}
 use Rattle.network.specs.Records.{Network, recordsOf}
-use Rattle.network.specs.Answers.{accepted}
-use Rattle.network.specs.Check.{checkRecords}
 use Rattle.network.specs.Configuration.{configurationOf}
 use Rattle.network.specs.Live.{baseState}
-use Rattle.graph.specs.Feeder.{radialIn}
+use Rattle.radiality.specs.Feeder.{radialIn}
+use Rattle.network.specs.Switches.{State}
 use Rattle.reconfiguration.specs.declared.tabu_list.TabuList.{TabuList}
 use Rattle.reconfiguration.specs.declared.tabu.Candidate.{Candidate}
 use Rattle.reconfiguration.specs.declared.tabu.TabuSearch.{TabuSearch}
-use Rattle.reconfiguration.specs.States.{stateOf}
-use Rattle.network.specs.Listed.{switches-listed, few-switches}
-use Rattle.network.specs.Switches.{State}
-use Rattle.reconfiguration.specs.StateLaws.{state-held}
 use Rattle.reconfiguration.specs.Given.{Base}
-use Rattle.reconfiguration.specs.FromBase.{FromBase, base-good, from-base, toggled-from-base}
+use Rattle.reconfiguration.specs.FromBase.{FromBase, from-base, toggled-from-base}
 use Rattle.reconfiguration.specs.Found.{IfSome}
 use Rattle.reconfiguration.specs.Tabu.{Move, Tabu, bestMove, lastSeven, afterMove, tabuRounds, tabu}
 use Rattle.reconfiguration.specs.TabuLaws.{MoveFrom, bestMove-moves, next}
@@ -108,11 +103,11 @@ module _ (N : Network) (x : Tabu) where
       go false e = clash {b = false} e refl
 
 -- ---- the base
-pub base-held : (n : PowerNetwork) → checkRecords (recordsOf n) ≡ accepted tt → (c : NetworkConfiguration) (radial : Bool) (loss : Float) (list : TabuList)
-    → Base n c loss → radial ≡ radialIn (recordsOf n) (stateOf n c) → list ≡ tabuListOf []
+pub base-held : (n : PowerNetwork) (c : NetworkConfiguration) (radial : Bool) (loss : Float) (list : TabuList)
+    → Base n c loss → radial ≡ radialIn (recordsOf n) (baseState (recordsOf n)) → list ≡ tabuListOf []
     → record { configuration = c; radial = radial; loss = loss; best = c; «best_loss» = loss; barred = list; ended = false } ≡ tabuOf (recordsOf n) (tabuStart (recordsOf n))
 unfolding tabuOf
-base-held n ok c radial loss list b r l = rw (r, l, b .0, b .1, state-held n (baseState (recordsOf n)) (base-good (recordsOf n) .long ∙ switches-listed n) (few-switches n ok))
+base-held n c radial loss list b r l = rw (r, l, b .0, b .1)
 
 -- ---- after k rounds the code's y is where the search stands, and the rounds that are left lead to its answer
 pub record Standing (n : PowerNetwork) (k : ℕ) (y : TabuSearch) : Type 0 where

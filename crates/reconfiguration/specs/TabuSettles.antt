@@ -13,7 +13,7 @@ use Rattle.network.specs.Records.{Network}
 use Rattle.network.specs.Inside.{Inside}
 use Rattle.network.specs.Live.{baseState}
 use Rattle.network.specs.Switches.{toggled}
-use Rattle.graph.specs.Feeder.{radialIn}
+use Rattle.radiality.specs.Feeder.{radialIn}
 use Rattle.losses.specs.Loss.{lossIn}
 use Rattle.reconfiguration.specs.Tabu.{Move, Tabu, bestMove, afterMove, tabuRounds, tabu}
 use Rattle.reconfiguration.specs.Found.{IfSome}

@@ -1,23 +1,22 @@
 -- The values by which the code holds where the tabu search stands and what it finds.
 use mathlib.Core.Path.{_≡_}
-use mathlib.Core.Bool.{Bool, true, false, cond}
+use mathlib.Core.Bool.{true, false, cond}
 use mathlib.Core.List.{List}
 use mathlib.Core.Option.{Option, none, some}
-use Prim.Native.Nat.{ℕ, _≤_, _<_}
+use Prim.Native.Nat.{ℕ, _≤_}
 use lib.ListN.{length, getD, take}
 use Rattle.numbers.specs.Constants.{zero64}
 use Rattle.numbers.specs.UpTo.{table}
 use Rattle.network.specs.declared.configuration.NetworkConfiguration.{NetworkConfiguration}
-use Rattle.network.specs.declared.switch.Switch.{Switch}
 use Rattle.network.specs.declared.topology.PowerNetwork.{PowerNetwork}
 use Rattle.network.specs.Configuration.{configurationOf}
-use Rattle.network.specs.Records.{Network, noBranch, noSwitch, recordsOf}
-use Rattle.network.specs.Switches.{toggled}
-use Rattle.graph.specs.Feeder.{radialIn}
+use Rattle.network.specs.Records.{Network, recordsOf}
+use Rattle.radiality.specs.Feeder.{radialIn}
 use Rattle.losses.specs.Loss.{lossIn}
 use Rattle.reconfiguration.specs.declared.tabu_list.TabuList.{TabuList}
 use Rattle.reconfiguration.specs.declared.tabu.Candidate.{Candidate}
 use Rattle.reconfiguration.specs.declared.tabu.TabuSearch.{TabuSearch}
+use Rattle.network.specs.Switches.{toggled}
 use Rattle.reconfiguration.specs.Tabu.{Move, Tabu, moveOf, allowed, lesser}
 use Rattle.reconfiguration.specs.FromBase.{FromBase}
 
@@ -43,12 +42,6 @@ candidateOf c (some m) = record { found = true; configuration = configurationOf 
 -- switch i toggled
 abbrev pub toggledIn : NetworkConfiguration → ℕ → NetworkConfiguration
 toggledIn c i = record { switches = toggled (c .switches) i }
-
--- w is switch i of the feeder, and served the status of its branch
-pub record SwitchAt (n : PowerNetwork) (i : ℕ) (w : Switch) (served : Bool) : Type 0 where
-  pub below : i < n .«switch_count»
-  pub here : w ≡ getD (n .switches) i noSwitch
-  pub status : served ≡ getD (n .branches) (w .«branch_idx») noBranch .status
 
 -- a switch more in a round
 abbrev pub seeing : Network → Tabu → Option Move → ℕ → Option Move

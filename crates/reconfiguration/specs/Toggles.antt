@@ -13,7 +13,7 @@ use Rattle.network.specs.Records.{Network, noBranch}
 use Rattle.network.specs.Inside.{Inside}
 use Rattle.network.specs.Live.{live}
 use Rattle.network.specs.Switches.{State, byte, branchOf, size, toggled, GoodState}
-use Rattle.graph.specs.Feeder.{radialIn}
+use Rattle.radiality.specs.Feeder.{radialIn}
 use Rattle.plan.specs.Claim.{SameLive}
 use Rattle.plan.specs.LiveLaws.{InService, On, live-so, live-if, live-less, moved-other, opened-dead, closed-live}
 use Rattle.plan.specs.Accepted.{inside-regular}

@@ -1,33 +1,34 @@
 // Translated and changed from src/network/reconfiguration.rs of oxigrid. Copyright 2024-2026 COOLJAPAN OU (Team Kitasan), Apache License 2.0.
 // Document 01's branch exchange. Its background is Merlin and Back 1975.
 ghost use mathlib.Core.Path.{_≡_};
-ghost use mathlib.Core.Bool.{not, _&&_};
+ghost use mathlib.Core.Bool.{true, false, cond, not, _&&_};
 ghost use mathlib.Core.Option.{Option};
 ghost use Prim.Native.Nat.{_<_, _≤_};
 ghost use lib.Dec.{eqb};
 ghost use lib.Ieee.{binary64, lt, sub};
-ghost use lib.ListN.{take};
+ghost use lib.ListN.{length, getD, take, set};
+ghost use Rattle.network.specs.Answers.{accepted};
+ghost use Rattle.network.specs.Check.{checkRecords};
 ghost use Rattle.network.specs.Records.{Network, recordsOf};
 ghost use Rattle.network.specs.Switches.{State};
 ghost use Rattle.graph.specs.Rows.{rowNet, rowPath, pathOf};
-ghost use Rattle.graph.specs.FeederRows.{liveFlags};
 ghost use Rattle.numbers.specs.Choose.{firstSome};
 ghost use Rattle.numbers.specs.Constants.{billionth};
 ghost use Rattle.reconfiguration.specs.States.{stateOf};
 ghost use Rattle.reconfiguration.specs.Given.{Given, Held, Base};
-ghost use Rattle.reconfiguration.specs.Exchange.{Exchange, sectionOf, swapWith, trial, roundOf, afterRound, exchange};
-ghost use Rattle.reconfiguration.specs.ExchangeValues.{sectionAt, trialOf, exchangeOf, seeing};
-use crate::states::is_radial;
-use crate::states::loss;
-use graph::path::bfs_path;
+ghost use Rattle.reconfiguration.specs.Exchange.{Exchange, roundOf, afterRound, exchange};
+ghost use Rattle.reconfiguration.specs.ExchangeValues.{sectionAt, sectionsOf, rowSwap, rowTrial, trialOf, exchangeOf};
+use graph::radial::is_radial;
 use graph::rows::Graph;
 use graph::walks::Path;
+use losses::reconfiguration::compute_losses_estimate;
 use network::bus::Power;
 use network::configuration::NetworkConfiguration;
 use network::configuration::live_branches;
 use network::switch::Switch;
 use network::topology::PowerNetwork;
 use numbers::wide16;
+use paths::path::bfs_path;
 
 // A state that was tried, with its loss. Where none was found, the state that it started from.
 struct Trial {
@@ -44,94 +45,92 @@ pub(crate) struct BranchExchange {
     pub ended: bool,
 }
 
-// Is this an operable section switch on the branch?
-fn is_section_on(switch: Switch, branch: u16) -> bool
-    ensures { λ r. ⌜ r ≡ (eqb (switch .«branch_idx») branch && (not (switch .«normally_open») && switch .«can_operate»)) ⌝ }
+// Is this an operable section switch?
+fn is_section(switch: Switch) -> bool
+    ensures { λ r. ⌜ r ≡ (not (switch .«normally_open») && switch .«can_operate») ⌝ }
 {
-    if switch.branch_idx == branch {
-        return !switch.normally_open && switch.can_operate;
-    }
-    false
+    !switch.normally_open && switch.can_operate
 }
 
-// The first operable section switch of a branch, 512 where it has none.
-fn section_of(network: PowerNetwork, branch: u16) -> usize
-    requires { ⌜ network .«switch_count» ≤ 512 ⌝ }
-    ensures { λ r. ⌜ r ≡ sectionAt (sectionOf (recordsOf network) branch) ⌝ }
+// For each branch the position of its operable section switch, 512 where it has none. A branch has one switch at most.
+fn sections_of(network: PowerNetwork) -> [u16; 512]
+    requires { ⌜ checkRecords (recordsOf network) ≡ accepted tt ⌝ }
+    ensures { λ r. ⌜ r ≡ sectionsOf (recordsOf network) ⌝ }
 {
-    let count = wide16(network.switch_count);
-    let mut i = 0usize;
+    let count = network.switch_count;
+    let mut sections = [512u16; 512];
+    let mut i = 0u16;
     while i < count {
-        if is_section_on(network.switches[i], branch) {
-            return i;
+        let at = wide16(i);
+        let switch = network.switches[at];
+        let on = wide16(switch.branch_idx);
+        if is_section(switch) {
+            sections[on] = i;
         }
         i += 1;
     }
-    NetworkConfiguration::MAX_SWITCHES
+    sections
 }
 
-// A tie closed and the branch's section opened, where that is closed and the swap radial.
-fn swap_with(
-    network: PowerNetwork,
-    graph: Graph,
-    loads: [Power; 256],
-    configuration: NetworkConfiguration,
-    tie: usize,
-    branch: u16,
-) -> Trial
-    requires { ⌜ Given network graph loads × Held network configuration × (tie < network .«switch_count») ⌝ }
-    ensures { λ r. ⌜ r ≡ trialOf (recordsOf network) configuration
-        (swapWith (recordsOf network) (stateOf network configuration) tie (sectionOf (recordsOf network) branch)) ⌝ }
+// The section of branch k.
+fn section_on(sections: &[u16; 512], k: u16) -> u16
+    requires { ⌜ length (now sections) ≡ 512 ⌝ }
+    ensures { λ r. ⌜ r ≡ getD (now (sections .entry)) k 512 ⌝ }
 {
-    let section = section_of(network, branch);
-    if section < 512 {
-        if configuration.switches[section] == NetworkConfiguration::CLOSED {
-            let mut swapped = configuration;
-            swapped.switches[tie] = NetworkConfiguration::CLOSED;
-            swapped.switches[section] = NetworkConfiguration::OPEN;
-            if is_radial(network, graph, swapped) {
-                return Trial {
-                    found: true,
-                    configuration: swapped,
-                    loss: loss(network, graph, loads, swapped),
-                };
+    if k < PowerNetwork::MAX_BRANCHES {
+        let at = wide16(k);
+        return sections[at];
+    }
+    PowerNetwork::MAX_SWITCHES
+}
+
+// The section of branch k, where it is closed and the swap with it radial, else 512: with the tie closed these branches are live.
+fn swap_with(
+    graph: Graph,
+    sections: &[u16; 512],
+    state: &[u8; 512],
+    live: [bool; 512],
+    k: u16,
+) -> u16
+    requires { ⌜ (length (now sections) ≡ 512) × (length (now state) ≡ 512) ⌝ }
+    ensures { λ r. ⌜ r ≡ sectionAt (rowSwap graph (now (sections .entry)) (now (state .entry)) live k) ⌝ }
+{
+    let section = section_on(sections, k);
+    if section < PowerNetwork::MAX_SWITCHES {
+        let at = wide16(section);
+        if state[at] == NetworkConfiguration::CLOSED {
+            let on = wide16(k);
+            let mut swapped = live;
+            swapped[on] = false;
+            if is_radial(graph, swapped) {
+                return section;
             }
         }
     }
-    Trial {
-        found: false,
-        configuration,
-        loss: 0.0,
-    }
+    PowerNetwork::MAX_SWITCHES
 }
 
-// The first swap along a path.
+// The first section along a path that a tie can be swapped with, 512 where there is none.
 fn first_swap(
-    network: PowerNetwork,
     graph: Graph,
-    loads: [Power; 256],
-    configuration: NetworkConfiguration,
-    tie: usize,
+    sections: &[u16; 512],
+    state: &[u8; 512],
+    live: [bool; 512],
     path: Path,
-) -> Trial
-    requires { ⌜ Given network graph loads × Held network configuration × (tie < network .«switch_count») × (path .count ≤ 256) ⌝ }
-    ensures { λ r. ⌜ r ≡ trialOf (recordsOf network) configuration
-        (firstSome (λ k. swapWith (recordsOf network) (stateOf network configuration) tie (sectionOf (recordsOf network) k)) (take (path .count) (path .branch))) ⌝ }
+) -> u16
+    requires { ⌜ (length (now sections) ≡ 512) × (length (now state) ≡ 512) × (path .count ≤ 256) ⌝ }
+    ensures { λ r. ⌜ r ≡ sectionAt (firstSome (rowSwap graph (now (sections .entry)) (now (state .entry)) live) (take (path .count) (path .branch))) ⌝ }
 {
     let n = wide16(path.count);
     let mut i = 0usize;
     while i < n {
-        let swap = swap_with(network, graph, loads, configuration, tie, path.branch[i]);
-        if swap.found {
-            return swap;
+        let section = swap_with(graph, sections, state, live, path.branch[i]);
+        if section < PowerNetwork::MAX_SWITCHES {
+            return section;
         }
         i += 1;
     }
-    Trial {
-        found: false,
-        configuration,
-        loss: 0.0,
-    }
+    PowerNetwork::MAX_SWITCHES
 }
 
 // The branches that a closed tie on this branch would make a loop with: the path from its from bus to its to bus.
@@ -146,20 +145,23 @@ fn find_loop_branches_closed_tie(graph: Graph, live: [bool; 512], branch: u16) -
     bfs_path(graph, live, from, to)
 }
 
-// The trial of a tie: the first swap along its loop.
+// The section that a tie on this branch is swapped with: the first along its loop, 512 where there is none.
 fn try_tie(
-    network: PowerNetwork,
     graph: Graph,
-    loads: [Power; 256],
-    configuration: NetworkConfiguration,
+    sections: &[u16; 512],
+    state: &[u8; 512],
     live: [bool; 512],
-    tie: usize,
-) -> Trial
-    requires { ⌜ Given network graph loads × Held network configuration × (live ≡ liveFlags (recordsOf network) (stateOf network configuration)) × (tie < network .«switch_count») ⌝ }
-    ensures { λ r. ⌜ r ≡ trialOf (recordsOf network) configuration (trial (recordsOf network) (stateOf network configuration) tie) ⌝ }
+    branch: u16,
+    in_service: bool,
+) -> u16
+    requires { ⌜ (length (now sections) ≡ 512) × (length (now state) ≡ 512) × (branch < 512) ⌝ }
+    ensures { λ r. ⌜ r ≡ sectionAt (rowTrial graph (now (sections .entry)) (now (state .entry)) live branch «in_service») ⌝ }
 {
-    let path = find_loop_branches_closed_tie(graph, live, network.switches[tie].branch_idx);
-    first_swap(network, graph, loads, configuration, tie, path)
+    let path = find_loop_branches_closed_tie(graph, live, branch);
+    let on = wide16(branch);
+    let mut closed = live;
+    closed[on] = in_service;
+    first_swap(graph, sections, state, closed, path)
 }
 
 // Does a round see the switch, a tie that is operable and still open?
@@ -173,35 +175,45 @@ fn is_seen(switch: Switch, state: u8) -> bool
 }
 
 // A trial improves when its loss is below current − 1e-9.
-fn improves(trial: Trial, current: f64) -> bool
-    ensures { λ r. ⌜ r ≡ (trial .found && lt (trial .loss) (sub binary64 current billionth)) ⌝ }
+fn improves(loss: f64, current: f64) -> bool
+    ensures { λ r. ⌜ r ≡ lt loss (sub binary64 current billionth) ⌝ }
 {
-    if trial.found {
-        return trial.loss < current - 1e-9;
-    }
-    false
+    loss < current - 1e-9
 }
 
-// The best of a round after switch i: a trial that improves takes the place of the one before.
-fn see_switch(
-    network: PowerNetwork,
-    graph: Graph,
-    loads: [Power; 256],
+// The live branches after a swap: the tie's where it is in service, and not the section's.
+fn swapped_live(live: [bool; 512], closed: usize, in_service: bool, opened: usize) -> [bool; 512]
+    requires { ⌜ (closed < 512) × (opened < 512) ⌝ }
+    ensures { λ r. ⌜ r ≡ set (set live closed «in_service») opened false ⌝ }
+{
+    let mut swapped = live;
+    swapped[closed] = in_service;
+    swapped[opened] = false;
+    swapped
+}
+
+// The best of a round after the swap of a tie with a section: one that improves takes the place of the one before.
+fn better_of(
+    best: Trial,
     configuration: NetworkConfiguration,
     current: f64,
-    live: [bool; 512],
-    best: Trial,
-    i: usize,
+    tie: usize,
+    section: usize,
+    loss: f64,
 ) -> Trial
-    requires { ⌜ Given network graph loads × Held network configuration × (live ≡ liveFlags (recordsOf network) (stateOf network configuration)) × (i < network .«switch_count») ⌝ }
-    ensures { λ r. ⌜ ((b : Option State) → best ≡ trialOf (recordsOf network) configuration b
-        → r ≡ trialOf (recordsOf network) configuration (seeing (recordsOf network) (stateOf network configuration) current b i)) ⌝ }
+    requires { ⌜ (tie < 512) × (section < 512) ⌝ }
+    ensures { λ r. ⌜ r ≡ cond (lt loss (sub binary64 current billionth))
+        (record { found = true; configuration = record { switches = set (set (configuration .switches) tie 0) section 1 }; loss = loss }) best ⌝ }
 {
-    if is_seen(network.switches[i], configuration.switches[i]) {
-        let trial = try_tie(network, graph, loads, configuration, live, i);
-        if improves(trial, current) {
-            return trial;
-        }
+    if improves(loss, current) {
+        let mut swapped = configuration;
+        swapped.switches[tie] = NetworkConfiguration::CLOSED;
+        swapped.switches[section] = NetworkConfiguration::OPEN;
+        return Trial {
+            found: true,
+            configuration: swapped,
+            loss,
+        };
     }
     best
 }
@@ -211,13 +223,17 @@ fn branch_exchange_step(
     network: PowerNetwork,
     graph: Graph,
     loads: [Power; 256],
+    sections: [u16; 512],
     configuration: NetworkConfiguration,
     current: f64,
 ) -> Trial
-    requires { ⌜ Given network graph loads × Held network configuration ⌝ }
+    requires { ⌜ Given network graph loads × (sections ≡ sectionsOf (recordsOf network)) × Held network configuration ⌝ }
     ensures { λ r. ⌜ r ≡ trialOf (recordsOf network) configuration (roundOf (recordsOf network) (stateOf network configuration) current) ⌝ }
 {
     let live = live_branches(network, configuration);
+    let state = configuration.switches;
+    let branches = network.branches;
+    let base_mva = network.base_mva;
     let count = wide16(network.switch_count);
     let mut best = Trial {
         found: false,
@@ -226,7 +242,19 @@ fn branch_exchange_step(
     };
     let mut i = 0usize;
     while i < count {
-        best = see_switch(network, graph, loads, configuration, current, live, best, i);
+        let switch = network.switches[i];
+        let on = wide16(switch.branch_idx);
+        let served = network.branches[on].status;
+        if is_seen(switch, state[i]) {
+            let found = try_tie(graph, &sections, &state, live, switch.branch_idx, served);
+            let section = wide16(found);
+            if section < NetworkConfiguration::MAX_SWITCHES {
+                let opened = wide16(network.switches[section].branch_idx);
+                let swapped = swapped_live(live, on, served, opened);
+                let loss = compute_losses_estimate(graph, loads, branches, base_mva, swapped);
+                best = better_of(best, configuration, current, i, section, loss);
+            }
+        }
         i += 1;
     }
     best
@@ -268,6 +296,7 @@ pub(crate) fn branch_exchange_solve(
     requires { ⌜ Given network graph loads × Base network base «base_loss» ⌝ }
     ensures { λ r. ⌜ r ≡ exchangeOf (exchange (recordsOf network)) ⌝ }
 {
+    let sections = sections_of(network);
     let mut done = BranchExchange {
         configuration: base,
         loss: base_loss,
@@ -279,7 +308,7 @@ pub(crate) fn branch_exchange_solve(
             return done;
         }
         let configuration = done.configuration;
-        let step = branch_exchange_step(network, graph, loads, configuration, done.loss);
+        let step = branch_exchange_step(network, graph, loads, sections, configuration, done.loss);
         done = after_round(done, step);
     }
     done

@@ -2,20 +2,27 @@
 // Document 01's exhaustive search. `exhaustive_solve` goes through the masks of the source's `enumerate_radial_configs` and keeps the least radial state,
 // where the source makes a list of the radial ones first.
 ghost use mathlib.Core.Path.{_≡_};
-ghost use mathlib.Core.Bool.{cond, not, _||_};
-ghost use Prim.Native.Nat.{_<_, _≤_, _/_, _%_, _^_};
+ghost use mathlib.Core.Bool.{true, cond, not, _||_};
+ghost use Prim.Native.Nat.{ℕ, _+_, _<_, _≤_, _/_, _%_, _^_};
 ghost use lib.Dec.{eqb};
 ghost use lib.Ieee.{lt};
+ghost use lib.ListN.{getD, set};
+ghost use Rattle.network.specs.Answers.{accepted};
+ghost use Rattle.network.specs.Check.{checkRecords};
 ghost use Rattle.network.specs.Configuration.{configurationOf};
 ghost use Rattle.network.specs.Faults.{ties};
+ghost use Rattle.network.specs.Live.{baseState};
 ghost use Rattle.network.specs.Records.{Network, recordsOf};
+ghost use Rattle.radiality.specs.Feeder.{radialIn};
+ghost use Rattle.radiality.specs.FeederRows.{liveFlags};
 ghost use Rattle.network.specs.Switches.{State};
 ghost use Rattle.reconfiguration.specs.Given.{Given, Base};
 ghost use Rattle.reconfiguration.specs.Exhaustive.{masked, Exhaustive, tryMask, exhaustive};
-ghost use Rattle.reconfiguration.specs.ExhaustiveValues.{exhaustiveOf, withRadial};
-use crate::states::is_radial;
-use crate::states::loss;
+ghost use Rattle.reconfiguration.specs.ExhaustiveTrials.{noMask};
+ghost use Rattle.reconfiguration.specs.ExhaustiveValues.{tiesOf, closedBy, exhaustiveOf, withRadial};
+use graph::radial::is_radial;
 use graph::rows::Graph;
+use losses::reconfiguration::compute_losses_estimate;
 use network::bus::Power;
 use network::configuration::NetworkConfiguration;
 use network::switch::ReconfigAlgorithm;
@@ -29,6 +36,42 @@ pub(crate) struct ExhaustiveSearch {
     pub configuration: NetworkConfiguration,
     pub loss: f64,
     pub radial: u16,
+}
+
+// The ties in list order: how many there are, the branch of each, and whether that is in service.
+struct Ties {
+    count: usize,
+    on: [u16; 10],
+    in_service: [bool; 10],
+}
+
+impl Ties {
+    // None.
+    fn new() -> Ties
+        ensures { λ r. ⌜ ((N : Network) → r ≡ tiesOf N 0) ⌝ }
+    {
+        Ties {
+            count: 0,
+            on: [0; 10],
+            in_service: [false; 10],
+        }
+    }
+
+    // One more.
+    fn with(mut self, on: u16, in_service: bool) -> Ties
+        requires { ⌜ self .count < 10 ⌝ }
+        ensures { λ r. ⌜ r ≡ record {
+          count = self .count + 1;
+          on = set (self .on) (self .count) on;
+          «in_service» = set (self .«in_service») (self .count) «in_service»;
+        } ⌝ }
+    {
+        let at = self.count;
+        self.on[at] = on;
+        self.in_service[at] = in_service;
+        self.count = at + 1;
+        self
+    }
 }
 
 // Document 01's tie is a switch that is normally open, be it operable or locked.
@@ -79,21 +122,42 @@ fn masked(network: PowerNetwork, mask: u16) -> NetworkConfiguration
     configuration
 }
 
-// How many ties there are.
-fn count_ties(network: PowerNetwork) -> usize
-    requires { ⌜ network .«switch_count» ≤ 512 ⌝ }
-    ensures { λ r. ⌜ r ≡ ties (recordsOf network .switches) ⌝ }
+// The ties, of which there are at most ten.
+fn find_ties(network: PowerNetwork) -> Ties
+    requires { ⌜ (checkRecords (recordsOf network) ≡ accepted tt) × (ties (recordsOf network .switches) ≤ 10) ⌝ }
+    ensures { λ r. ⌜ r ≡ tiesOf (recordsOf network) (ties (recordsOf network .switches)) ⌝ }
 {
     let count = wide16(network.switch_count);
-    let mut ties = 0usize;
+    let mut ties = Ties::new();
     let mut i = 0usize;
     while i < count {
-        if is_tie(network.switches[i]) {
-            ties += 1;
+        let switch = network.switches[i];
+        let on = wide16(switch.branch_idx);
+        if is_tie(switch) {
+            ties = ties.with(switch.branch_idx, network.branches[on].status);
         }
         i += 1;
     }
     ties
+}
+
+// The live branches of a mask: those of the base, and of the ties whose bit is 1 those in service.
+fn masked_live(base_live: [bool; 512], ties: Ties, mask: u16) -> [bool; 512]
+    requires { ⌜ (ties .count ≤ 10) × ((t : ℕ) → getD (ties .on) t 0 < 512) ⌝ }
+    ensures { λ r. ⌜ r ≡ closedBy ties mask «base_live» ⌝ }
+{
+    let mut live = base_live;
+    let mut rest = mask;
+    let mut t = 0usize;
+    while t < ties.count {
+        let on = wide16(ties.on[t]);
+        if rest % 2 == 1 {
+            live[on] = ties.in_service[t];
+        }
+        rest = rest / 2;
+        t += 1;
+    }
+    live
 }
 
 // How many masks there are: each tie is open or closed.
@@ -142,45 +206,64 @@ fn with_radial(
     }
 }
 
-// One mask more: its state counts where it is radial.
-fn try_mask(
-    network: PowerNetwork,
-    graph: Graph,
-    loads: [Power; 256],
-    search: ExhaustiveSearch,
-    mask: u16,
-) -> ExhaustiveSearch
-    requires { ⌜ Given network graph loads × (search .radial < 65535) ⌝ }
-    ensures { λ r. ⌜ ((x : Exhaustive) → search ≡ exhaustiveOf (recordsOf network) x → r ≡ exhaustiveOf (recordsOf network) (tryMask (recordsOf network) x mask)) ⌝ }
+// After mask 0, which leaves the base as it is.
+fn with_base(base: NetworkConfiguration, base_radial: bool, base_loss: f64) -> ExhaustiveSearch
+    ensures { λ r. ⌜ ((n : PowerNetwork) → Base n base «base_loss» → «base_radial» ≡ radialIn (recordsOf n) (baseState (recordsOf n))
+        → r ≡ exhaustiveOf (recordsOf n) (tryMask (recordsOf n) noMask 0)) ⌝ }
 {
-    let tried = masked(network, mask);
-    if is_radial(network, graph, tried) {
-        return with_radial(search, tried, loss(network, graph, loads, tried));
-    }
-    search
-}
-
-// Document 01's exhaustive search, by rising masks.
-pub(crate) fn exhaustive_solve(
-    network: PowerNetwork,
-    graph: Graph,
-    loads: [Power; 256],
-    base: NetworkConfiguration,
-    base_loss: f64,
-) -> ExhaustiveSearch
-    requires { ⌜ Given network graph loads × Base network base «base_loss» × (network .algorithm ≡ ReconfigAlgorithm.Exhaustive) ⌝ }
-    ensures { λ r. ⌜ r ≡ exhaustiveOf (recordsOf network) (exhaustive (recordsOf network)) ⌝ }
-{
-    let masks = count_masks(count_ties(network));
-    let mut search = ExhaustiveSearch {
+    let none = ExhaustiveSearch {
         found: false,
         configuration: base,
         loss: base_loss,
         radial: 0,
     };
-    let mut mask = 0u16;
+    if base_radial {
+        return with_radial(none, base, base_loss);
+    }
+    none
+}
+
+// One mask more, whose state is radial.
+fn with_mask(
+    network: PowerNetwork,
+    graph: Graph,
+    loads: [Power; 256],
+    search: ExhaustiveSearch,
+    live: [bool; 512],
+    mask: u16,
+) -> ExhaustiveSearch
+    requires { ⌜ Given network graph loads × (search .radial < 65535) × (live ≡ liveFlags (recordsOf network) (masked (recordsOf network) mask))
+        × (radialIn (recordsOf network) (masked (recordsOf network) mask) ≡ true) ⌝ }
+    ensures { λ r. ⌜ ((x : Exhaustive) → search ≡ exhaustiveOf (recordsOf network) x → r ≡ exhaustiveOf (recordsOf network) (tryMask (recordsOf network) x mask)) ⌝ }
+{
+    let branches = network.branches;
+    let loss = compute_losses_estimate(graph, loads, branches, network.base_mva, live);
+    with_radial(search, masked(network, mask), loss)
+}
+
+// Document 01's exhaustive search, by rising masks. Their live branches follow from the base's: only a radial mask has its state made and its loss taken.
+pub(crate) fn exhaustive_solve(
+    network: PowerNetwork,
+    graph: Graph,
+    loads: [Power; 256],
+    base: NetworkConfiguration,
+    base_live: [bool; 512],
+    base_radial: bool,
+    base_loss: f64,
+) -> ExhaustiveSearch
+    requires { ⌜ Given network graph loads × Base network base «base_loss» × («base_live» ≡ liveFlags (recordsOf network) (baseState (recordsOf network)))
+        × («base_radial» ≡ radialIn (recordsOf network) (baseState (recordsOf network))) × (network .algorithm ≡ ReconfigAlgorithm.Exhaustive) ⌝ }
+    ensures { λ r. ⌜ r ≡ exhaustiveOf (recordsOf network) (exhaustive (recordsOf network)) ⌝ }
+{
+    let ties = find_ties(network);
+    let masks = count_masks(ties.count);
+    let mut search = with_base(base, base_radial, base_loss);
+    let mut mask = 1u16;
     while mask < masks {
-        search = try_mask(network, graph, loads, search, mask);
+        let live = masked_live(base_live, ties, mask);
+        if is_radial(graph, live) {
+            search = with_mask(network, graph, loads, search, live, mask);
+        }
         mask += 1;
     }
     search

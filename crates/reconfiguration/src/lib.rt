@@ -1,7 +1,6 @@
 // The searches, their answer, and the list of operations.
 mod exchange;
 mod exhaustive;
-pub mod operations;
 pub mod solve;
 mod states;
 mod tabu;

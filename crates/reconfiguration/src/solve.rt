@@ -4,27 +4,31 @@ ghost use mathlib.Core.Path.{_≡_};
 ghost use Rattle.network.specs.Answers.{accepted};
 ghost use Rattle.network.specs.Check.{checkRecords};
 ghost use Rattle.network.specs.Configuration.{configurationOf};
+ghost use Rattle.network.specs.Live.{baseState};
 ghost use Rattle.network.specs.Records.{recordsOf};
+ghost use Rattle.radiality.specs.Feeder.{radialIn};
+ghost use Rattle.radiality.specs.FeederRows.{liveFlags};
 ghost use Rattle.reconfiguration.specs.Given.{Given, Base};
 ghost use Rattle.reconfiguration.specs.Solve.{best, reduction, result, solved, resultOf, solveAnswerOf};
 ghost use Rattle.reconfiguration.specs.SolveValues.{foundOf};
 use crate::exchange::branch_exchange_solve;
 use crate::exhaustive::exhaustive_solve;
-use crate::states::is_radial;
 use crate::states::loads_of;
-use crate::states::loss;
 use crate::tabu::tabu_search;
-use graph::feeder::graph_of;
+use checks::check::check;
+use graph::radial::is_radial;
 use graph::rows::Graph;
+use losses::reconfiguration::compute_losses_estimate;
 use network::bus::Power;
-use network::check::check;
 use network::configuration::NetworkConfiguration;
-use network::configuration::base_configuration;
+use network::configuration::build_base_configuration;
+use network::configuration::live_branches;
 use network::error::Verdict;
 use network::switch::ReconfigAlgorithm;
 use network::topology::PowerNetwork;
 use numbers::wide16;
 use printing::writer::write_bytes;
+use radiality::feeder::graph_of;
 
 // What is answered beside the best state.
 pub struct ReconfigResult {
@@ -56,15 +60,18 @@ struct Solution {
     result: ReconfigResult,
 }
 
-// The search that the network asks for.
+// The search that the network asks for, from the base with its live branches, its radiality and its loss.
 fn search(
     network: PowerNetwork,
     graph: Graph,
     loads: [Power; 256],
     base: NetworkConfiguration,
+    live: [bool; 512],
+    radial: bool,
     base_loss: f64,
 ) -> Found
-    requires { ⌜ Given network graph loads × Base network base «base_loss» ⌝ }
+    requires { ⌜ Given network graph loads × Base network base «base_loss» × (live ≡ liveFlags (recordsOf network) (baseState (recordsOf network)))
+        × (radial ≡ radialIn (recordsOf network) (baseState (recordsOf network))) ⌝ }
     ensures { λ r. ⌜ r ≡ foundOf (best (recordsOf network)) ⌝ }
 {
     let algorithm = network.algorithm;
@@ -80,7 +87,7 @@ fn search(
             }
         }
         ReconfigAlgorithm::TabuSearch => {
-            let found = tabu_search(network, graph, loads, base, base_loss);
+            let found = tabu_search(network, graph, loads, base, radial, base_loss);
             let configuration = found.best;
             Found {
                 configuration,
@@ -90,7 +97,7 @@ fn search(
             }
         }
         ReconfigAlgorithm::Exhaustive => {
-            let found = exhaustive_solve(network, graph, loads, base, base_loss);
+            let found = exhaustive_solve(network, graph, loads, base, live, radial, base_loss);
             let configuration = found.configuration;
             Found {
                 configuration,
@@ -112,21 +119,28 @@ fn reduction(base: f64, best: f64) -> f64
     0.0
 }
 
-// The rows and the loads are made once, and the base's loss is taken once.
+// The rows and the loads are made once, and the base's live branches, radiality and loss are found once. From a radial base every answer is radial.
 fn solve_checked(network: PowerNetwork) -> Solution
     requires { ⌜ checkRecords (recordsOf network) ≡ accepted tt ⌝ }
     ensures { λ r. ⌜ (r .configuration ≡ configurationOf (best (recordsOf network) .state)) × (resultOf (r .result) ≡ result (recordsOf network)) ⌝ }
 {
     let graph = graph_of(network);
     let loads = loads_of(network);
-    let base = base_configuration(network);
-    let base_loss = loss(network, graph, loads, base);
-    let found = search(network, graph, loads, base, base_loss);
+    let base = build_base_configuration(network);
+    let live = live_branches(network, base);
+    let radial = is_radial(graph, live);
+    let branches = network.branches;
+    let base_loss = compute_losses_estimate(graph, loads, branches, network.base_mva, live);
+    let found = search(network, graph, loads, base, live, radial, base_loss);
     let best = found.configuration;
+    let mut best_radial = true;
+    if !radial {
+        best_radial = is_radial(graph, live_branches(network, best));
+    }
     Solution {
         configuration: best,
         result: ReconfigResult {
-            is_radial: is_radial(network, graph, best),
+            is_radial: best_radial,
             base_losses_mw: base_loss,
             optimized_losses_mw: found.loss,
             loss_reduction_pct: reduction(base_loss, found.loss),

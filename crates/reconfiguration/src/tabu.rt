@@ -1,27 +1,31 @@
 // Translated and changed from src/network/reconfiguration.rs of oxigrid. Copyright 2024-2026 COOLJAPAN OU (Team Kitasan), Apache License 2.0.
 // Document 01's tabu search.
 ghost use mathlib.Core.Path.{_≡_};
-ghost use mathlib.Core.Bool.{true, false, cond, not, _||_};
+ghost use mathlib.Core.Bool.{true, false, cond, not, _&&_, _||_};
 ghost use mathlib.Core.Option.{Option, some};
 ghost use Prim.Native.Nat.{_<_};
+ghost use lib.Dec.{eqb};
 ghost use lib.Ieee.{lt};
+ghost use lib.ListN.{set};
 ghost use Rattle.network.specs.Answers.{accepted};
 ghost use Rattle.network.specs.Check.{checkRecords};
 ghost use Rattle.network.specs.Faults.{among};
+ghost use Rattle.network.specs.Live.{baseState};
 ghost use Rattle.network.specs.Records.{Network, recordsOf};
-ghost use Rattle.graph.specs.FeederRows.{feederGraph};
+ghost use Rattle.radiality.specs.Feeder.{radialIn};
 ghost use Rattle.reconfiguration.specs.Given.{Given, Base};
 ghost use Rattle.reconfiguration.specs.Found.{IfSome};
 ghost use Rattle.reconfiguration.specs.Tabu.{Move, Tabu, lesser, bestMove, afterMove, tabu};
-ghost use Rattle.reconfiguration.specs.TabuValues.{HeldList, idsOf, candidateOf, toggledIn, SwitchAt, seeing, tabuOf, Stands};
+ghost use Rattle.reconfiguration.specs.TabuValues.{HeldList, idsOf, candidateOf, toggledIn, tabuOf, Stands};
 ghost use Rattle.reconfiguration.specs.TabuLaws.{MoveFrom};
 ghost use Rattle.reconfiguration.specs.TabuSettles.{tabuStart};
-use crate::states::is_radial;
-use crate::states::loss;
 use crate::tabu_list::TabuList;
+use graph::radial::is_radial;
 use graph::rows::Graph;
+use losses::reconfiguration::compute_losses_estimate;
 use network::bus::Power;
 use network::configuration::NetworkConfiguration;
+use network::configuration::live_branches;
 use network::switch::Switch;
 use network::topology::PowerNetwork;
 use numbers::wide16;
@@ -46,7 +50,7 @@ pub(crate) struct TabuSearch {
 }
 
 // One switch moved: open to closed, closed to open.
-fn toggled(configuration: NetworkConfiguration, i: usize) -> NetworkConfiguration
+fn toggle_switch(configuration: NetworkConfiguration, i: usize) -> NetworkConfiguration
     requires { ⌜ i < 512 ⌝ }
     ensures { λ r. ⌜ r ≡ toggledIn configuration i ⌝ }
 {
@@ -101,74 +105,33 @@ fn see_candidate(
     best
 }
 
-// The best of a round after switch i, from a radial state. Only a switch on an out-of-service branch leaves it radial, and the loss as it is.
-fn see_kept(
-    search: TabuSearch,
-    best: Candidate,
-    switch: Switch,
-    in_service: bool,
-    i: usize,
-) -> Candidate
+// The best of a round after the toggle of switch i, which leaves a radial state with this loss.
+fn see_toggle(search: TabuSearch, best: Candidate, i: usize, id: u16, loss: f64) -> Candidate
     requires { ⌜ HeldList (search .barred) × (i < 512) ⌝ }
-    ensures { λ r. ⌜ ((n : PowerNetwork) (x : Tabu) (b : Option Move) → checkRecords (recordsOf n) ≡ accepted tt → Stands n search x → search .radial ≡ true
-        → SwitchAt n i switch «in_service» → best ≡ candidateOf (search .configuration) b
-        → r ≡ candidateOf (search .configuration) (seeing (recordsOf n) x b i)) ⌝ }
+    ensures { λ r. ⌜ ((c : NetworkConfiguration) (b : Option Move) (m : Move) → best ≡ candidateOf c b
+        → record { found = true; configuration = toggledIn (search .configuration) i; loss = loss; moved = id } ≡ candidateOf c (some m)
+        → r ≡ candidateOf c (cond (not (among (m .moved) (idsOf (search .barred))) || lt (m .loss) (search .«best_loss»)) (lesser b m) b)) ⌝ }
 {
-    if switch.can_operate {
-        if !in_service {
-            let candidate = Candidate {
-                found: true,
-                configuration: toggled(search.configuration, i),
-                loss: search.loss,
-                moved: switch.id,
-            };
-            return see_candidate(best, candidate, search.barred, search.best_loss);
-        }
-    }
-    best
+    let candidate = Candidate {
+        found: true,
+        configuration: toggle_switch(search.configuration, i),
+        loss,
+        moved: id,
+    };
+    see_candidate(best, candidate, search.barred, search.best_loss)
 }
 
-// The best of a round after switch i, from a state that is not radial. Only a switch on a branch in service can make it so.
-fn see_walked(
-    network: PowerNetwork,
-    graph: Graph,
-    loads: [Power; 256],
-    search: TabuSearch,
-    best: Candidate,
-    i: usize,
-) -> Candidate
-    requires { ⌜ Given network graph loads × HeldList (search .barred) × (i < network .«switch_count») ⌝ }
-    ensures { λ r. ⌜ ((x : Tabu) (b : Option Move) → Stands network search x → search .radial ≡ false
-        → best ≡ candidateOf (search .configuration) b → r ≡ candidateOf (search .configuration) (seeing (recordsOf network) x b i)) ⌝ }
+// Is this an operable switch on an out-of-service branch?
+fn is_idle(switch: Switch, in_service: bool) -> bool
+    ensures { λ r. ⌜ r ≡ (switch .«can_operate» && not «in_service») ⌝ }
 {
-    let switch = network.switches[i];
-    let on = wide16(switch.branch_idx);
-    if network.branches[on].status {
-        if switch.can_operate {
-            let configuration = toggled(search.configuration, i);
-            if is_radial(network, graph, configuration) {
-                let candidate = Candidate {
-                    found: true,
-                    configuration,
-                    loss: loss(network, graph, loads, configuration),
-                    moved: switch.id,
-                };
-                return see_candidate(best, candidate, search.barred, search.best_loss);
-            }
-        }
-    }
-    best
+    switch.can_operate && !in_service
 }
 
-// A round: the best candidate among the operable switches in list order, each moved alone from the state as the round found it.
-fn best_move(
-    network: PowerNetwork,
-    graph: Graph,
-    loads: [Power; 256],
-    search: TabuSearch,
-) -> Candidate
-    requires { ⌜ Given network graph loads × HeldList (search .barred) ⌝ }
-    ensures { λ r. ⌜ ((x : Tabu) → Stands network search x → r ≡ candidateOf (search .configuration) (bestMove (recordsOf network) x)) ⌝ }
+// A round from a radial state. Only a switch on an out-of-service branch leaves it radial, and the loss as it is.
+fn best_kept(network: PowerNetwork, search: TabuSearch) -> Candidate
+    requires { ⌜ (checkRecords (recordsOf network) ≡ accepted tt) × HeldList (search .barred) ⌝ }
+    ensures { λ r. ⌜ ((x : Tabu) → Stands network search x → search .radial ≡ true → r ≡ candidateOf (search .configuration) (bestMove (recordsOf network) x)) ⌝ }
 {
     let count = wide16(network.switch_count);
     let configuration = search.configuration;
@@ -180,12 +143,64 @@ fn best_move(
     };
     let mut i = 0usize;
     while i < count {
-        if search.radial {
-            let switch = network.switches[i];
-            let on = wide16(switch.branch_idx);
-            best = see_kept(search, best, switch, network.branches[on].status, i);
-        } else {
-            best = see_walked(network, graph, loads, search, best, i);
+        let switch = network.switches[i];
+        let on = wide16(switch.branch_idx);
+        if is_idle(switch, network.branches[on].status) {
+            best = see_toggle(search, best, i, switch.id, search.loss);
+        }
+        i += 1;
+    }
+    best
+}
+
+// Is this an operable switch on a branch in service?
+fn is_connected(switch: Switch, in_service: bool) -> bool
+    ensures { λ r. ⌜ r ≡ (switch .«can_operate» && «in_service») ⌝ }
+{
+    switch.can_operate && in_service
+}
+
+// The live branches after the toggle of a switch on a branch in service.
+fn toggled_live(live: [bool; 512], on: usize, state: u8) -> [bool; 512]
+    requires { ⌜ on < 512 ⌝ }
+    ensures { λ r. ⌜ r ≡ set live on (eqb state 1) ⌝ }
+{
+    let mut toggled = live;
+    toggled[on] = state == NetworkConfiguration::OPEN;
+    toggled
+}
+
+// A round from a state that is not radial. Only a switch on a branch in service can make it so.
+fn best_walked(
+    network: PowerNetwork,
+    graph: Graph,
+    loads: [Power; 256],
+    search: TabuSearch,
+) -> Candidate
+    requires { ⌜ Given network graph loads × HeldList (search .barred) ⌝ }
+    ensures { λ r. ⌜ ((x : Tabu) → Stands network search x → search .radial ≡ false → r ≡ candidateOf (search .configuration) (bestMove (recordsOf network) x)) ⌝ }
+{
+    let configuration = search.configuration;
+    let live = live_branches(network, configuration);
+    let branches = network.branches;
+    let base_mva = network.base_mva;
+    let count = wide16(network.switch_count);
+    let mut best = Candidate {
+        found: false,
+        configuration,
+        loss: 0.0,
+        moved: 0,
+    };
+    let mut i = 0usize;
+    while i < count {
+        let switch = network.switches[i];
+        let on = wide16(switch.branch_idx);
+        if is_connected(switch, network.branches[on].status) {
+            let toggled = toggled_live(live, on, configuration.switches[i]);
+            if is_radial(graph, toggled) {
+                let loss = compute_losses_estimate(graph, loads, branches, base_mva, toggled);
+                best = see_toggle(search, best, i, switch.id, loss);
+            }
         }
         i += 1;
     }
@@ -224,18 +239,13 @@ fn after_move(search: TabuSearch, step: Candidate) -> TabuSearch
 }
 
 // The base, before the first round.
-fn at_base(
-    network: PowerNetwork,
-    graph: Graph,
-    base: NetworkConfiguration,
-    base_loss: f64,
-) -> TabuSearch
-    requires { ⌜ (checkRecords (recordsOf network) ≡ accepted tt) × (graph ≡ feederGraph network) × Base network base «base_loss» ⌝ }
-    ensures { λ r. ⌜ r ≡ tabuOf (recordsOf network) (tabuStart (recordsOf network)) ⌝ }
+fn at_base(base: NetworkConfiguration, base_radial: bool, base_loss: f64) -> TabuSearch
+    ensures { λ r. ⌜ ((n : PowerNetwork) → Base n base «base_loss» → «base_radial» ≡ radialIn (recordsOf n) (baseState (recordsOf n))
+        → r ≡ tabuOf (recordsOf n) (tabuStart (recordsOf n))) ⌝ }
 {
     TabuSearch {
         configuration: base,
-        radial: is_radial(network, graph, base),
+        radial: base_radial,
         loss: base_loss,
         best: base,
         best_loss: base_loss,
@@ -250,19 +260,23 @@ pub(crate) fn tabu_search(
     graph: Graph,
     loads: [Power; 256],
     base: NetworkConfiguration,
+    base_radial: bool,
     base_loss: f64,
 ) -> TabuSearch
-    requires { ⌜ Given network graph loads × Base network base «base_loss» ⌝ }
+    requires { ⌜ Given network graph loads × Base network base «base_loss» × («base_radial» ≡ radialIn (recordsOf network) (baseState (recordsOf network))) ⌝ }
     ensures { λ r. ⌜ r ≡ tabuOf (recordsOf network) (tabu (recordsOf network)) ⌝ }
 {
-    let mut search = at_base(network, graph, base, base_loss);
+    let mut search = at_base(base, base_radial, base_loss);
     let mut round = 0u16;
     while round < network.max_iterations {
         if search.ended {
             return search;
         }
-        let step = best_move(network, graph, loads, search);
-        search = after_move(search, step);
+        if search.radial {
+            search = after_move(search, best_kept(network, search));
+        } else {
+            search = after_move(search, best_walked(network, graph, loads, search));
+        }
         round += 1;
     }
     search

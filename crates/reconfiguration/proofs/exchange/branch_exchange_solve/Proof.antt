@@ -7,30 +7,33 @@ use Rattle.reconfiguration.proofs.exchange.branch_exchange_solve.Statem
 use Rattle.reconfiguration.proofs.exchange.branch_exchange_solve.Tie as tie
 
 abbrev Inv-loop : tie.InvT-loop
-Inv-loop network graph loads base-loss done₀ done = Standing network done
+Inv-loop network graph loads base-loss sections done₀ done = Standing network done
 
 abbrev μ-loop : tie.MeasureT-loop
-μ-loop network graph loads base-loss done₀ done = network .«max_iterations» - done .rounds
+μ-loop network graph loads base-loss sections done₀ done = network .«max_iterations» - done .rounds
+
+sections-of-requires : tie.Need-sections-of-requires Inv-loop μ-loop
+sections-of-requires c κs = c .pre .0 .0
 
 loop-holds : tie.Need-loop-holds Inv-loop μ-loop
-loop-holds c = standing-base (c .args .network) (c .pre .0 .0) _ _ (c .pre .1)
+loop-holds c = let start = c .before in standing-base (start .args .network) (start .pre .0 .0) _ _ (start .pre .1)
 
 returns : tie.Need-returns Inv-loop μ-loop
 returns c =
     let at = c .before .before .before .before in
-    let start = at .before in
+    let start = at .before .before in
     standing-ended (start .args .network) (start .pre .0 .0) (at .loop .done) (at .loop .inv) (c .if2 .taken)
 
 branch-exchange-step-requires : tie.Need-branch-exchange-step-requires Inv-loop μ-loop
 branch-exchange-step-requires c κs =
     let at = c .before .before .before .before .before in
-    let start = at .before in
-    (start .pre .0, standing-held (start .args .network) (start .pre .0 .0) (at .loop .done) (at .loop .inv))
+    let start = at .before .before in
+    (start .pre .0, at .before .sections-of .ensures, standing-held (start .args .network) (start .pre .0 .0) (at .loop .done) (at .loop .inv))
 
 after-round-requires : tie.Need-after-round-requires Inv-loop μ-loop
 after-round-requires c κs =
     let more = c .before .before .before in
-    let start = more .before .before .before .before in
+    let start = more .before .before .before .before .before in
     omega (arith, more .if1 .taken, rounds-few (start .args .network) (start .pre .0 .0))
 
 loop-less : tie.Need-loop-less Inv-loop μ-loop
@@ -39,7 +42,7 @@ loop-less c =
     let goes = step .before .before in
     let more = goes .before in
     let at = more .before .before .before in
-    let start = at .before in
+    let start = at .before .before in
     omega (arith, more .if1 .taken, rounds-rise (start .args .network) (start .pre .0 .0) (at .loop .done) (at .loop .inv) (more .if1 .taken) (goes .if2 .left) _ (step .branch-exchange-step .ensures) _ (c .after-round .ensures))
 
 loop-again : tie.Need-loop-again Inv-loop μ-loop
@@ -48,13 +51,13 @@ loop-again c =
     let goes = step .before .before in
     let more = goes .before in
     let at = more .before .before .before in
-    let start = at .before in
+    let start = at .before .before in
     standing-next (start .args .network) (start .pre .0 .0) (at .loop .done) (at .loop .inv) (more .if1 .taken) (goes .if2 .left) _ (step .branch-exchange-step .ensures) _ (c .after-round .ensures)
 
 returns-2 : tie.Need-returns-2 Inv-loop μ-loop
 returns-2 c =
     let at = c .before .before .before in
-    let start = at .before in
+    let start = at .before .before in
     standing-done (start .args .network) (start .pre .0 .0) (at .loop .done) (at .loop .inv) (λ h. omega arith)
 
 pub branch-exchange-solve-spec : {M : Type 1} → statement M
@@ -63,6 +66,7 @@ branch-exchange-solve-spec =
     (tie.spec
     Inv-loop
     μ-loop
+    sections-of-requires
     loop-holds
     returns
     branch-exchange-step-requires

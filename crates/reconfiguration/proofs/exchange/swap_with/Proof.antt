@@ -1,79 +1,96 @@
--- `swap_with` meets its contract: there is no section, or it is open, or the swap is not radial, or it is tried.
+-- `swap_with` meets its contract: there is no section, or it is open, or the swap is not radial, or it is the answer.
+use mathlib.Core.Path.{_≡_, sym, ap, _∙_}
+use mathlib.Core.Bool.{false}
 use native.Mathlib.Omega.{arith}
+use lib.ListN.{getD, set}
 use borrow.Author.Needs.{needs}
-use Rattle.network.specs.Listed.{few-switches}
-use Rattle.reconfiguration.specs.ExchangeSwaps.{swap-absent, swap-open, swap-loops, swap-tried}
-use Rattle.reconfiguration.specs.ExchangeTrials.{trial-none}
+use Rattle.graph.specs.Rows.{rowRadial}
+use Rattle.reconfiguration.specs.ExchangeTrials.{section-within, swap-absent, swap-open, swap-loops, swap-radial}
 use Rattle.reconfiguration.proofs.exchange.swap_with.Statement.{statement}
 use Rattle.reconfiguration.proofs.exchange.swap_with.Tie as tie
 
-section-of-requires : tie.Need-section-of-requires
-section-of-requires c κs = few-switches _ (c .pre .0 .0)
+section-on-requires : tie.Need-section-on-requires
+section-on-requires c κs = search needs
+
+wide16-requires : tie.Need-wide16-requires
+wide16-requires c κs = search needs
 
 element-copy-out-if2 : tie.Need-element-copy-out-if2
 element-copy-out-if2 c = search needs
 
-element-write-swapped : tie.Need-element-write-swapped
-element-write-swapped c =
-    let start = c .before .before .before .before in
-    omega (arith, few-switches (start .args .network) (start .pre .0 .0))
+wide16-requires-2 : tie.Need-wide16-requires-2
+wide16-requires-2 c κs = search needs
 
-element-write-swapped-2 : tie.Need-element-write-swapped-2
-element-write-swapped-2 c = search needs
+array-write-swapped : tie.Need-array-write-swapped
+array-write-swapped c =
+    let listed = c .before .before .before .before in
+    let found = listed .before in
+    let start = found .before in
+    omega (arith, c .wide162 .ensures .0, section-within (start .args .sections .now) (start .args .k) _ (start .pre .0) (found .section-on .ensures) (listed .if1 .taken))
 
 is-radial-requires : tie.Need-is-radial-requires
 is-radial-requires c κs = search needs
 
-loss-requires : tie.Need-loss-requires
-loss-requires c κs = search needs
+-- the section's byte is read
+byte : (c : tie.After-if22) → let at = c .before in let found = at .before .before in getD (found .before .args .state .now) (at .wide16 .result) 0 ≡ getD (found .before .args .state .now) (found .section-on .result) 0
+byte c = let at = c .before in ap (λ i. getD (at .before .before .before .args .state .now) i 0) (at .wide16 .ensures .0)
+
+-- the swap is judged
+judged : (c : tie.After-is-radial)
+    → let start = c .before .before .before .before .before .before .before in
+    c .is-radial .result ≡ rowRadial (start .args .graph) (set (start .args .live) (start .args .k) false)
+judged c =
+    let at = c .before in
+    let start = at .before .before .before .before .before .before in
+    c .is-radial .ensures ∙ ap (λ i. rowRadial (start .args .graph) (set (start .args .live) i false)) (at .wide162 .ensures .0)
 
 returns : tie.Need-returns
 returns c =
-    let judged = c .before in
-    let radial = judged .before in
-    let closed = radial .before in
-    let listed = closed .before .before in
+    let radial = c .before in
+    let closed = radial .before .before in
+    let read = closed .before in
+    let listed = read .before .before in
     let found = listed .before in
     let start = found .before in
-    swap-tried (start .args .network) (start .args .t4) (start .args .tie) (start .args .branch) (found .section-of .result) (found .section-of .ensures) (listed .if1 .taken)
-    (start .pre .2) (radial .is-radial .result) (radial .is-radial .ensures) (closed .if2 .taken) (judged .if3 .taken) (start .pre .1) (few-switches _ (start .pre .0 .0)) _ (c .loss .ensures)
+    swap-radial (start .args .graph) (start .args .sections .now) (start .args .state .now) (start .args .live) (start .args .k) _ (found .section-on .ensures) (listed .if1 .taken)
+    (sym (byte read) ∙ closed .if2 .taken) _ (judged radial) (c .if3 .taken)
 
 returns-2 : tie.Need-returns-2
 returns-2 c =
     let radial = c .before in
-    let listed = radial .before .before .before in
+    let closed = radial .before .before in
+    let read = closed .before in
+    let listed = read .before .before in
     let found = listed .before in
     let start = found .before in
-    trial-none _ _ _
-    (swap-loops (start .args .network) (start .args .t4) (start .args .tie) (start .args .branch) (found .section-of .result) (found .section-of .ensures) (listed .if1 .taken)
-    (start .pre .2) (radial .is-radial .result) (radial .is-radial .ensures) (c .if3 .left))
+    swap-loops (start .args .graph) (start .args .sections .now) (start .args .state .now) (start .args .live) (start .args .k) _ (found .section-on .ensures) (listed .if1 .taken)
+    (sym (byte read) ∙ closed .if2 .taken) _ (judged radial) (c .if3 .left)
 
 returns-3 : tie.Need-returns-3
 returns-3 c =
-    let listed = c .before .before in
+    let read = c .before in
+    let listed = read .before .before in
     let found = listed .before in
     let start = found .before in
-    trial-none _ _ _
-    (swap-open (start .args .network) (start .args .t4) (start .args .tie) (start .args .branch) (found .section-of .result) (found .section-of .ensures) (listed .if1 .taken) (c .if2 .left))
+    swap-open (start .args .graph) (start .args .sections .now) (start .args .state .now) (start .args .live) (start .args .k) _ (found .section-on .ensures) (listed .if1 .taken)
+    (λ e. c .if2 .left (byte read ∙ e))
 
 returns-4 : tie.Need-returns-4
 returns-4 c =
     let found = c .before in
     let start = found .before in
-    trial-none _ _ _
-    (swap-absent (start .args .network) (start .args .t4) (start .args .tie) (start .args .branch) (found .section-of .result) (few-switches _ (start .pre .0 .0))
-    (found .section-of .ensures) (λ h. omega arith))
+    swap-absent (start .args .graph) (start .args .sections .now) (start .args .state .now) (start .args .live) (start .args .k) _ (found .section-on .ensures) (λ h. omega arith)
 
 pub swap-with-spec : {M : Type 1} → statement M
 swap-with-spec =
     tie.close
     (tie.spec
-    section-of-requires
+    section-on-requires
+    wide16-requires
     element-copy-out-if2
-    element-write-swapped
-    element-write-swapped-2
+    wide16-requires-2
+    array-write-swapped
     is-radial-requires
-    loss-requires
     returns
     returns-2
     returns-3

@@ -4,18 +4,11 @@ use Rattle.reconfiguration.specs.TabuRounds.{base-held}
 use Rattle.reconfiguration.proofs.tabu.at_base.Statement.{statement}
 use Rattle.reconfiguration.proofs.tabu.at_base.Tie as tie
 
-is-radial-requires : tie.Need-is-radial-requires
-is-radial-requires c κs = search needs
-
 new-requires : tie.Need-new-requires
 new-requires c κs = search needs
 
 returns : tie.Need-returns
-returns c =
-    let judged = c .before in
-    let start = judged .before in
-    base-held (start .args .network) (start .pre .0) _ _ _ _ (start .pre .2) (judged .is-radial .ensures) (c .new .ensures)
+returns c = λ n b r. base-held n _ _ _ _ b r (c .new .ensures)
 
 pub at-base-spec : {M : Type 1} → statement M
-at-base-spec =
-    tie.close (tie.spec is-radial-requires new-requires returns)
+at-base-spec = tie.close (tie.spec new-requires returns)

@@ -1,0 +1,4 @@
+pub mod Operations
+pub mod OperationValues
+pub mod OperationLines
+pub mod OperationAnswers
