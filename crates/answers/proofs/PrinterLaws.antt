@@ -28,13 +28,13 @@ use Rattle.printing.specs.Printed.{written, refusalText}
 use Rattle.printing.specs.WrittenLaws.{written-sets, sets-append, sets-part}
 use Rattle.printing.specs.Calls.{Call, called}
 use Rattle.printing.specs.CallLaws.{call-refused, call-short, call-done}
-use Rattle.graph.specs.Feeder.{radialIn}
+use Rattle.radiality.specs.Feeder.{radialIn}
 use Rattle.plan.specs.declared.planner.PlanAnswer.{PlanAnswer}
 use Rattle.plan.specs.declared.planner.PlanAnswer.the-variants as plans
 use Rattle.plan.specs.Plan.{plan, planText, planned, planAnswerOf, checkRadial, checkPlan}
 use Rattle.plan.specs.Length as PlanLength
-use Rattle.reconfiguration.specs.declared.operations.OperationsAnswer.{OperationsAnswer}
-use Rattle.reconfiguration.specs.declared.operations.OperationsAnswer.the-variants as lists
+use Rattle.operations.specs.declared.operations.OperationsAnswer.{OperationsAnswer}
+use Rattle.operations.specs.declared.operations.OperationsAnswer.the-variants as lists
 use Rattle.reconfiguration.specs.declared.solve.ReconfigResult.{ReconfigResult}
 use Rattle.reconfiguration.specs.declared.solve.SolveAnswer.the-variants as solves
 use Rattle.reconfiguration.specs.FromBase.{base-good}
@@ -42,8 +42,8 @@ use Rattle.reconfiguration.specs.Answers.{best-good, answers-have-plans}
 use Rattle.reconfiguration.specs.States.{stateOf}
 use Rattle.reconfiguration.specs.StateLaws.{state-held}
 use Rattle.reconfiguration.specs.Solve.{Result, result, best, solved, resultOf, solveAnswerOf}
-use Rattle.reconfiguration.specs.Operations.{operations, operationsText, listed, operationsAnswerOf}
-use Rattle.reconfiguration.specs.OperationLines as Operations
+use Rattle.operations.specs.Operations.{operations, operationsText, listed, operationsAnswerOf}
+use Rattle.operations.specs.OperationLines as Operations
 use Rattle.answers.specs.Printing.{resultText, operationLines, planLines, moveLines, networkText, printedOf, printed, answeredText}
 use Rattle.answers.specs.PrintingValues.{HasBits}
 use Rattle.answers.specs.PrintingLaws.{length-result, operations-short, plan-short, printed-short, base-bits, best-bits, reduction-bits}

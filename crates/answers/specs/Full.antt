@@ -19,8 +19,8 @@ use Rattle.printing.specs.Printed.{written}
 use Rattle.printing.specs.Calls.{called}
 use Rattle.printing.specs.CallLaws.{call-done}
 use Rattle.graph.specs.Graph.{Tree}
-use Rattle.graph.specs.Feeder.{feeder, LiveIn, radialIn}
-use Rattle.graph.specs.FeederLaws.{radial-in-tree}
+use Rattle.radiality.specs.Feeder.{feeder, LiveIn, radialIn}
+use Rattle.radiality.specs.FeederLaws.{radial-in-tree}
 use Rattle.losses.specs.Loss.{lossIn}
 use Rattle.plan.specs.Plan.{plan, planText, planned}
 use Rattle.network.specs.Switches.{State, GoodState}
@@ -30,8 +30,8 @@ use Rattle.plan.specs.Accepted.{plan-accepted}
 use Rattle.plan.specs.Length as PlanLength
 use Rattle.reconfiguration.specs.Solve.{best, result, solved}
 use Rattle.reconfiguration.specs.Answers.{best-good}
-use Rattle.reconfiguration.specs.Operations.{operations, operationsText, listed}
-use Rattle.reconfiguration.specs.OperationLines as Operations
+use Rattle.operations.specs.Operations.{operations, operationsText, listed}
+use Rattle.operations.specs.OperationLines as Operations
 use Rattle.answers.specs.Printing.{networkText, printedOf, printed, answeredText}
 use Rattle.answers.specs.PrintingLaws.{printed-short}
 

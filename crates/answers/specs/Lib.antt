@@ -2,4 +2,3 @@ pub mod Printing
 pub mod PrintingValues
 pub mod PrintingLaws
 pub mod Full
-pub mod Examples

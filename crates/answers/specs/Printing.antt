@@ -10,10 +10,10 @@ use Rattle.network.specs.Live.{baseState}
 use Rattle.frames.specs.Text.{readText}
 use Rattle.printing.specs.Printed.{answerText, refusalText}
 use Rattle.printing.specs.Calls.{Call, called}
-use Rattle.graph.specs.Feeder.{radialIn}
+use Rattle.radiality.specs.Feeder.{radialIn}
 use Rattle.plan.specs.Plan.{plan, planText}
 use Rattle.reconfiguration.specs.Solve.{Result, result, best}
-use Rattle.reconfiguration.specs.Operations.{operations, operationsText}
+use Rattle.operations.specs.Operations.{operations, operationsText}
 use Rattle.answers.specs.declared.printer.TextAnswer.{TextAnswer}
 use Rattle.answers.specs.declared.printer.TextAnswer.the-variants.{Printed, Refused}
 

@@ -24,7 +24,7 @@ use Rattle.printing.specs.Printed.{written, answer, answerText, refusal, refusa
 use Rattle.printing.specs.Calls.{Call}
 use Rattle.printing.specs.CallLaws.{call-short, call-done}
 use Rattle.printing.specs.WrittenLaws.{length-frame}
-use Rattle.graph.specs.Feeder.{radialIn}
+use Rattle.radiality.specs.Feeder.{radialIn}
 use Rattle.losses.specs.Loss.{lossIn}
 use Rattle.losses.specs.Accepted.{accepted-loss-within}
 use Rattle.losses.specs.PercentLaws.{percent-within}
@@ -32,9 +32,9 @@ use Rattle.plan.specs.Plan.{plan, planText}
 use Rattle.plan.specs.Length as PlanLength
 use Rattle.reconfiguration.specs.Solve.{Result, result, best, reduction, reductionOf}
 use Rattle.reconfiguration.specs.Answers.{best-loss, answers-have-plans}
-use Rattle.reconfiguration.specs.Operations.{operations}
-use Rattle.reconfiguration.specs.OperationLines as Operations
-use Rattle.reconfiguration.specs.OperationValues.{differs}
+use Rattle.operations.specs.Operations.{operations}
+use Rattle.operations.specs.OperationLines as Operations
+use Rattle.operations.specs.OperationValues.{differs}
 use Rattle.answers.specs.declared.printer.TextAnswer.the-variants.{Printed}
 use Rattle.answers.specs.Printing.{resultText, operationLines, planLines, moveLines, networkText, printedOf, printed, answeredText, textAnswerOf}
 

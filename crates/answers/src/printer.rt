@@ -11,10 +11,12 @@ ghost use Rattle.reconfiguration.specs.Solve.{resultOf};
 ghost use Rattle.answers.specs.Printing.{resultText, operationLines, planLines, moveLines, networkText, printed, answeredText, textAnswerOf};
 ghost use Rattle.answers.specs.PrintingValues.{Searched, HasBits};
 use frames::reader::read_text;
-use network::configuration::base_configuration;
+use network::configuration::build_base_configuration;
 use network::error::Verdict;
 use network::topology::PowerNetwork;
 use numbers::wide16;
+use operations::operations::OperationsAnswer;
+use operations::operations::compute_switch_operations;
 use plan::planner::PlanAnswer;
 use plan::planner::plan;
 use printing::writer::ANSWER_LENGTH;
@@ -24,8 +26,6 @@ use printing::writer::REFUSAL_LENGTH;
 use printing::writer::write_answer;
 use printing::writer::write_bytes;
 use printing::writer::write_refusal;
-use reconfiguration::operations::OperationsAnswer;
-use reconfiguration::operations::compute_switch_operations;
 use reconfiguration::solve::ReconfigResult;
 use reconfiguration::solve::SolveAnswer;
 use reconfiguration::solve::solve;
@@ -99,7 +99,7 @@ fn print_network(out: &mut [u8], network: PowerNetwork) -> usize
     requires { ⌜ (checkRecords (recordsOf network) ≡ accepted tt) × (7472 ≤ length (now out)) ⌝ }
     ensures { λ r. ⌜ (r ≡ length (networkText (recordsOf network))) × (now (out .exit) ≡ written (networkText (recordsOf network)) (now (out .entry))) ⌝ }
 {
-    let configuration = base_configuration(network);
+    let configuration = build_base_configuration(network);
     let base = configuration.switches;
     let mut best = [0u8; 512];
     match solve(network, &mut best) {

@@ -22,8 +22,8 @@ use libc::STDOUT_FILENO;
 use network::error::Verdict;
 use network::topology::PowerNetwork;
 use numbers::at_most;
-use reconfiguration::operations::OperationsAnswer;
-use reconfiguration::operations::compute_switch_operations;
+use operations::operations::OperationsAnswer;
+use operations::operations::compute_switch_operations;
 use reconfiguration::solve::SolveAnswer;
 use reconfiguration::solve::solve;
 

@@ -8,7 +8,7 @@ use Rattle.network.specs.Records.{Network}
 use Rattle.printing.specs.Calls.{Call}
 use Rattle.printing.specs.Printed.{truthByte}
 use Rattle.frames.specs.Text.{readText}
-use Rattle.graph.specs.Feeder.{radialIn}
+use Rattle.radiality.specs.Feeder.{radialIn}
 use Rattle.losses.specs.Loss.{lossIn}
 use Rattle.plan.specs.Plan.{planned}
 use Rattle.controller.specs.declared.answer.CallAnswer.{CallAnswer}

@@ -3,16 +3,16 @@ ghost use mathlib.Core.Path.{_≡_};
 ghost use lib.Ieee.{binary64, toBits};
 ghost use Rattle.network.specs.Answers.{accepted, refused};
 ghost use Rattle.printing.specs.Printed.{truthByte};
-ghost use Rattle.graph.specs.Answers.{radialityOf};
+ghost use Rattle.radiality.specs.Answers.{radialityOf};
 ghost use Rattle.losses.specs.Answers.{lossAnswerOf};
 ghost use Rattle.plan.specs.Plan.{planAnswerOf};
 ghost use Rattle.answers.specs.Printing.{textAnswerOf};
 ghost use Rattle.controller.specs.Calls.{numbersOf};
 ghost use Rattle.controller.specs.CallLaws.{numbered, NoNan};
 use answers::printer::TextAnswer;
-use graph::radiality::Radiality;
 use losses::evaluation::LossAnswer;
 use plan::planner::PlanAnswer;
+use radiality::radiality::Radiality;
 
 // Number 0 with what was asked for, or document 01's refusal number and place.
 #[repr(C)]

@@ -10,10 +10,10 @@ use crate::answer::refusal;
 use crate::answer::text_numbers;
 use answers::printer::answer_text;
 use frames::reader::read_text;
-use graph::radiality::verify_radiality;
 use losses::evaluation::evaluate_config;
 use network::error::Verdict;
 use plan::planner::plan;
+use radiality::radiality::verify_radiality;
 
 // Whether a state is radial: the value is 1 where it is, else 0.
 #[no_mangle]

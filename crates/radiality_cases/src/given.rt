@@ -7,8 +7,6 @@ use cases::first_case;
 use cases::line_behind;
 use cases::part_of;
 use cases::state_bytes;
-use graph::radiality::Radiality;
-use graph::radiality::verify_radiality;
 use libc::STDOUT_FILENO;
 use network::branch::Branch;
 use network::bus::Bus;
@@ -17,6 +15,8 @@ use network::error::Verdict;
 use network::switch::ReconfigAlgorithm;
 use network::switch::Switch;
 use network::topology::PowerNetwork;
+use radiality::radiality::Radiality;
+use radiality::radiality::verify_radiality;
 
 // A fault that the head line would have.
 fn head_changed(mut network: PowerNetwork, change: u8) -> PowerNetwork {

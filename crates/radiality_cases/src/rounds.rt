@@ -4,11 +4,11 @@ use crate::drawn::drawn_network;
 use crate::drawn::drawn_state;
 use crate::drawn::draws;
 use crate::labels::is_radial;
-use graph::radiality::Radiality;
-use graph::radiality::verify_radiality;
 use libc::STDOUT_FILENO;
 use network::topology::PowerNetwork;
 use numbers::wide16;
+use radiality::radiality::Radiality;
+use radiality::radiality::verify_radiality;
 
 const ROUNDS: u64 = 20000;
 

@@ -12,8 +12,8 @@ use borrow.Author.Needs.{needs}
 use Rattle.answers.proofs.printer.print_network.Statement.{statement}
 use Rattle.answers.proofs.printer.print_network.Tie as tie
 
-base-configuration-requires : tie.Need-base-configuration-requires
-base-configuration-requires c κs = search needs
+build-base-configuration-requires : tie.Need-build-base-configuration-requires
+build-base-configuration-requires c κs = search needs
 
 slice-aggregate-solve : tie.Need-slice-aggregate-solve
 slice-aggregate-solve c = search needs
@@ -34,7 +34,7 @@ write-moves-requires : tie.Need-write-moves-requires
 write-moves-requires c κs =
     let start = c .before .before .before .before .before .before .before .before .before .before .before .before .before .before in
     let s = c .before .before .before .before .before .before .before .before .before in
-    ((start .pre .0, base-held _ (start .pre .0) (c .before .before .before .before .before .before .before .before .before .before .before .before .base-configuration .ensures), solved-state _ (start .pre .0) _ (search needs) (s .solve .ensures)), omega (arith, start .pre .1, ap length (c .before .before .before .write-result .ensures) ∙ length-written _ _))
+    ((start .pre .0, base-held _ (start .pre .0) (c .before .before .before .before .before .before .before .before .before .before .before .before .build-base-configuration .ensures), solved-state _ (start .pre .0) _ (search needs) (s .solve .ensures)), omega (arith, start .pre .1, ap length (c .before .before .before .write-result .ensures) ∙ length-written _ _))
 
 enum-told : tie.Need-enum-told
 enum-told c = search needs
@@ -61,7 +61,7 @@ pub print-network-spec : {M : Type 1} → statement M
 print-network-spec =
     tie.close
     (tie.spec
-    base-configuration-requires
+    build-base-configuration-requires
     slice-aggregate-solve
     solve-requires
     enum-known-result

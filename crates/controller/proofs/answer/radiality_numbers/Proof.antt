@@ -2,7 +2,7 @@
 use mathlib.Core.Path.{ap, sym, _∙_}
 use Rattle.network.specs.Answers.{accepted}
 use Rattle.printing.specs.Printed.{truthByte}
-use Rattle.graph.specs.Answers.{radialityOf}
+use Rattle.radiality.specs.Answers.{radialityOf}
 use Rattle.controller.specs.Calls.{numbersOf}
 use Rattle.controller.specs.CallLaws.{numbered}
 use borrow.Author.Needs.{needs}

@@ -1,7 +1,7 @@
 -- `radiality` meets its contract: each case of the call counts for its number.
 use mathlib.Core.Path.{ap, sym, _∙_}
 use Rattle.printing.specs.Printed.{truthByte}
-use Rattle.graph.specs.Answers.{radialityOf}
+use Rattle.radiality.specs.Answers.{radialityOf}
 use Rattle.controller.specs.CallLaws.{numbered}
 use Rattle.timing.specs.Rounds.{valueOf}
 use borrow.Author.Needs.{needs}

@@ -11,11 +11,11 @@ use Rattle.network.specs.Live.{live, openOn, baseState}
 use Rattle.frames.specs.Hex.{digit, digits, writeFields}
 use Rattle.frames.specs.Acceptable.{frameText}
 use Rattle.frames.specs.Claim.{claim}
-use Rattle.frames.specs.Examples.{row, triangleText, triangle, triangle-read}
+use Rattle.examples.specs.Texts.{row, triangleText, triangle, triangle-read}
 use Rattle.printing.specs.Printed.{answerText, operationText, pairText}
 use Rattle.graph.specs.Walk.{far, neighbours, reached, enter, enterAll, turn, walkBy, walk, byOf, across, back, bfsPath}
 use Rattle.graph.specs.Radial.{radial}
-use Rattle.graph.specs.Feeder.{feeder, position, radialIn}
+use Rattle.radiality.specs.Feeder.{feeder, position, radialIn}
 use Rattle.losses.specs.Loss.{walkLoad, downstream, termOf, totalOf, loss, lossIn}
 use Rattle.plan.specs.Plan.{closings, pathBefore, opening, exchanged, pairsFrom, pairs, switchOn, plan, planText}
 use Rattle.plan.specs.Claim.{SwitchingPlan}
@@ -23,8 +23,8 @@ use Rattle.network.specs.Switches.{swapped}
 use Rattle.reconfiguration.specs.Exchange.{loopOf, sectionOf, swapWith, trial, improves, kept, roundOf, afterRound, exchangeRounds, exchange}
 use Rattle.reconfiguration.specs.Solve.{bestBy, best, reduction, reductionOf, result}
 use Rattle.reconfiguration.specs.Answers.{search-has-plan}
-use Rattle.reconfiguration.specs.Operations.{operationTo, operations, operationsText}
+use Rattle.operations.specs.Operations.{operationTo, operations, operationsText}
 use Rattle.answers.specs.Printing.{resultText, operationLines, planLines, moveLines, networkText, printed}
 
 triangle-printed : printed triangleText
     ≡ row 58 0x810140100000000000003FF00000000000004052C00000000000000201

@@ -1,0 +1,142 @@
+-- Document 01's marked cases under one theorem, and a feeder of five buses that shows which tie wins a round and which sections are tried.
+use mathlib.Core.Bool.{Bool, true, false}
+use mathlib.Core.List.{List, [], _∷_, map}
+use mathlib.Core.Path.{_≡_, refl}
+use Prim.Native.Nat.{ℕ}
+use lib.Ieee.{Float, binary64, ofBits, add, sub, mul, div, lt, le}
+use Rattle.network.specs.declared.bus.Bus.{Bus}
+use Rattle.network.specs.declared.branch.Branch.{Branch}
+use Rattle.network.specs.declared.switch.Switch.{Switch}
+use Rattle.network.specs.declared.switch.ReconfigAlgorithm.{ReconfigAlgorithm}
+use Rattle.network.specs.declared.switch.ReconfigAlgorithm.the-variants.{BranchExchange, TabuSearch, Exhaustive}
+use Rattle.numbers.specs.UpTo.{upTo, table}
+use Rattle.numbers.specs.Counts.{count}
+use Rattle.numbers.specs.Choose.{those, least, firstSome, firstOf, indexOf, _orElse_}
+use Rattle.network.specs.Records.{Network}
+use Rattle.network.specs.Faults.{among, ties}
+use Rattle.network.specs.Live.{live, openOn, baseState}
+use Rattle.network.specs.Switches.{State, swapped, toggled}
+use Rattle.graph.specs.Walk.{far, neighbours, reached, enter, enterAll, turn, walkBy, walk, byOf, across, back, bfsPath}
+use Rattle.graph.specs.Radial.{radial}
+use Rattle.radiality.specs.Feeder.{feeder, position, radialIn}
+use Rattle.losses.specs.Loss.{walkLoad, downstream, termOf, totalOf, loss, lossIn}
+use Rattle.reconfiguration.specs.Exchange.{loopOf, sectionOf, swapWith, trial, improves, kept, roundOf, afterRound, exchangeRounds, exchange}
+use Rattle.reconfiguration.specs.Tabu.{allowed, lesser, bestMove, lastSeven, afterMove, tabuRounds, tabu}
+use Rattle.reconfiguration.specs.Exhaustive as Ex
+use Rattle.reconfiguration.specs.Exhaustive.{masked, tryMask, exhaustive, leastOrBase}
+use Rattle.reconfiguration.specs.Solve.{bestBy, best}
+
+-- floats by their patterns, loads in MW and r in per unit
+abbrev pub float : ℕ → Float
+float bits = ofBits binary64 bits
+
+abbrev pub bus : ℕ → ℕ → Bus
+bus id pd = record { id = id; pd = record { 0 = float pd } }
+
+abbrev pub branch : ℕ → ℕ → ℕ → Branch
+branch from to r = record { «from_bus» = from; «to_bus» = to; r = float r; status = true }
+
+abbrev pub section : ℕ → ℕ → Switch
+section id k = record { id = id; «branch_idx» = k; «normally_open» = false; «can_operate» = true }
+
+abbrev pub tie : ℕ → ℕ → Switch
+tie id k = record { id = id; «branch_idx» = k; «normally_open» = true; «can_operate» = true }
+
+-- base_mva is 1
+abbrev pub network : ReconfigAlgorithm → ℕ → List Bus → List Branch → List Switch → Network
+network algorithm iterations buses branches switches =
+    record { base = float 0x3FF0000000000000; algorithm = algorithm; iterations = iterations; buses = buses; branches = branches; switches = switches }
+
+-- without switches the one state has no byte
+abbrev pub plain : List Bus → List Branch → Network
+plain buses branches = network BranchExchange 0 buses branches []
+
+abbrev pub triangleWith : Branch → ReconfigAlgorithm → ℕ → Network
+triangleWith first algorithm iterations =
+    network algorithm iterations
+    (bus 1 0 ∷ bus 2 0x3FF0000000000000 ∷ bus 3 0x4000000000000000 ∷ [])
+    (first ∷ branch 2 3 0x3FDC000000000000 ∷ branch 1 3 0x3FC8000000000000 ∷ [])
+    (section 10 1 ∷ tie 11 2 ∷ [])
+
+abbrev pub triangle : ReconfigAlgorithm → ℕ → Network
+triangle = triangleWith (branch 1 2 0x3FD0000000000000)
+
+-- a state of a feeder's switches, or a search
+pub data Case : Type 0 where
+  inState : Network → State → Case
+  searched : Network → Case
+
+-- radial or not, and the loss; or state, loss, iterations and converged
+pub data Value : Type 0 where
+  stands : Bool → Float → Value
+  finds : State → Float → ℕ → Bool → Value
+
+abbrev pub valueOf : Case → Value
+valueOf (inState N s) = stands (radialIn N s) (lossIn N s)
+valueOf (searched N) = let b = best N in finds (b .state) (b .loss) (b .iterations) (b .converged)
+
+infix 68 _gives_
+pub data Row : Type 0 where
+  _gives_ : Case → Value → Row
+
+abbrev pub reckoned : Row → Value
+reckoned (c gives v) = valueOf c
+
+abbrev pub said : Row → Value
+said (c gives v) = v
+
+abbrev pub marked : List Row
+marked =
+    -- "no buses: radial, loss 0"
+    inState (plain [] []) [] gives stands true (float 0)
+    -- "one bus: radial", "one bus, own loop: not"
+    ∷ inState (plain (bus 1 0 ∷ []) []) [] gives stands true (float 0)
+    ∷ inState (plain (bus 1 0 ∷ []) (branch 1 1 0 ∷ [])) [] gives stands false (float 0)
+    -- "two buses, one branch: radial", "two parallel: not"
+    ∷ inState (plain (bus 1 0 ∷ bus 2 0 ∷ []) (branch 1 2 0 ∷ [])) [] gives stands true (float 0)
+    ∷ inState (plain (bus 1 0 ∷ bus 2 0 ∷ []) (branch 1 2 0 ∷ branch 1 2 0 ∷ [])) [] gives stands false (float 0)
+    -- "triangle base loss 4", "exchanged 1", "all closed: not radial, loss 5.6875"
+    ∷ inState (triangle Exhaustive 100) (0 ∷ 1 ∷ []) gives stands true (float 0x4010000000000000)
+    ∷ inState (triangle Exhaustive 100) (1 ∷ 0 ∷ []) gives stands true (float 0x3FF0000000000000)
+    ∷ inState (triangle Exhaustive 100) (0 ∷ 0 ∷ []) gives stands false (float 0x4016C00000000000)
+    -- "branch 0 turned (2 to 1): base loss 1.75"
+    ∷ inState (triangleWith (branch 2 1 0x3FD0000000000000) Exhaustive 100) (0 ∷ 1 ∷ []) gives stands true (float 0x3FFC000000000000)
+    -- "exchange with 0 rounds: base, 0, not converged", "1: loss 1, 1, not", "2: 2, not", "3: 2, converged"
+    ∷ searched (triangle BranchExchange 0) gives finds (0 ∷ 1 ∷ []) (float 0x4010000000000000) 0 false
+    ∷ searched (triangle BranchExchange 1) gives finds (1 ∷ 0 ∷ []) (float 0x3FF0000000000000) 1 false
+    ∷ searched (triangle BranchExchange 2) gives finds (1 ∷ 0 ∷ []) (float 0x3FF0000000000000) 2 false
+    ∷ searched (triangle BranchExchange 3) gives finds (1 ∷ 0 ∷ []) (float 0x3FF0000000000000) 2 true
+    -- "exhaustive: base, count 1"
+    ∷ searched (triangle Exhaustive 100) gives finds (0 ∷ 1 ∷ []) (float 0x4010000000000000) 1 true
+    -- "tabu with 100: base, 100, converged"
+    ∷ searched (triangle TabuSearch 100) gives finds (0 ∷ 1 ∷ []) (float 0x4010000000000000) 100 true
+    ∷ []
+
+-- document 01: "One proved table holds the marked (*) cases under one theorem"
+pub marked-cases : map reckoned marked ≡ map said marked
+unfolding best bestBy exchange exchangeRounds afterRound roundOf kept improves trial swapWith sectionOf loopOf swapped tabu tabuRounds bestMove afterMove lastSeven lesser allowed among toggled exhaustive tryMask Ex.lesser leastOrBase masked ties lossIn loss totalOf termOf downstream walkLoad radialIn feeder position radial bfsPath back across byOf walk walkBy turn enterAll enter reached neighbours far baseState live openOn those least firstSome firstOf indexOf _orElse_ count upTo table ofBits add sub mul div lt le
+marked-cases = refl
+
+-- Five buses in a row, 1 MW at each but the first, and three ties. In the first round, with 9.75 at its start, tie 5 improves to 8.75 and tie 6 to 9.5; tie 7's first
+-- section does not improve, its next one would to 5. The last improving tie wins, and tie 7's next section is not tried
+abbrev pub row : ℕ → Network
+row iterations =
+    network BranchExchange iterations
+    (bus 1 0 ∷ bus 2 0x3FF0000000000000 ∷ bus 3 0x3FF0000000000000 ∷ bus 4 0x3FF0000000000000 ∷ bus 5 0x3FF0000000000000 ∷ [])
+    (branch 1 2 0x3FD0000000000000 ∷ branch 2 3 0x3FE0000000000000 ∷ branch 3 4 0x3FD0000000000000 ∷ branch 4 5 0x3FD0000000000000
+    ∷ branch 2 4 0x3FD0000000000000 ∷ branch 2 5 0x3FD0000000000000 ∷ branch 1 4 0x3FD0000000000000 ∷ [])
+    (section 1 0 ∷ section 2 1 ∷ section 3 2 ∷ section 4 3 ∷ tie 5 4 ∷ tie 6 5 ∷ tie 7 6 ∷ [])
+
+abbrev pub rounds : List Row
+rounds =
+    inState (row 1) (0 ∷ 0 ∷ 0 ∷ 0 ∷ 1 ∷ 1 ∷ 1 ∷ []) gives stands true (float 0x4023800000000000)
+    ∷ searched (row 1) gives finds (0 ∷ 1 ∷ 0 ∷ 0 ∷ 1 ∷ 0 ∷ 1 ∷ []) (float 0x4023000000000000) 1 false
+    -- the better one of tie 5, and the one that tie 7's next section would give
+    ∷ inState (row 1) (0 ∷ 1 ∷ 0 ∷ 0 ∷ 0 ∷ 1 ∷ 1 ∷ []) gives stands true (float 0x4021800000000000)
+    ∷ inState (row 1) (0 ∷ 1 ∷ 0 ∷ 0 ∷ 1 ∷ 1 ∷ 0 ∷ []) gives stands true (float 0x4014000000000000)
+    ∷ searched (row 100) gives finds (0 ∷ 1 ∷ 0 ∷ 1 ∷ 0 ∷ 0 ∷ 1 ∷ []) (float 0x401E000000000000) 3 true
+    ∷ []
+
+pub round-cases : map reckoned rounds ≡ map said rounds
+unfolding best bestBy exchange exchangeRounds afterRound roundOf kept improves trial swapWith sectionOf loopOf swapped tabu tabuRounds bestMove afterMove lastSeven lesser allowed among toggled exhaustive tryMask Ex.lesser leastOrBase masked ties lossIn loss totalOf termOf downstream walkLoad radialIn feeder position radial bfsPath back across byOf walk walkBy turn enterAll enter reached neighbours far baseState live openOn those least firstSome firstOf indexOf _orElse_ count upTo table ofBits add sub mul div lt le
+round-cases = refl
