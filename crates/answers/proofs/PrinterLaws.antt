@@ -24,14 +24,16 @@ use Rattle.frames.specs.declared.reader.Reading.{Reading}
 use Rattle.frames.specs.Text.{readText}
 use Rattle.frames.specs.Reading.{readingOf}
 use Rattle.frames.specs.ReadingLaws.{read-accepted, read-refused}
-use Rattle.printing.specs.Printed.{written, refusalText}
-use Rattle.printing.specs.WrittenLaws.{written-sets, sets-append, sets-part}
+use Rattle.slices.specs.Written.{written}
+use Rattle.printing.specs.Printed.{refusalText}
+use Rattle.slices.specs.WrittenLaws.{written-sets, sets-append, sets-part}
 use Rattle.printing.specs.Calls.{Call, called}
 use Rattle.printing.specs.CallLaws.{call-refused, call-short, call-done}
 use Rattle.radiality.specs.Feeder.{radialIn}
 use Rattle.plan.specs.declared.planner.PlanAnswer.{PlanAnswer}
 use Rattle.plan.specs.declared.planner.PlanAnswer.the-variants as plans
-use Rattle.plan.specs.Plan.{plan, planText, planned, planAnswerOf, checkRadial, checkPlan}
+use Rattle.changes.specs.Change.{checkRadial, checkPlan}
+use Rattle.plan.specs.Plan.{plan, planText, planned, planAnswerOf}
 use Rattle.plan.specs.Length as PlanLength
 use Rattle.operations.specs.declared.operations.OperationsAnswer.{OperationsAnswer}
 use Rattle.operations.specs.declared.operations.OperationsAnswer.the-variants as lists

@@ -15,7 +15,7 @@ use Rattle.network.specs.InsideLaws.{check-inside}
 use Rattle.network.specs.Live.{checkState}
 use Rattle.frames.specs.Acceptable.{Acceptable}
 use Rattle.frames.specs.Claim.{claim}
-use Rattle.printing.specs.Printed.{written}
+use Rattle.slices.specs.Written.{written}
 use Rattle.printing.specs.Calls.{called}
 use Rattle.printing.specs.CallLaws.{call-done}
 use Rattle.graph.specs.Graph.{Tree}

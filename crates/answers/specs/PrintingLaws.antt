@@ -20,10 +20,11 @@ use Rattle.network.specs.Live.{baseState}
 use Rattle.frames.specs.Text.{readText}
 use Rattle.frames.specs.Claim.{claim}
 use Rattle.frames.specs.Early.{read-early}
-use Rattle.printing.specs.Printed.{written, answer, answerText, refusal, refusalText}
+use Rattle.slices.specs.Written.{written}
+use Rattle.printing.specs.Printed.{answer, answerText, refusal, refusalText}
 use Rattle.printing.specs.Calls.{Call}
 use Rattle.printing.specs.CallLaws.{call-short, call-done}
-use Rattle.printing.specs.WrittenLaws.{length-frame}
+use Rattle.printing.specs.LineTexts.{length-frame}
 use Rattle.radiality.specs.Feeder.{radialIn}
 use Rattle.losses.specs.Loss.{lossIn}
 use Rattle.losses.specs.Accepted.{accepted-loss-within}

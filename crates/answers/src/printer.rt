@@ -6,7 +6,7 @@ ghost use lib.Seq.{sets};
 ghost use Rattle.network.specs.Answers.{accepted};
 ghost use Rattle.network.specs.Check.{checkRecords};
 ghost use Rattle.network.specs.Records.{recordsOf};
-ghost use Rattle.printing.specs.Printed.{written};
+ghost use Rattle.slices.specs.Written.{written};
 ghost use Rattle.reconfiguration.specs.Solve.{resultOf};
 ghost use Rattle.answers.specs.Printing.{resultText, operationLines, planLines, moveLines, networkText, printed, answeredText, textAnswerOf};
 ghost use Rattle.answers.specs.PrintingValues.{Searched, HasBits};
@@ -24,11 +24,11 @@ use printing::writer::OPERATION_LENGTH;
 use printing::writer::PAIR_LENGTH;
 use printing::writer::REFUSAL_LENGTH;
 use printing::writer::write_answer;
-use printing::writer::write_bytes;
 use printing::writer::write_refusal;
 use reconfiguration::solve::ReconfigResult;
 use reconfiguration::solve::SolveAnswer;
 use reconfiguration::solve::solve;
+use slices::writer::write_bytes;
 
 // The longest answer: an 81 line, an 82 line for each of 512 switches, an 83 line for each of 255 pairs.
 pub const MAX_LENGTH: usize = 7472;

@@ -21,13 +21,15 @@ use Rattle.network.specs.Live.{live, openOn, each, checkState, baseState}
 use Rattle.network.specs.Switches.{State, byte}
 use Rattle.frames.specs.Hex.{digit, digits, writeFields}
 use Rattle.frames.specs.Acceptable.{frameText}
-use Rattle.printing.specs.Printed.{written, pairText}
+use Rattle.slices.specs.Written.{written}
+use Rattle.printing.specs.Printed.{pairText}
 use Rattle.printing.specs.Calls.{checkRoom, called}
 use Rattle.graph.specs.Walk.{far, neighbours, reached, enter, enterAll, turn, walkBy, walk, byOf, across, bfsPath}
 use Rattle.graph.specs.Walk as Walk
 use Rattle.graph.specs.Radial.{radial}
 use Rattle.radiality.specs.Feeder.{position, feeder, radialIn}
-use Rattle.plan.specs.Plan.{closings, pathBefore, opening, exchanged, pairsFrom, pairs, switchOn, plan, checkRadial, differing, lockedDifferences, checkLocked, checkPlan, planText, planned}
+use Rattle.changes.specs.Change.{checkRadial, differing, lockedDifferences, checkLocked, checkPlan}
+use Rattle.plan.specs.Plan.{closings, pathBefore, opening, exchanged, pairsFrom, pairs, switchOn, plan, planText, planned}
 use Rattle.plan.specs.Proof.{demand3}
 use Rattle.plan.specs.Claim.{closed, carriedOut, Step, forward, back, found, taken, run, after, SwitchingPlan}
 

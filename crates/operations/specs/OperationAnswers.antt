@@ -13,7 +13,7 @@ use Rattle.network.specs.Answers.{Answer, accepted, refused, answerOf, _andThen
 use Rattle.network.specs.AnswerLaws.{then-iff}
 use Rattle.network.specs.Check.{checkRecords}
 use Rattle.network.specs.Live.{checkState}
-use Rattle.printing.specs.Printed.{written}
+use Rattle.slices.specs.Written.{written}
 use Rattle.printing.specs.CallLaws.{call-refused, call-short, call-done}
 use Rattle.network.specs.Switches.{State}
 use Rattle.network.specs.Listed.{state-accepted, switches-listed, few-switches}

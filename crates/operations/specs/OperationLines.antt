@@ -17,9 +17,11 @@ use Rattle.network.specs.declared.switch.Switch.{Switch}
 use Rattle.network.specs.Records.{Network}
 use Rattle.network.specs.Switches.{State, byte, size, switch}
 use Rattle.printing.specs.declared.writer.SwitchOperation.{SwitchOperation}
-use Rattle.printing.specs.Printed.{operation, operationText, written}
+use Rattle.slices.specs.Written.{written}
+use Rattle.printing.specs.Printed.{operation, operationText}
 use Rattle.printing.specs.LineTexts as Texts
-use Rattle.printing.specs.WrittenLaws.{sets-append, written-sets, written-part, length-frame}
+use Rattle.slices.specs.WrittenLaws.{sets-append, written-sets, written-part}
+use Rattle.printing.specs.LineTexts.{length-frame}
 use Rattle.operations.specs.Operations.{operationTo, operationOf, operations, operationsText}
 use Rattle.operations.specs.OperationValues.{differs, lineOf}
 

@@ -5,7 +5,7 @@ ghost use Prim.Native.Nat.{_+_, _*_, _≤_};
 ghost use lib.ListN.{length};
 ghost use lib.Seq.{sets};
 ghost use Rattle.numbers.specs.Counts.{count};
-ghost use Rattle.printing.specs.Printed.{written};
+ghost use Rattle.slices.specs.Written.{written};
 ghost use Rattle.network.specs.Answers.{answerOf, _andThen_};
 ghost use Rattle.network.specs.Check.{checkRecords};
 ghost use Rattle.network.specs.Live.{checkState};

@@ -1,44 +1,22 @@
 -- The planner's answer, case by case: the first refusal decides, and without one the lines are written.
 use mathlib.Core.Path.{_≡_, sym, ap, _∙_}
-use mathlib.Core.Bool.{Bool, true, false}
 use mathlib.Core.List.{List}
 use Prim.Native.Nat.{ℕ, _*_, _≤_, _<_}
 use lib.ListN.{length}
 use Rattle.network.specs.declared.error.Verdict.{Verdict}
 use Rattle.network.specs.declared.error.Verdict.the-variants.{Refused}
-use Rattle.network.specs.declared.topology.PowerNetwork.{PowerNetwork}
-use Rattle.network.specs.Records.{Network, recordsOf}
-use Rattle.network.specs.Answers.{accepted, refused, answerOf, judge}
-use Rattle.network.specs.Check.{checkRecords}
+use Rattle.network.specs.Records.{Network}
+use Rattle.network.specs.Answers.{accepted, refused, answerOf}
 use Rattle.network.specs.Switches.{State}
-use Rattle.graph.specs.declared.rows.Graph.{Graph}
-use Rattle.radiality.specs.Feeder.{radialIn}
-use Rattle.graph.specs.Rows.{rowRadial}
-use Rattle.radiality.specs.FeederRows.{feederGraph, liveFlags}
-use Rattle.radiality.specs.FeederRowLaws.{live-row-radial}
-use Rattle.printing.specs.Printed.{written}
+use Rattle.slices.specs.Written.{written}
 use Rattle.printing.specs.CallLaws.{call-refused, call-short, call-done}
 use Rattle.plan.specs.declared.pairs.PairList.{PairList}
-use Rattle.plan.specs.Plan.{Moves, plan, planText, checkRadial, checkPlan, planned}
+use Rattle.changes.specs.Change.{checkPlan}
+use Rattle.plan.specs.Plan.{Moves, plan, planText, planned}
 use Rattle.plan.specs.Stored.{movesIn}
 use Rattle.plan.specs.Length.{length-text}
 use Rattle.plan.proofs.PairLists.{length-moves}
 
--- ---- refusal 11
-module _ (n : PowerNetwork) (buses : length (n .buses) ≡ 256) (passed : checkRecords (recordsOf n) ≡ accepted tt) (s : State) (place : ℕ)
-    {graph : Graph} (g : graph ≡ feederGraph n) {live : List Bool} (l : live ≡ liveFlags (recordsOf n) s) {b : Bool} (e : b ≡ rowRadial graph live) where
-  as-radial : radialIn (recordsOf n) s ≡ b
-  as-radial = sym (e ∙ rw (g, l) (live-row-radial n buses passed s))
-
-  pub not-radial : b ≡ false → checkRadial (recordsOf n) s place ≡ refused 11 place
-  unfolding checkRadial judge
-  not-radial f = rw (as-radial, f)
-
-  pub is-radial : b ≡ true → checkRadial (recordsOf n) s place ≡ accepted tt
-  unfolding checkRadial judge
-  is-radial t = rw (as-radial, t)
-
--- ---- the call
 module _ (N : Network) (present wanted : State) (out : List ℕ) where
   abbrev moves : List Moves
   moves = plan N present wanted

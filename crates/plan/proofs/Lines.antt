@@ -7,8 +7,9 @@ use lib.ListN.{length, getD, take, drop}
 use borrow.Rule.Slice.PartMut.{putMid}
 use Rattle.numbers.specs.UpTo.{table}
 use Rattle.numbers.specs.TableLaws.{table-more, length-table}
-use Rattle.printing.specs.Printed.{pairText, written}
-use Rattle.printing.specs.WrittenLaws.{written-sets, written-append, length-written}
+use Rattle.slices.specs.Written.{written}
+use Rattle.printing.specs.Printed.{pairText}
+use Rattle.slices.specs.WrittenLaws.{written-sets, written-append, length-written}
 use Rattle.printing.specs.LineTexts.{lines-more}
 use Rattle.plan.specs.declared.pairs.PairList.{PairList}
 use Rattle.plan.specs.Plan.{Moves, planText}

@@ -1,7 +1,7 @@
 -- The pairs as a loop over the switches makes them: the first i switches are done with, the pairs of the others are still to come, and lead from
 -- the branches flagged now to the wanted ones.
 use mathlib.Core.Path.{_≡_, refl, sym, ap, _∙_, fun-ext}
-use mathlib.Core.Bool.{Bool, true, false, not, _&&_, and-false}
+use mathlib.Core.Bool.{Bool, true, false, not, _&&_}
 use mathlib.Core.List.{List, [], _∷_, _++_, map, append-assoc, append-nil}
 use Prim.Native.Nat.{ℕ, _+_, _≤_, _<_}
 use native.Mathlib.Decide.{ℕ-discrete}
@@ -28,14 +28,16 @@ use Rattle.radiality.specs.FeederRowLaws.{flags-live, feeder-row-ends, feeder-r
 use Rattle.plan.specs.declared.pairs.PairList.{PairList}
 use Rattle.network.specs.Switches.{State, branchOf}
 use Rattle.network.specs.Listed.{switches-listed, few-switches, switch-at}
-use Rattle.plan.specs.Plan.{Pair, closings, pathBefore, opening, exchanged, pairsFrom, pairs, switchOn, movesOf, plan, checkPlan}
-use Rattle.plan.specs.Stored.{movesIn, rowOpening}
-use Rattle.plan.specs.Onward.{onward, onward-all, onward-none, onward-yes, onward-no}
+use Rattle.changes.specs.declared.refusals.Change.{Change}
+use Rattle.openings.specs.Opening.{rowOpening}
+use Rattle.plan.specs.Plan.{Pair, closings, pathBefore, opening, exchanged, pairsFrom, pairs, switchOn, movesOf, plan}
+use Rattle.plan.specs.Stored.{movesIn}
+use Rattle.changes.specs.Onward.{onward, onward-all, onward-none, onward-yes, onward-no}
 use Rattle.plan.specs.Exchanges.{opened-live}
 use Rattle.plan.specs.Stages.{Leads, next}
 use Rattle.plan.specs.Accepted.{plan-accepted, accepted-plannable}
 use Rattle.plan.specs.Planner.{pairs-lead}
-use Rattle.plan.proofs.Passing.{inside, flag-live}
+use Rattle.changes.specs.Passing.{Passed, inside, flag-live}
 use Rattle.plan.proofs.PairLists.{length-moves}
 
 -- the flags after a pair
@@ -79,34 +81,39 @@ module _ (n : PowerNetwork) (present wanted : State) where
     leads : Leads N (live N wanted) (flag flags) (left flags i)
     whole : plan N present wanted ≡ movesIn made ++ map (movesOf N) (left flags i)
 
-  module _ (ok : checkPlan N present wanted ≡ accepted tt) where
+  module _ {change : Change} (given : Passed n change present wanted) where
     pub passed : checkRecords N ≡ accepted tt
-    passed = plan-accepted N present wanted .0 ok .0
+    passed = plan-accepted N present wanted .0 (given .ok) .0
 
     all-left : pairs N present wanted ≡ left (liveFlags N present) 0
     unfolding pairs closings left closes
     all-left = rw (flags-live N present (inside n passed .counts .1), switches-listed n, onward-all closes (n .«switch_count»))
 
-    pub none-made : {before : List Bool} → before ≡ liveFlags N present → {made : PairList} → movesIn made ≡ [] → Made before made 0
+    abbrev before : List Bool
+    before = change .«present_live»
+
+    abbrev after : List Bool
+    after = change .«wanted_live»
+
+    pub none-made : {made : PairList} → movesIn made ≡ [] → Made before made 0
     unfolding plan
-    none-made p {made} e = record {
+    none-made {made} e = record {
       within = omega arith;
       few = omega (arith, sym (length-moves made) ∙ ap length e);
-      sized = ap length p ∙ length-table _ 512;
-      leads = rw (p, flags-live N present (inside n passed .counts .1), ← all-left) (pairs-lead N present wanted (accepted-plannable N present wanted ok));
-      whole = rw (e, p, ← all-left);
+      sized = ap length (given .present-live) ∙ length-table _ 512;
+      leads = rw (given .present-live, flags-live N present (inside n passed .counts .1), ← all-left) (pairs-lead N present wanted (accepted-plannable N present wanted (given .ok)));
+      whole = rw (e, given .present-live, ← all-left);
     }
 
     module _ {flags : List Bool} {made : PairList} (i : ℕ) (m : Made flags made i) where
-      pub all-made : n .«switch_count» ≤ i → (movesIn made ≡ plan N present wanted) × (made .count ≤ 512)
-      unfolding left pairsFrom
-      all-made h = (
-        sym (m .whole ∙ rw (onward-none closes (n .«switch_count») i h, append-nil)),
-        omega (arith, few-switches n passed, m .few, m .within),
-      )
+      pub few-made : made .count ≤ 512
+      few-made = omega (arith, few-switches n passed, m .few, m .within)
 
-      module _ (h : i < n .«switch_count») {at : ℕ} (here : at ≡ i)
-          {before after : List Bool} (p : before ≡ liveFlags N present) (w : after ≡ liveFlags N wanted) where
+      pub all-made : n .«switch_count» ≤ i → movesIn made ≡ plan N present wanted
+      unfolding left pairsFrom
+      all-made h = sym (m .whole ∙ rw (onward-none closes (n .«switch_count») i h, append-nil))
+
+      module _ (h : i < n .«switch_count») {at : ℕ} (here : at ≡ i) where
         -- the branch of the switch, as the code reads it
         abbrev k : ℕ
         k = getD (n .switches) at noSwitch .«branch_idx»
@@ -115,10 +122,10 @@ module _ (n : PowerNetwork) (present wanted : State) where
         on-k = ap (λ (s : Switch). s .«branch_idx») (switch-at n i h ∙ ap (λ (j : ℕ). getD (n .switches) j noSwitch) (sym here))
 
         present-live : live N present (branchOf N i) ≡ flag before k
-        present-live = rw (on-k, p) (sym (flag-live n passed present k))
+        present-live = rw (on-k, given .present-live) (sym (flag-live n passed present k))
 
         wanted-live : live N wanted (branchOf N i) ≡ flag after k
-        wanted-live = rw (on-k, w) (sym (flag-live n passed wanted k))
+        wanted-live = rw (on-k, given .wanted-live) (sym (flag-live n passed wanted k))
 
         passed-by : closes i ≡ false → Made flags made (i + 1)
         unfolding left
@@ -132,17 +139,20 @@ module _ (n : PowerNetwork) (present wanted : State) where
               whole = m .whole ∙ rw same;
             }
 
-        -- the branch is not wanted, or it is live in the present state
-        pub not-wanted : {b : Bool} → b ≡ flag after k → b ≡ false → Made flags made (i + 1)
-        unfolding closes
-        not-wanted e f = passed-by (rw (wanted-live, ← e, f))
+        -- the code's test
+        module _ {b : Bool} (x : b ≡ (flag after k && not (flag before k))) where
+          tested : closes i ≡ b
+          unfolding closes
+          tested = rw (wanted-live, present-live, x)
 
-        pub live-already : {b : Bool} → b ≡ flag before k → b ≡ true → Made flags made (i + 1)
-        unfolding closes
-        live-already e f = passed-by (rw (present-live, ← e, f, and-false))
+          pub not-closed : b ≡ false → Made flags made (i + 1)
+          not-closed e = passed-by (tested ∙ e)
 
         -- it is live in the wanted state only: a pair closes it
-        module _ {a b : Bool} (x : a ≡ flag after k) (t : a ≡ true) (y : b ≡ flag before k) (u : b ≡ false) (buses : length (n .buses) ≡ 256) {graph : Graph} (g : graph ≡ feederGraph n) where
+        module _ {b : Bool} (x : b ≡ (flag after k && not (flag before k))) (t : b ≡ true) (buses : length (n .buses) ≡ 256) where
+          abbrev graph : Graph
+          graph = change .graph
+
           abbrev f : ℕ
           f = opening N wanted (flag flags) k
 
@@ -153,8 +163,8 @@ module _ (n : PowerNetwork) (present wanted : State) where
           rest E = pairsFrom N wanted E (map (branchOf N) (onward closes (n .«switch_count») (i + 1)))
 
           first-left : left flags i ≡ q ∷ rest (exchanged (flag flags) q)
-          unfolding left pairsFrom closes
-          first-left = rw (onward-yes closes (n .«switch_count») i h (rw (wanted-live, ← x, t, present-live, ← y, u)), on-k)
+          unfolding left pairsFrom
+          first-left = rw (onward-yes closes (n .«switch_count») i h (tested x ∙ t), on-k)
 
           on : (k < feeder N .branches) × (f < feeder N .branches) × Leads N (live N wanted) (exchanged (flag flags) q) (rest (exchanged (flag flags) q))
           on = leads-on (rw first-left at (m .leads))
@@ -175,9 +185,9 @@ module _ (n : PowerNetwork) (present wanted : State) where
               = ap (λ (v : ℕ). rowPath (feederGraph n) flags v (rowNet (feederGraph n) .to k)) (ends .0)
               ∙ ap (λ (v : ℕ). rowPath (feederGraph n) flags (feeder N .from k) v) (ends .1)
               ∙ feeder-row-path n buses passed flags (omega (arith, m .sized)) _ _ (omega (arith, feeder-small N ins)) in
-              ap (λ (G : Graph). firstOf (λ j. not (flag after j)) 0 (rowPath G flags (rowNet G .from k) (rowNet G .to k))) g
+              ap (λ (G : Graph). firstOf (λ j. not (flag after j)) 0 (rowPath G flags (rowNet G .from k) (rowNet G .to k))) (given .graph)
               ∙ ap (λ (l : List ℕ). firstOf (λ j. not (flag after j)) 0 l) from-path
-              ∙ ap (λ (E : ℕ → Bool). firstOf (λ j. not (E j)) 0 (pathBefore N (flag flags) k)) (ap (λ (l : List Bool). flag l) w ∙ flags-live N wanted (ins .counts .1))
+              ∙ ap (λ (E : ℕ → Bool). firstOf (λ j. not (E j)) 0 (pathBefore N (flag flags) k)) (ap (λ (l : List Bool). flag l) (given .wanted-live) ∙ flags-live N wanted (ins .counts .1))
 
           -- what making a pair asks for
           pub pair-room : (k < 512) × (rowOpening graph flags after k < 512) × (made .count < 512)

@@ -25,7 +25,8 @@ use Rattle.network.specs.Listed.{state-accepted}
 use Rattle.network.specs.Switches.{State, byte, branchOf, operable, GoodState}
 use Rattle.radiality.specs.Feeder.{feeder, radialIn}
 use Rattle.radiality.specs.FeederLaws.{feeder-sound, feeder-small, radial-in-tree}
-use Rattle.plan.specs.Plan.{switchOn, checkRadial, differing, lockedDifferences, checkLocked, refuseLocked, checkPlan}
+use Rattle.changes.specs.Change.{checkRadial, differing, lockedDifferences, checkLocked, refuseLocked, checkPlan}
+use Rattle.plan.specs.Plan.{switchOn}
 use Rattle.plan.specs.Claim.{switchAt}
 use Rattle.plan.specs.LiveLaws.{On}
 use Rattle.plan.specs.Plannable.{Regular, Free, Plannable}

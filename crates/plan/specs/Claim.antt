@@ -17,7 +17,8 @@ use Rattle.network.specs.Live.{live}
 use Rattle.network.specs.Switches.{State, byte, branchOf, operable, GoodState}
 use Rattle.graph.specs.Graph.{Path, Loop, Tree}
 use Rattle.radiality.specs.Feeder.{feeder, LiveIn}
-use Rattle.plan.specs.Plan.{Moves, plan, checkPlan}
+use Rattle.changes.specs.Change.{checkPlan}
+use Rattle.plan.specs.Plan.{Moves, plan}
 
 -- ---- the two kinds of step
 -- the position of the switch with this id

@@ -8,7 +8,8 @@ use lib.ListN.{length}
 use Rattle.network.specs.Records.{Network}
 use Rattle.network.specs.Answers.{accepted}
 use Rattle.network.specs.Switches.{State}
-use Rattle.plan.specs.Plan.{Moves, plan, checkPlan}
+use Rattle.changes.specs.Change.{checkPlan}
+use Rattle.plan.specs.Plan.{Moves, plan}
 use Rattle.plan.specs.Claim.{run, after, SameLive, othersCarriedOut}
 use Rattle.plan.specs.Proof.{demand3}
 

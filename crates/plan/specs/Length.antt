@@ -19,9 +19,9 @@ use Rattle.graph.specs.Radial.{radial}
 use Rattle.graph.specs.Walk.{walk}
 use Rattle.radiality.specs.Feeder.{feeder, radialIn}
 use Rattle.printing.specs.Printed.{pair, pairText}
-use Rattle.printing.specs.WrittenLaws.{length-frame}
-use Rattle.printing.specs.LineTexts.{length-lines}
-use Rattle.plan.specs.Plan.{Moves, plan, pairs, movesOf, checkPlan, planText}
+use Rattle.printing.specs.LineTexts.{length-frame, length-lines}
+use Rattle.changes.specs.Change.{checkPlan}
+use Rattle.plan.specs.Plan.{Moves, plan, pairs, movesOf, planText}
 use Rattle.plan.specs.Missing.{missing, lacks, lacks-so}
 use Rattle.plan.specs.Stages.{leads-missing}
 use Rattle.plan.specs.Planner.{pairs-lead}

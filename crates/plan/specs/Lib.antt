@@ -1,6 +1,5 @@
 pub mod Plan
 pub mod Stored
-pub mod Onward
 pub mod Claim
 pub mod LiveLaws
 pub mod Exchanges

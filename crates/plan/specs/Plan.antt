@@ -1,20 +1,20 @@
--- Document 01's planner: pairs of branches, the switches that a pair moves, the refusals, and the lines that are written.
-use mathlib.Core.Bool.{Bool, true, false, cond, not, _&&_, _||_}
+-- Document 01's planner: pairs of branches, the switches that a pair moves, and the lines that are written.
+use mathlib.Core.Bool.{Bool, true, false, cond, not, _&&_}
 use mathlib.Core.List.{List, [], _∷_, map, flatMap}
 use Prim.Native.Nat.{ℕ}
 use lib.Dec.{eqb}
 use lib.ListN.{length, getD}
 use Rattle.numbers.specs.Choose.{those, firstOf, indexOf}
 use Rattle.network.specs.Records.{Network, noSwitch}
-use Rattle.network.specs.Switches.{State, byte, branchOf, operable}
-use Rattle.network.specs.Answers.{Answer, accepted, refused, _andThen_, _if_, judge}
+use Rattle.network.specs.Switches.{State, branchOf}
+use Rattle.network.specs.Answers.{Answer, accepted, refused}
 use Rattle.network.specs.Faults.{on}
-use Rattle.network.specs.Check.{checkRecords}
-use Rattle.network.specs.Live.{live, checkState}
+use Rattle.network.specs.Live.{live}
 use Rattle.printing.specs.Printed.{pairText}
 use Rattle.printing.specs.Calls.{Call, called}
 use Rattle.graph.specs.Walk.{bfsPath}
-use Rattle.radiality.specs.Feeder.{feeder, radialIn}
+use Rattle.radiality.specs.Feeder.{feeder}
+use Rattle.changes.specs.Change.{checkPlan}
 use Rattle.plan.specs.declared.planner.PlanAnswer.{PlanAnswer}
 use Rattle.plan.specs.declared.planner.PlanAnswer.the-variants.{Pairs, Refused}
 
@@ -66,37 +66,6 @@ movesOf N q = record { closes = switchOn N (q .closed); opens = switchOn N (q .o
 -- the planner's answer
 unfoldable pub plan : Network → State → State → List Moves
 plan N present wanted = map (movesOf N) (pairs N present wanted)
-
--- ---- refusals 11 and 12
-unfoldable pub checkRadial : Network → State → ℕ → Answer (Unit {0})
-checkRadial N s place = judge ((11 if not (radialIn N s)) ∷ []) place
-
--- live in one of the two states only
-unfoldable pub differing : Network → State → State → ℕ → Bool
-differing N present wanted k = (live N present k && not (live N wanted k)) || (live N wanted k && not (live N present k))
-
--- the switches that differ on a branch that is live in one of the two states only, and are locked
-unfoldable pub lockedDifferences : Network → State → State → List ℕ
-lockedDifferences N present wanted =
-    those (λ i. not (eqb (byte present i) (byte wanted i)) && (differing N present wanted (branchOf N i) && not (operable N i))) (length (N .switches))
-
--- refusal 12: "first such id in list order"
-abbrev pub refuseLocked : Network → List ℕ → Answer (Unit {0})
-refuseLocked N [] = accepted tt
-refuseLocked N (i ∷ l) = refused 12 (getD (N .switches) i noSwitch .id)
-
-unfoldable pub checkLocked : Network → State → State → Answer (Unit {0})
-checkLocked N present wanted = refuseLocked N (lockedDifferences N present wanted)
-
--- "Calls test the network, then 10 (present first), 11 (likewise), 12"
-unfoldable pub checkPlan : Network → State → State → Answer (Unit {0})
-checkPlan N present wanted =
-    checkRecords N
-    andThen checkState N present 0
-    andThen checkState N wanted 1
-    andThen checkRadial N present 0
-    andThen checkRadial N wanted 1
-    andThen checkLocked N present wanted
 
 -- ---- the call
 -- "83: id closed, id opened", a line for each pair

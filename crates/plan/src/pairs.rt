@@ -1,24 +1,25 @@
 // The pairs of a plan.
 ghost use mathlib.Core.Path.{_≡_};
-ghost use mathlib.Core.Bool.{true, false};
-ghost use mathlib.Core.List.{List, [], _∷_, _++_};
-ghost use Prim.Native.Nat.{ℕ, _<_, _≤_};
+ghost use mathlib.Core.Bool.{true, false, not, _&&_};
+ghost use mathlib.Core.List.{[], _∷_, _++_};
+ghost use Prim.Native.Nat.{_<_, _≤_};
 ghost use lib.ListN.{getD, set};
 ghost use Rattle.numbers.specs.UpTo.{table};
 ghost use Rattle.network.specs.Answers.{accepted};
 ghost use Rattle.network.specs.Check.{checkRecords};
 ghost use Rattle.network.specs.Records.{recordsOf};
-ghost use Rattle.graph.specs.Rows.{pathOf};
-ghost use Rattle.plan.specs.Plan.{switchOn, plan, checkPlan};
-ghost use Rattle.plan.specs.Stored.{movesIn, firstUnwanted, rowOpening};
-use crate::live::flagged;
-use crate::live::live_in;
+ghost use Rattle.network.specs.Switches.{State};
+ghost use Rattle.graph.specs.Rows.{flag};
+ghost use Rattle.changes.specs.Passing.{Passed};
+ghost use Rattle.openings.specs.Opening.{rowOpening};
+ghost use Rattle.plan.specs.Plan.{switchOn, plan};
+ghost use Rattle.plan.specs.Stored.{movesIn};
+use changes::flags::flagged;
+use changes::refusals::Change;
 use graph::rows::Graph;
-use graph::walks::Path;
 use network::topology::PowerNetwork;
 use numbers::wide16;
-use paths::path::bfs_path;
-use radiality::feeder::graph_of;
+use openings::opening::opening;
 
 // The pairs of a plan in order: for each the id of the switch that it closes and the id of the one that it opens. Each closes another switch,
 // so that there are no more of them than switches.
@@ -59,35 +60,6 @@ struct Stage {
     pairs: PairList,
 }
 
-// The first branch of a path that is not wanted; 0 where all are.
-fn first_unwanted(path: Path, wanted: [bool; 512]) -> u16
-    requires { ⌜ path .count ≤ 256 ⌝ }
-    ensures { λ r. ⌜ ((l : List ℕ) → path ≡ pathOf l → r ≡ firstUnwanted wanted l) ⌝ }
-{
-    let n = path.count;
-    let mut i = 0u16;
-    while i < n {
-        let at = wide16(i);
-        let k = path.branch[at];
-        if !flagged(&wanted, k) {
-            return k;
-        }
-        i += 1;
-    }
-    0
-}
-
-// The branch that is opened once branch k is closed: the first unwanted one on the path between its ends, from the from bus.
-fn opening(graph: Graph, live: [bool; 512], wanted: [bool; 512], k: u16) -> u16
-    requires { ⌜ k < 512 ⌝ }
-    ensures { λ r. ⌜ r ≡ rowOpening graph live wanted k ⌝ }
-{
-    let from_half = wide16(2 * k + 1);
-    let to_half = wide16(2 * k);
-    let path = bfs_path(graph, live, graph.far[from_half], graph.far[to_half]);
-    first_unwanted(path, wanted)
-}
-
 // For each branch position the id of the first listed switch on it, and 0 where there is none: from the last switch to the first, so that the
 // first one stands.
 fn switch_ids(network: PowerNetwork) -> [u16; 512]
@@ -125,15 +97,24 @@ fn pair_done(stage: Stage, graph: Graph, wanted: [bool; 512], ids: [u16; 512], k
     }
 }
 
-// The plan: a pair for each branch live in the wanted state only, by switch order.
-pub(crate) fn pairs_of(network: PowerNetwork, present: &[u8], wanted: &[u8]) -> PairList
-    requires { ⌜ checkPlan (recordsOf network) (now present) (now wanted) ≡ accepted tt ⌝ }
-    ensures { λ r. ⌜ (movesIn r ≡ plan (recordsOf network) (now (present .entry)) (now (wanted .entry))) × (r .count ≤ 512) ⌝ }
+// Whether a pair closes branch k: it is live in the wanted state only.
+fn is_closed(present: &[bool], wanted: &[bool], k: u16) -> bool
+    ensures { λ r. ⌜ r ≡ (flag (now (wanted .entry)) k && not (flag (now (present .entry)) k)) ⌝ }
 {
-    let graph = graph_of(network);
+    if flagged(wanted, k) {
+        return !flagged(present, k);
+    }
+    false
+}
+
+// The plan of a change that is accepted: a pair for each branch live in the wanted state only, by switch order.
+pub(crate) fn pairs_of(network: PowerNetwork, change: Change) -> PairList
+    requires { ⌜ ((present : State) × (wanted : State) × Passed network change present wanted) ⌝ }
+    ensures { λ r. ⌜ (r .count ≤ 512) × ((present wanted : State) → Passed network change present wanted → movesIn r ≡ plan (recordsOf network) present wanted) ⌝ }
+{
     let ids = switch_ids(network);
-    let present_live = live_in(network, present);
-    let wanted_live = live_in(network, wanted);
+    let present_live = change.present_live;
+    let wanted_live = change.wanted_live;
     let n = network.switch_count;
     let mut stage = Stage {
         live: present_live,
@@ -143,10 +124,8 @@ pub(crate) fn pairs_of(network: PowerNetwork, present: &[u8], wanted: &[u8]) -> 
     while i < n {
         let at = wide16(i);
         let k = network.switches[at].branch_idx;
-        if flagged(&wanted_live, k) {
-            if !flagged(&present_live, k) {
-                stage = pair_done(stage, graph, wanted_live, ids, k);
-            }
+        if is_closed(&present_live, &wanted_live, k) {
+            stage = pair_done(stage, change.graph, wanted_live, ids, k);
         }
         i += 1;
     }

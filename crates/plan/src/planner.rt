@@ -2,13 +2,13 @@
 ghost use mathlib.Core.Path.{_≡_};
 ghost use Prim.Native.Nat.{_*_, _≤_};
 ghost use lib.ListN.{length};
-ghost use Rattle.printing.specs.Printed.{written};
+ghost use Rattle.slices.specs.Written.{written};
 ghost use Rattle.network.specs.Records.{recordsOf};
 ghost use Rattle.plan.specs.Plan.{planText, planned, planAnswerOf};
 ghost use Rattle.plan.specs.Stored.{movesIn};
 use crate::pairs::PairList;
 use crate::pairs::pairs_of;
-use crate::refusals::check_plan;
+use changes::refusals::check_plan;
 use network::error::Verdict;
 use network::topology::PowerNetwork;
 use numbers::wide16;
@@ -40,10 +40,12 @@ pub fn plan(network: PowerNetwork, present: &[u8], wanted: &[u8], out: &mut [u8]
     ensures { λ r. ⌜ record { answer = planAnswerOf r; out = now (out .exit) }
         ≡ planned (recordsOf network) (now (present .entry)) (now (wanted .entry)) (now (out .entry)) ⌝ }
 {
-    match check_plan(network, present, wanted) {
+    let change = check_plan(network, present, wanted);
+    let verdict = change.verdict;
+    match verdict {
         Verdict::Refused { number, place } => PlanAnswer::Refused { number, place },
         Verdict::Accepted => {
-            let pairs = pairs_of(network, present, wanted);
+            let pairs = pairs_of(network, change);
             if out.len() < PAIR_LENGTH * wide16(pairs.count) {
                 return PlanAnswer::Refused {
                     number: 13,

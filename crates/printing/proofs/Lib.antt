@@ -1,1 +1,1 @@
-pub mod WriterLaws
+pub mod FrameNumbers

@@ -4,7 +4,7 @@ use Prim.Native.Nat.{ℕ}
 use lib.Dec.{ltb}
 use lib.ListN.{length}
 use Rattle.network.specs.Answers.{Answer, accepted, refused, _andThen_, _if_, judge}
-use Rattle.printing.specs.Printed.{written}
+use Rattle.slices.specs.Written.{written}
 
 -- refusal 13: "lent slice shorter than the answer"
 unfoldable pub checkRoom : ℕ → ℕ → Answer (Unit {0})

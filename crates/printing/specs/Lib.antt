@@ -1,5 +1,4 @@
 pub mod Printed
-pub mod WrittenLaws
 pub mod LineTexts
 pub mod Calls
 pub mod CallLaws

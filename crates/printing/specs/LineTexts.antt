@@ -1,10 +1,19 @@
--- Lines of one length, one for each entry of a list.
+-- Lines: how many bytes a frame's line has, and lines of one length, one for each entry of a list.
 use mathlib.Core.Path.{_≡_, sym}
 use mathlib.Core.List.{List, [], _∷_, _++_, flatMap, append-assoc, append-nil}
-use Prim.Native.Nat.{ℕ, _*_}
+use Prim.Native.Nat.{ℕ, _+_, _*_}
 use native.Mathlib.Omega.{arith}
 use native.Mathlib.Nat.{mul-suc, mul-zero}
 use lib.ListN.{length, length-append}
+use Rattle.frames.specs.Hex.{Fields, total}
+use Rattle.frames.specs.Text.{Frame, layout}
+use Rattle.frames.specs.Acceptable.{frameText}
+use Rattle.frames.specs.HexLaws.{length-fields}
+
+-- its line feed included
+pub length-frame : (F : Frame) (f : Fields (F .widths)) → length (frameText F f) ≡ total (layout F) + 1
+unfolding frameText
+length-frame F f = rw (length-append, length-fields)
 
 module _ {A : Type 0} (line : A → List ℕ) where
   pub lines-more : (l : List A) (x : A) → flatMap line (l ++ (x ∷ [])) ≡ flatMap line l ++ line x

@@ -1,18 +1,12 @@
--- The frames that are printed (document 01, section Triangle), and what a lent slice holds once bytes are written into it.
+-- The frames that are printed (document 01, section Triangle).
 use mathlib.Core.Bool.{Bool, cond}
-use mathlib.Core.List.{List, [], _∷_, _++_}
+use mathlib.Core.List.{List, [], _∷_}
 use Prim.Native.Nat.{ℕ}
-use lib.Dec.{leb}
-use lib.ListN.{length, drop}
 use Rattle.printing.specs.declared.writer.SwitchAction.{SwitchAction}
 use Rattle.printing.specs.declared.writer.SwitchOperation.{SwitchOperation}
 use Rattle.printing.specs.declared.writer.SwitchAction.the-variants.{Open, Close}
 use Rattle.frames.specs.Text.{Frame}
 use Rattle.frames.specs.Acceptable.{frameText}
-
--- bytes at the front of a slice: "a longer slice keeps its tail", and one that is too short keeps every byte
-unfoldable pub written : List ℕ → List ℕ → List ℕ
-written bytes out = cond (leb (length bytes) (length out)) (bytes ++ drop (length bytes) out) out
 
 -- ---- 81
 -- "radial byte of the best state, base loss, best loss, reduction percent, iterations (u16), converged"

@@ -6,7 +6,8 @@ use Prim.Native.Nat.{ℕ}
 use Rattle.printing.specs.declared.writer.SwitchAction.the-variants.{Open, Close}
 use Rattle.frames.specs.Hex.{digit, digits, writeFields}
 use Rattle.frames.specs.Acceptable.{frameText}
-use Rattle.printing.specs.Printed.{written, answerText, operationText, pairText, refusalText}
+use Rattle.slices.specs.Written.{written}
+use Rattle.printing.specs.Printed.{answerText, operationText, pairText, refusalText}
 
 -- a line of w digits, written as one number, and its line feed
 abbrev line : ℕ → ℕ → List ℕ

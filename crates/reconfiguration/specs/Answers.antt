@@ -15,11 +15,12 @@ use Rattle.network.specs.Inside.{Inside}
 use Rattle.network.specs.InsideLaws.{check-inside}
 use Rattle.network.specs.Live.{baseState}
 use Rattle.network.specs.Switches.{branchOf, GoodState}
-use Rattle.printing.specs.Printed.{written}
+use Rattle.slices.specs.Written.{written}
 use Rattle.printing.specs.CallLaws.{call-passed}
 use Rattle.radiality.specs.Feeder.{radialIn}
 use Rattle.losses.specs.Loss.{lossIn}
-use Rattle.plan.specs.Plan.{plan, checkPlan, planText, planned}
+use Rattle.changes.specs.Change.{checkPlan}
+use Rattle.plan.specs.Plan.{plan, planText, planned}
 use Rattle.plan.specs.Claim.{SwitchingPlan}
 use Rattle.plan.specs.Plannable.{Free}
 use Rattle.plan.specs.Accepted.{plan-accepted}

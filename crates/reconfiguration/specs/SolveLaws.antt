@@ -22,7 +22,7 @@ use Rattle.network.specs.Live.{live, baseState}
 use Rattle.radiality.specs.Feeder.{radialIn}
 use Rattle.radiality.specs.FeederRows.{liveFlags}
 use Rattle.losses.specs.Loss.{lossIn}
-use Rattle.printing.specs.Printed.{written}
+use Rattle.slices.specs.Written.{written}
 use Rattle.printing.specs.CallLaws.{call-refused, call-short, call-done}
 use Rattle.reconfiguration.specs.declared.exchange.BranchExchange as exchange-code
 use Rattle.reconfiguration.specs.declared.tabu.TabuSearch as tabu-code

@@ -27,8 +27,8 @@ use network::error::Verdict;
 use network::switch::ReconfigAlgorithm;
 use network::topology::PowerNetwork;
 use numbers::wide16;
-use printing::writer::write_bytes;
 use radiality::feeder::graph_of;
+use slices::writer::write_bytes;
 
 // What is answered beside the best state.
 pub struct ReconfigResult {

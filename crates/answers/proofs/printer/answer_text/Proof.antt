@@ -3,7 +3,7 @@ use mathlib.Core.Path.{ap, _∙_}
 use native.Mathlib.Omega.{arith}
 use native.Mathlib.Numerals.{unary-clauses}
 use lib.ListN.{length}
-use Rattle.printing.specs.WrittenLaws.{length-written}
+use Rattle.slices.specs.WrittenLaws.{length-written}
 use Rattle.answers.specs.PrintingLaws.{printed-short}
 use Rattle.answers.proofs.PrinterLaws.{no-room, all-printed}
 use borrow.Author.Needs.{needs}

@@ -3,7 +3,7 @@ use mathlib.Core.Path.{ap, _∙_}
 use native.Mathlib.Omega.{arith}
 use lib.ListN.{length}
 use Rattle.network.specs.Records.{recordsOf}
-use Rattle.printing.specs.WrittenLaws.{length-written}
+use Rattle.slices.specs.WrittenLaws.{length-written}
 use Rattle.reconfiguration.specs.Solve.{result}
 use Rattle.answers.specs.Printing.{moveLines, networkText}
 use Rattle.answers.specs.PrintingLaws.{network-short}

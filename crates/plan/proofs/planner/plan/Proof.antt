@@ -1,5 +1,5 @@
 -- `plan` meets its contract: it is refused, has no room, or writes the lines of the pairs.
-use Rattle.network.specs.AnswerLaws.{accepted-so}
+use Rattle.changes.specs.Passing.{verdict-so, accepted-passed}
 use Rattle.plan.proofs.Answering.{not-accepted, no-room, lines-written}
 use borrow.Author.Needs.{needs}
 use Rattle.plan.proofs.planner.plan.Statement.{statement}
@@ -8,14 +8,14 @@ use Rattle.plan.proofs.planner.plan.Tie as tie
 check-plan-requires : tie.Need-check-plan-requires
 check-plan-requires c κs = search needs
 
-enum-known-number : tie.Need-enum-known-number
-enum-known-number c = search needs
+enum-known-verdict : tie.Need-enum-known-verdict
+enum-known-verdict c = search needs
 
 enum-told : tie.Need-enum-told
 enum-told c = search needs
 
 pairs-of-requires : tie.Need-pairs-of-requires
-pairs-of-requires c κs = accepted-so (c .enum-told .given .1) (c .before .before .check-plan .ensures)
+pairs-of-requires c κs = (_, _, accepted-passed _ (c .enum-told .given .1) (c .before .before .check-plan .ensures))
 
 wide16-requires : tie.Need-wide16-requires
 wide16-requires c κs = search needs
@@ -27,13 +27,16 @@ returns : tie.Need-returns
 returns c =
     let p = c .before .before in
     let t = p .before in
-    no-room _ _ _ _ (accepted-so (t .enum-told .given .1) (t .before .before .check-plan .ensures)) _ (p .pairs-of .ensures .0) (rw (c .before .wide16 .ensures .0) at (c .if1 .taken))
+    let given = accepted-passed _ (t .enum-told .given .1) (t .before .before .check-plan .ensures) in
+    no-room _ _ _ _ (given .ok) _ (p .pairs-of .ensures .1 _ _ given) (rw (c .before .wide16 .ensures .0) at (c .if1 .taken))
 
 write-pairs-requires : tie.Need-write-pairs-requires
 write-pairs-requires c κs = search needs
 
 returns-2 : tie.Need-returns-2
-returns-2 c = not-accepted _ _ _ _ (c .before .number .given .1) (c .before .before .before .check-plan .ensures)
+returns-2 c =
+    let told = c .before .before .before .check-plan in
+    not-accepted _ _ _ _ (c .before .verdict .given .1) (verdict-so _ _ _ (told .result) (told .ensures))
 
 same-length : tie.Need-same-length
 same-length c = search needs
@@ -44,14 +47,15 @@ returns-3 c =
     let e = w .before .before in
     let p = e .before .before in
     let t = p .before in
-    lines-written _ _ _ _ (accepted-so (t .enum-told .given .1) (t .before .before .check-plan .ensures)) _ (p .pairs-of .ensures .0) (rw (e .before .wide16 .ensures .0) at (e .if1 .left)) (w .write-pairs .ensures)
+    let given = accepted-passed _ (t .enum-told .given .1) (t .before .before .check-plan .ensures) in
+    lines-written _ _ _ _ (given .ok) _ (p .pairs-of .ensures .1 _ _ given) (rw (e .before .wide16 .ensures .0) at (e .if1 .left)) (w .write-pairs .ensures)
 
 pub plan-spec : {M : Type 1} → statement M
 plan-spec =
     tie.close
     (tie.spec
     check-plan-requires
-    enum-known-number
+    enum-known-verdict
     enum-told
     pairs-of-requires
     wide16-requires

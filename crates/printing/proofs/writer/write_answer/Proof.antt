@@ -1,10 +1,7 @@
--- `write_answer` meets its contract: the slice is too short for the frame, or each field is stored behind the one before it.
-use mathlib.Core.Path.{ap, _∙_}
-use native.Mathlib.Omega.{arith}
-use lib.ListN.{length}
+-- `write_answer` meets its contract: the slice is too short for the frame, or its pieces are written one behind the other.
+use mathlib.Core.Path.{_∙_}
 use Rattle.printing.specs.Printed.{answer, answerText}
-use Rattle.printing.specs.WrittenLaws.{length-written}
-use Rattle.printing.proofs.WriterLaws.{stores, frame-short, frame-stored}
+use Rattle.printing.proofs.FrameNumbers.{frame-short, answer-written}
 use borrow.Author.Needs.{needs}
 use Rattle.printing.proofs.writer.write_answer.Statement.{statement}
 use Rattle.printing.proofs.writer.write_answer.Tie as tie
@@ -13,65 +10,89 @@ returns : tie.Need-returns
 unfolding answerText
 returns c = frame-short answer (_, (_, (_, (_, (_, (_, tt)))))) _ (c .if1 .taken)
 
-write-field-requires : tie.Need-write-field-requires
-write-field-requires c κs = search needs
-
 truth-byte-requires : tie.Need-truth-byte-requires
 truth-byte-requires c κs = search needs
 
-cast-write-field : tie.Need-cast-write-field
-cast-write-field c = search needs
+cast-head : tie.Need-cast-head
+cast-head c = search needs
 
-write-field-requires-2 : tie.Need-write-field-requires-2
-write-field-requires-2 c κs = search needs
+add-head : tie.Need-add-head
+add-head c = search needs
 
-write-field-requires-3 : tie.Need-write-field-requires-3
-write-field-requires-3 c κs = search needs
-
-write-field-requires-4 : tie.Need-write-field-requires-4
-write-field-requires-4 c κs = search needs
-
-write-field-requires-5 : tie.Need-write-field-requires-5
-write-field-requires-5 c κs = search needs
-
-write-field-requires-6 : tie.Need-write-field-requires-6
-write-field-requires-6 c κs = search needs
+mul-tail : tie.Need-mul-tail
+mul-tail c = search needs
 
 truth-byte-requires-2 : tie.Need-truth-byte-requires-2
 truth-byte-requires-2 c κs = search needs
 
-cast-write-field-2 : tie.Need-cast-write-field-2
-cast-write-field-2 c = search needs
+cast-tail : tie.Need-cast-tail
+cast-tail c = search needs
 
-write-field-requires-7 : tie.Need-write-field-requires-7
-write-field-requires-7 c κs = search needs
+add-tail : tie.Need-add-tail
+add-tail c = search needs
 
-slice-write-out : tie.Need-slice-write-out
-slice-write-out c = search needs
+write-digits-requires : tie.Need-write-digits-requires
+write-digits-requires c κs = search needs
 
-returns-2 : tie.Need-returns-2
-unfolding answerText stores
-returns-2 c = frame-stored answer (_, (_, (_, (_, (_, (_, tt)))))) _ (c .before .before .write-field7 .last .0) (omega arith) (cc)
+sub-write-losses : tie.Need-sub-write-losses
+sub-write-losses c = search needs
+
+part-write-losses-start : tie.Need-part-write-losses-start
+part-write-losses-start c = search needs
+
+part-write-losses-end : tie.Need-part-write-losses-end
+part-write-losses-end c = search needs
+
+write-losses-requires : tie.Need-write-losses-requires
+write-losses-requires c κs = search needs
+
+sub-write-line : tie.Need-sub-write-line
+sub-write-line c = search needs
+
+part-write-line-start : tie.Need-part-write-line-start
+part-write-line-start c = search needs
+
+part-write-line-end : tie.Need-part-write-line-end
+part-write-line-end c = search needs
+
+write-line-requires : tie.Need-write-line-requires
+write-line-requires c κs = search needs
 
 same-length : tie.Need-same-length
-same-length c = ap length (returns-2 c) ∙ length-written _ _
+same-length c = search needs
+
+returns-2 : tie.Need-returns-2
+unfolding answerText
+returns-2 c =
+    let line = c .before .before in
+    let losses = line .before .before .before .before in
+    let first = losses .before .before .before .before in
+    let t = first .before .before in
+    let radial = t .before .truth-byte in
+    let converged = t .truth-byte2 in
+    answer-written (radial .result) _ _ _ _ (converged .result) (search needs) (search needs) (search needs) _ (t .before .before .if1 .left) (first .write-digits .ensures) (losses .write-losses .ensures) (line .write-line .ensures)
+    ∙ rw (radial .ensures, converged .ensures)
 
 pub write-answer-spec : {M : Type 1} → statement M
 write-answer-spec =
     tie.close
     (tie.spec
     returns
-    write-field-requires
     truth-byte-requires
-    cast-write-field
-    write-field-requires-2
-    write-field-requires-3
-    write-field-requires-4
-    write-field-requires-5
-    write-field-requires-6
+    cast-head
+    add-head
+    mul-tail
     truth-byte-requires-2
-    cast-write-field-2
-    write-field-requires-7
-    slice-write-out
+    cast-tail
+    add-tail
+    write-digits-requires
+    sub-write-losses
+    part-write-losses-start
+    part-write-losses-end
+    write-losses-requires
+    sub-write-line
+    part-write-line-start
+    part-write-line-end
+    write-line-requires
     same-length
     returns-2)

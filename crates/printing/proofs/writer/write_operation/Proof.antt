@@ -1,57 +1,50 @@
--- `write_operation` meets its contract: the slice is too short for the frame, or each field is stored behind the one before it.
-use mathlib.Core.Path.{ap, _∙_}
+-- `write_operation` meets its contract: the fields make one number, whose digits are theirs.
 use native.Mathlib.Omega.{arith}
-use lib.ListN.{length}
+use lib.Dec.{lit<}
 use Rattle.printing.specs.Printed.{operation, operationText}
-use Rattle.printing.specs.WrittenLaws.{length-written}
-use Rattle.printing.proofs.WriterLaws.{stores, frame-short, frame-stored}
+use Rattle.printing.proofs.FrameNumbers.{frame-line}
 use borrow.Author.Needs.{needs}
 use Rattle.printing.proofs.writer.write_operation.Statement.{statement}
 use Rattle.printing.proofs.writer.write_operation.Tie as tie
 
-returns : tie.Need-returns
-unfolding operationText
-returns c = frame-short operation (_, (_, tt)) _ (c .if1 .taken)
+cast-fields : tie.Need-cast-fields
+cast-fields c = search needs
 
-write-field-requires : tie.Need-write-field-requires
-write-field-requires c κs = search needs
-
-write-field-requires-2 : tie.Need-write-field-requires-2
-write-field-requires-2 c κs = search needs
-
-cast-write-field-2 : tie.Need-cast-write-field-2
-cast-write-field-2 c = search needs
+mul-fields : tie.Need-mul-fields
+mul-fields c = search needs
 
 action-byte-requires : tie.Need-action-byte-requires
 action-byte-requires c κs = search needs
 
-cast-write-field : tie.Need-cast-write-field
-cast-write-field c = search needs
+cast-fields-2 : tie.Need-cast-fields-2
+cast-fields-2 c = search needs
 
-write-field-requires-3 : tie.Need-write-field-requires-3
-write-field-requires-3 c κs = search needs
+add-fields : tie.Need-add-fields
+add-fields c = search needs
 
-slice-write-out : tie.Need-slice-write-out
-slice-write-out c = search needs
+add-write-line : tie.Need-add-write-line
+add-write-line c = search needs
 
-returns-2 : tie.Need-returns-2
-unfolding operationText stores
-returns-2 c = frame-stored operation (_, (_, tt)) _ (c .before .before .write-field3 .last .0) (omega arith) (cc)
+write-line-requires : tie.Need-write-line-requires
+write-line-requires c κs = search needs
 
 same-length : tie.Need-same-length
-same-length c = ap length (returns-2 c) ∙ length-written _ _
+same-length c = search needs
+
+returns : tie.Need-returns
+unfolding operationText
+returns c = frame-line operation (_, (_, tt)) _ (lit< tt, (search needs, (search needs, tt))) (omega arith) (c .before .before .write-line .ensures)
 
 pub write-operation-spec : {M : Type 1} → statement M
 write-operation-spec =
     tie.close
     (tie.spec
-    returns
-    write-field-requires
-    cast-write-field
-    write-field-requires-2
+    cast-fields
+    mul-fields
     action-byte-requires
-    cast-write-field-2
-    write-field-requires-3
-    slice-write-out
+    cast-fields-2
+    add-fields
+    add-write-line
+    write-line-requires
     same-length
-    returns-2)
+    returns)

@@ -1,45 +1,32 @@
--- `write_pair` meets its contract: the slice is too short for the frame, or each field is stored behind the one before it.
-use mathlib.Core.Path.{ap, _∙_}
+-- `write_pair` meets its contract: the fields make one number, whose digits are theirs.
 use native.Mathlib.Omega.{arith}
-use lib.ListN.{length}
+use lib.Dec.{lit<}
 use Rattle.printing.specs.Printed.{pair, pairText}
-use Rattle.printing.specs.WrittenLaws.{length-written}
-use Rattle.printing.proofs.WriterLaws.{stores, frame-short, frame-stored}
+use Rattle.printing.proofs.FrameNumbers.{frame-line}
 use borrow.Author.Needs.{needs}
 use Rattle.printing.proofs.writer.write_pair.Statement.{statement}
 use Rattle.printing.proofs.writer.write_pair.Tie as tie
 
-returns : tie.Need-returns
-unfolding pairText
-returns c = frame-short pair (_, (_, tt)) _ (c .if1 .taken)
+mul-fields : tie.Need-mul-fields
+mul-fields c = search needs
 
-write-field-requires : tie.Need-write-field-requires
-write-field-requires c κs = search needs
+add-fields : tie.Need-add-fields
+add-fields c = search needs
 
-write-field-requires-2 : tie.Need-write-field-requires-2
-write-field-requires-2 c κs = search needs
+add-write-line : tie.Need-add-write-line
+add-write-line c = search needs
 
-write-field-requires-3 : tie.Need-write-field-requires-3
-write-field-requires-3 c κs = search needs
-
-slice-write-out : tie.Need-slice-write-out
-slice-write-out c = search needs
-
-returns-2 : tie.Need-returns-2
-unfolding pairText stores
-returns-2 c = frame-stored pair (_, (_, tt)) _ (c .before .before .write-field3 .last .0) (omega arith) (cc)
+write-line-requires : tie.Need-write-line-requires
+write-line-requires c κs = search needs
 
 same-length : tie.Need-same-length
-same-length c = ap length (returns-2 c) ∙ length-written _ _
+same-length c = search needs
+
+returns : tie.Need-returns
+unfolding pairText
+returns c = frame-line pair (_, (_, tt)) _ (lit< tt, (search needs, (search needs, tt))) (omega arith) (c .before .before .write-line .ensures)
 
 pub write-pair-spec : {M : Type 1} → statement M
 write-pair-spec =
     tie.close
-    (tie.spec
-    returns
-    write-field-requires
-    write-field-requires-2
-    write-field-requires-3
-    slice-write-out
-    same-length
-    returns-2)
+    (tie.spec mul-fields add-fields add-write-line write-line-requires same-length returns)

@@ -1,0 +1,73 @@
+-- Document 01's refusals of a change from a present state of the switches to a wanted one, and what the judging of it answers.
+use mathlib.Core.Bool.{Bool, not, _&&_, _||_}
+use mathlib.Core.List.{List, [], _∷_}
+use Prim.Native.Nat.{ℕ}
+use lib.Dec.{eqb}
+use lib.ListN.{length, getD}
+use Rattle.numbers.specs.Choose.{those}
+use Rattle.network.specs.declared.topology.PowerNetwork.{PowerNetwork}
+use Rattle.network.specs.Records.{Network, noSwitch, recordsOf}
+use Rattle.network.specs.Switches.{State, byte, branchOf, operable}
+use Rattle.network.specs.Answers.{Answer, accepted, refused, answerOf, _andThen_, _if_, judge}
+use Rattle.network.specs.Check.{checkRecords}
+use Rattle.network.specs.Live.{live, checkState}
+use Rattle.network.specs.Configuration.{configurationOf}
+use Rattle.graph.specs.declared.rows.Graph.{Graph}
+use Rattle.radiality.specs.Feeder.{radialIn}
+use Rattle.radiality.specs.FeederRows.{feederGraph, liveFlags}
+use Rattle.changes.specs.declared.refusals.Change.{Change}
+
+-- ---- refusals 11 and 12
+unfoldable pub checkRadial : Network → State → ℕ → Answer (Unit {0})
+checkRadial N s place = judge ((11 if not (radialIn N s)) ∷ []) place
+
+-- live in one of the two states only
+unfoldable pub differing : Network → State → State → ℕ → Bool
+differing N present wanted k = (live N present k && not (live N wanted k)) || (live N wanted k && not (live N present k))
+
+-- the switches that differ on a branch that is live in one of the two states only, and are locked
+unfoldable pub lockedDifferences : Network → State → State → List ℕ
+lockedDifferences N present wanted =
+    those (λ i. not (eqb (byte present i) (byte wanted i)) && (differing N present wanted (branchOf N i) && not (operable N i))) (length (N .switches))
+
+-- refusal 12: "first such id in list order"
+abbrev pub refuseLocked : Network → List ℕ → Answer (Unit {0})
+refuseLocked N [] = accepted tt
+refuseLocked N (i ∷ l) = refused 12 (getD (N .switches) i noSwitch .id)
+
+unfoldable pub checkLocked : Network → State → State → Answer (Unit {0})
+checkLocked N present wanted = refuseLocked N (lockedDifferences N present wanted)
+
+-- "Calls test the network, then 10 (present first), 11 (likewise), 12"
+unfoldable pub checkPlan : Network → State → State → Answer (Unit {0})
+checkPlan N present wanted =
+    checkRecords N
+    andThen checkState N present 0
+    andThen checkState N wanted 1
+    andThen checkRadial N present 0
+    andThen checkRadial N wanted 1
+    andThen checkLocked N present wanted
+
+-- ---- the call
+-- the flags of a state's live branches, for a state of any length: with a byte for each of at most 512 switches they are `liveFlags` of the state (`Passing.flags-so`)
+abbrev pub flagsIn : PowerNetwork → State → List Bool
+flagsIn n s = liveFlags (recordsOf n) (configurationOf s .switches)
+
+-- the answer of the tests, and what they were made with: the graph, and the live branches of the two states
+pub record Judged : Type 0 where
+  pub answer : Answer (Unit {0})
+  pub graph : Graph
+  pub present-live : List Bool
+  pub wanted-live : List Bool
+
+unfoldable pub judged : PowerNetwork → State → State → Judged
+judged n present wanted = record {
+  answer = checkPlan (recordsOf n) present wanted;
+  graph = feederGraph n;
+  present-live = flagsIn n present;
+  wanted-live = flagsIn n wanted;
+}
+
+-- the same of the code's answer
+abbrev pub judgedIn : Change → Judged
+judgedIn c = record { answer = answerOf (c .verdict); graph = c .graph; present-live = c .«present_live»; wanted-live = c .«wanted_live» }

@@ -1,0 +1,3 @@
+pub mod Change
+pub mod Onward
+pub mod Passing

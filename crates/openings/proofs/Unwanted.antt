@@ -1,0 +1,72 @@
+-- The first unwanted branch of a path, as a loop finds it: the first i branches of the path are wanted.
+use mathlib.Core.Path.{_≡_, refl, sym, ap, _∙_}
+use mathlib.Core.Bool.{Bool, true, false, cond}
+use mathlib.Core.List.{List, [], _∷_, reverse}
+use Prim.Native.Nat.{ℕ, zero, suc, _+_, _*_, _≤_, _<_}
+use native.Mathlib.Numerals.{add-one}
+use native.Mathlib.Omega.{arith}
+use lib.ListN.{length, getD, drop, drop-of-length-le, List·getD-append, List·getD-eq-default}
+use lib.Seq.{drop-cons}
+use borrow.Author.Tests.{eq-eqb}
+use Rattle.numbers.specs.Choose.{firstOf}
+use Rattle.graph.specs.declared.walks.Path.{Path}
+use Rattle.graph.specs.declared.rows.Graph.{Graph}
+use Rattle.graph.specs.Graph.{Net}
+use Rattle.graph.specs.Walk.{Visit, walkBy, reached, back}
+use Rattle.graph.specs.Rows.{flag, filled, pathOf, rowNeighbours, rowNet, rowPath}
+use Rattle.openings.specs.Opening.{firstUnwanted, rowOpening}
+
+module _ (path : Path) (wanted : List Bool) where
+  pub record Wanted (i : ℕ) : Type 0 where
+    pub within : i ≤ path .count
+    rest : (l : List ℕ) → path ≡ pathOf l → firstUnwanted wanted l ≡ firstUnwanted wanted (drop i l)
+
+  pub none-wanted : Wanted 0
+  none-wanted = record { within = omega arith; rest = λ l e. refl }
+
+  module _ (i : ℕ) (w : Wanted i) where
+    pub all-wanted : path .count ≤ i → (l : List ℕ) → path ≡ pathOf l → 0 ≡ firstUnwanted wanted l
+    unfolding firstOf pathOf
+    all-wanted h l e = sym (w .rest l e ∙ rw (drop-of-length-le l {i = i} (omega (arith, ap (λ (p : Path). p .count) e))))
+
+    module _ (h : i < path .count) (at : ℕ) (here : at ≡ i) (b : Bool) (f : b ≡ flag wanted (getD (path .branch) at 0)) where
+      next-branch : (l : List ℕ) → path ≡ pathOf l → drop i l ≡ getD (path .branch) at 0 ∷ drop (i + 1) l
+      unfolding pathOf filled
+      next-branch l e =
+          let k : i < length l = omega (arith, ap (λ (p : Path). p .count) e) in
+          let r : getD (path .branch) i 0 ≡ getD l i 0 = ap (λ (p : Path). getD (p .branch) i 0) e ∙ List·getD-append l _ 0 i k in
+          rw (here, drop-cons l i 0 k, add-one, r)
+
+      pub one-wanted : b ≡ true → Wanted (i + 1)
+      unfolding firstOf
+      one-wanted t = record { within = omega arith; rest = λ l e. w .rest l e ∙ rw (next-branch l e, ← f, t) }
+
+      pub one-unwanted : b ≡ false → (l : List ℕ) → path ≡ pathOf l → getD (path .branch) at 0 ≡ firstUnwanted wanted l
+      unfolding firstOf
+      one-unwanted t l e = sym (w .rest l e ∙ rw (next-branch l e, ← f, t))
+
+-- ---- beyond the branches that a graph has room for
+back-own : (N : Net) (o : List Visit) (a n : ℕ) → back N o a n a ≡ []
+unfolding back
+back-own N o a zero = refl
+back-own N o a (suc n) = rw (eq-eqb a a refl)
+
+path-own : (graph : Graph) (live : List Bool) (a : ℕ) → rowPath graph live a a ≡ []
+unfolding rowPath
+path-own graph live a =
+    let o = walkBy (rowNeighbours graph live) a a in
+    ap (λ (l : List ℕ). cond (reached a o) (reverse l) []) (back-own (rowNet graph) o a 256) ∙ go (reached a o)
+  where
+    go : (b : Bool) → _≡_ {A = List ℕ} (cond b [] []) []
+    go true = refl
+    go false = refl
+
+-- both ends are bus 0 there, so that the path is empty
+pub opening-beyond : (graph : Graph) (live wanted : List Bool) (k : ℕ) → length (graph .far) ≡ 1024 → 512 ≤ k → 0 ≡ rowOpening graph live wanted k
+unfolding rowOpening firstOf
+opening-beyond graph live wanted k e h =
+    let from : getD (graph .far) (2 * k + 1) 0 ≡ 0 = List·getD-eq-default (graph .far) 0 {n = 2 * k + 1} (omega (arith, e)) in
+    let to : getD (graph .far) (2 * k) 0 ≡ 0 = List·getD-eq-default (graph .far) 0 {n = 2 * k} (omega (arith, e)) in
+    sym (ap (λ (v : ℕ). firstUnwanted wanted (rowPath graph live v (getD (graph .far) (2 * k) 0))) from
+    ∙ ap (λ (v : ℕ). firstUnwanted wanted (rowPath graph live 0 v)) to
+    ∙ ap (firstUnwanted wanted) (path-own graph live 0))

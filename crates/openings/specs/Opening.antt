@@ -1,0 +1,15 @@
+-- The branch that a pair opens, read off the rows of a graph: `Plan.opening` where the network is accepted.
+use mathlib.Core.Bool.{Bool, not}
+use mathlib.Core.List.{List}
+use Prim.Native.Nat.{ℕ}
+use Rattle.numbers.specs.Choose.{firstOf}
+use Rattle.graph.specs.declared.rows.Graph.{Graph}
+use Rattle.graph.specs.Rows.{flag, rowNet, rowPath}
+
+-- the first branch of a path that is not wanted
+abbrev pub firstUnwanted : List Bool → List ℕ → ℕ
+firstUnwanted wanted path = firstOf (λ k. not (flag wanted k)) 0 path
+
+-- the opening that goes with closing branch k, by the rows
+unfoldable pub rowOpening : Graph → List Bool → List Bool → ℕ → ℕ
+rowOpening g live wanted k = firstUnwanted wanted (rowPath g live (rowNet g .from k) (rowNet g .to k))

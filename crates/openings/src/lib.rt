@@ -1,0 +1,2 @@
+// The branch that is opened once another one is closed.
+pub mod opening;

@@ -1,0 +1,2 @@
+// Bytes, and numbers in digits, written into lent slices.
+pub mod writer;
