@@ -19,8 +19,8 @@ use Rattle.network.specs.declared.error.Verdict.{Verdict}
 use Rattle.network.specs.declared.error.Verdict.the-variants.{Accepted}
 use Rattle.network.specs.Answers.{answerOf, Fault, _if_, judge}
 use Rattle.network.specs.AnswerLaws.{judge-iff, accepted-so}
-use Rattle.checks.specs.Ids.{rows, idRows, positionOf}
-use Rattle.checks.specs.IdLaws.{position-found}
+use Rattle.ids.specs.Ids.{rows, idRows, positionOf}
+use Rattle.ids.specs.IdLaws.{position-found}
 use Rattle.network.specs.Faults.{Head, okLoad, okR, among, busId, switchId, on, ties, methodByte, busFaults, branchFaults, switchFaults}
 use Rattle.checks.specs.Flags.{flags, flag-at, set-flag}
 

@@ -1,3 +1,2 @@
-// The check of a feeder's records, and ids looked up in rows.
+// The check of a feeder's records.
 pub mod check;
-pub mod ids;

@@ -8,7 +8,7 @@ use Rattle.numbers.specs.UpTo.{upTo, table}
 use Rattle.numbers.specs.Counts.{count}
 use Rattle.numbers.specs.Choose.{those, least, firstSome, firstOf, indexOf, _orElse_}
 use Rattle.network.specs.Live.{live, openOn, baseState}
-use Rattle.frames.specs.Hex.{digit, digits, writeFields}
+use Rattle.lines.specs.Hex.{digit, digits, writeFields}
 use Rattle.frames.specs.Acceptable.{frameText}
 use Rattle.frames.specs.Claim.{claim}
 use Rattle.examples.specs.Texts.{row, triangleText, triangle, triangle-read}

@@ -19,7 +19,7 @@ use Rattle.network.specs.Faults.{okBase, okLoad, okR, among, ties, headFaults, 
 use Rattle.network.specs.Check.{headOf, checkRun, checkRecords}
 use Rattle.network.specs.Live.{live, openOn, each, checkState, baseState}
 use Rattle.network.specs.Switches.{State, byte}
-use Rattle.frames.specs.Hex.{digit, digits, writeFields}
+use Rattle.lines.specs.Hex.{digit, digits, writeFields}
 use Rattle.frames.specs.Acceptable.{frameText}
 use Rattle.slices.specs.Written.{written}
 use Rattle.printing.specs.Printed.{pairText}

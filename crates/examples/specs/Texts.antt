@@ -9,8 +9,10 @@ use Rattle.network.specs.Answers.{accepted, refused, _andThen_, judge}
 use Rattle.network.specs.Records.{Network}
 use Rattle.network.specs.Faults.{okBase, okLoad, okR, among, ties, headFaults, busFaults, branchFaults, switchFaults}
 use Rattle.network.specs.Check as check
-use Rattle.frames.specs.Hex.{isDigit, value, digit, number, digits, readFields, writeFields}
-use Rattle.frames.specs.Text.{put, cut, every, lineFaults, looks, fieldsOf, methodOf, follow, pure, readOne, readRun, readEnd, readLines, without, readText}
+use Rattle.lines.specs.Hex.{isDigit, value, digit, number, digits, readFields, writeFields}
+use Rattle.lines.specs.Lines.{put, cut, every, lineFaults}
+use Rattle.record_lines.specs.Kinds.{looks, fieldsOf, methodOf, readOne, without}
+use Rattle.frames.specs.Text.{follow, pure, readRun, readEnd, readLines, readText}
 use Rattle.frames.specs.Acceptable.{frameText, textOf}
 use Rattle.frames.specs.Conditions.{verdictOf}
 

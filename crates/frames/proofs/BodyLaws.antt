@@ -13,7 +13,9 @@ use Rattle.network.specs.Answers.{accepted, refused, answerOf, _andThen_}
 use Rattle.network.specs.Records.{networkOf, emptyNetwork}
 use Rattle.network.specs.Faults.{Head}
 use Rattle.frames.specs.declared.pass.Pass as Code
-use Rattle.frames.specs.Text.{Line, cut, readEnd, without}
+use Rattle.lines.specs.Lines.{Line, cut}
+use Rattle.record_lines.specs.Kinds.{without}
+use Rattle.frames.specs.Text.{readEnd}
 use Rattle.frames.specs.ReaderLaws.{network}
 use Rattle.frames.specs.Passes.{Pass, onward, passBuses, passBranches, passSwitches, collect}
 use Rattle.frames.specs.FrameReads.{withBuses, withBranches, withSwitches, IsPass, IsCollected}

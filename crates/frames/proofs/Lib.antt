@@ -1,9 +1,3 @@
-pub mod DigitLaws
-pub mod NanLaws
-pub mod LineEndLaws
-pub mod PartLaws
-pub mod FieldLaws
-pub mod FrameLaws
 pub mod LoopLaws
 pub mod StoreLaws
 pub mod BodyLaws

@@ -8,11 +8,12 @@ use lib.Seq.{drop-drop}
 use Rattle.network.specs.declared.error.Verdict.the-variants.{Accepted, Refused}
 use Rattle.network.specs.declared.topology.PowerNetwork.{PowerNetwork}
 use Rattle.network.specs.Answers.{accepted, refused, Fault}
-use Rattle.frames.specs.Hex.{Fields}
-use Rattle.frames.specs.Text.{cut, Frame, readOne, without}
+use Rattle.lines.specs.Hex.{Fields}
+use Rattle.lines.specs.Lines.{cut}
+use Rattle.record_lines.specs.Kinds.{Frame, readOne, without}
 use Rattle.frames.specs.Passes.{passRun, going}
 use Rattle.frames.specs.Steps.{pass-start, pass-more, pass-stops}
-use Rattle.frames.specs.FramedLaws.{size, one-made, without-refused}
+use Rattle.record_lines.specs.FramedLaws.{size, one-made, without-refused}
 use Rattle.frames.specs.FrameReads.{IsPass}
 
 module _ {A : Type 0} (F : Frame) (make : Fields (F .widths) → A) (bytes : Fields (F .widths) → List Fault) (place start : ℕ) (text : List ℕ)

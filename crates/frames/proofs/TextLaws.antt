@@ -9,11 +9,13 @@ use Rattle.network.specs.Records.{networkOf, recordsOf}
 use Rattle.network.specs.RecordLaws.{records-of-network}
 use Rattle.network.specs.Faults.{Head}
 use Rattle.frames.specs.declared.pass.Pass as Code
-use Rattle.frames.specs.Text.{cut, head, headOf, headLineFaults, readOne, without, readText}
+use Rattle.lines.specs.Lines.{cut}
+use Rattle.record_lines.specs.Kinds.{head, headOf, headLineFaults, readOne, without}
+use Rattle.frames.specs.Text.{readText}
 use Rattle.frames.specs.Passes.{Collected, collect, afterHead, readTwice}
 use Rattle.frames.specs.ReadLaws.{head-passed}
 use Rattle.frames.specs.Split.{split}
-use Rattle.frames.specs.FramedLaws.{one-made, without-refused}
+use Rattle.record_lines.specs.FramedLaws.{one-made, without-refused}
 use Rattle.frames.specs.FrameReads.{IsCollected}
 
 -- a value that holds records is the value of the records that it holds

@@ -13,8 +13,8 @@ use Rattle.network.specs.Records.{Network}
 use Rattle.network.specs.Faults.{Head, methodByte}
 use Rattle.network.specs.Check as check
 use Rattle.network.specs.Inside.{Each, Inside}
-use Rattle.frames.specs.Hex.{Fields, writeFields}
-use Rattle.frames.specs.Text.{Frame, layout, head, bus, branch, switch}
+use Rattle.lines.specs.Hex.{Fields, writeFields}
+use Rattle.record_lines.specs.Kinds.{Frame, layout, head, bus, branch, switch}
 
 -- ---- the fields of a record
 -- "f64 bits"

@@ -15,7 +15,8 @@ use Rattle.network.specs.Records.{Network, recordsOf}
 use Rattle.network.specs.Check.{checkRecords}
 use Rattle.network.specs.Inside.{Each, Inside}
 use Rattle.network.specs.InsideLaws.{check-inside}
-use Rattle.frames.specs.Text.{cut, readText}
+use Rattle.lines.specs.Lines.{cut}
+use Rattle.frames.specs.Text.{readText}
 use Rattle.frames.specs.Acceptable.{textOf, Writable, Typed, Acceptable}
 use Rattle.frames.specs.Conditions.{conditions, judgeLines, verdictOf, LowestWins}
 use Rattle.frames.specs.ReadLaws.{read-written, accepted-written}

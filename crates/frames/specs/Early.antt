@@ -8,9 +8,11 @@ use lib.Dec.{eqb}
 use lib.ListN.{length, take}
 use borrow.Author.Tests.{lt-ltb}
 use Rattle.network.specs.Answers.{Answer, accepted, refused, _andThen_, Fault, judge}
-use Rattle.frames.specs.Hex.{Fields, total}
-use Rattle.frames.specs.Text.{Line, put, cut, lineFaults, Frame, head, bus, branch, switch, layout, looks, fieldsOf, headOf, busOf, branchOf, switchOf, headLineFaults, busLineFaults, branchLineFaults, switchLineFaults, Reader, follow, pure, readOne, readRun, readEnd, readLines, without, readText}
-use Rattle.frames.specs.ReaderLaws.{Verdict}
+use Rattle.lines.specs.Hex.{Fields, total}
+use Rattle.lines.specs.Lines.{Line, put, cut, lineFaults}
+use Rattle.record_lines.specs.Kinds.{Frame, head, bus, branch, switch, layout, looks, fieldsOf, headOf, busOf, branchOf, switchOf, headLineFaults, busLineFaults, branchLineFaults, switchLineFaults, Reader, readOne, without}
+use Rattle.frames.specs.Text.{follow, pure, readRun, readEnd, readLines, readText}
+use Rattle.lines.specs.JudgeLaws.{Verdict}
 use Rattle.frames.specs.LineLaws.{Sound, head-sound, bus-sound, branch-sound, switch-sound, line-kept, line-long}
 use Rattle.frames.specs.ReadLaws.{head-passed}
 

@@ -11,9 +11,13 @@ use Rattle.network.specs.declared.switch.Switch.{Switch}
 use Rattle.network.specs.Answers.{Answer, accepted, refused, _andThen_, Fault, judge}
 use Rattle.network.specs.Records.{Network}
 use Rattle.network.specs.Faults.{Head}
-use Rattle.frames.specs.Hex.{Fields}
-use Rattle.frames.specs.Text.{Line, cut, lineFaults, Frame, head, bus, branch, switch, looks, fieldsOf, headOf, busOf, branchOf, switchOf, headLineFaults, busLineFaults, branchLineFaults, switchLineFaults, follow, _>>=_, pure, readOne, readRun, readEnd, readLines, without, readText}
-use Rattle.frames.specs.ReaderLaws.{Verdict, then-then, go-on, without-then, network, behindSwitches, behindBranches, behindBuses, behindHead, lines-read}
+use Rattle.lines.specs.Hex.{Fields}
+use Rattle.lines.specs.Lines.{Line, cut, lineFaults}
+use Rattle.record_lines.specs.Kinds.{Frame, head, bus, branch, switch, looks, fieldsOf, headOf, busOf, branchOf, switchOf, headLineFaults, busLineFaults, branchLineFaults, switchLineFaults, readOne, without}
+use Rattle.frames.specs.Text.{follow, _>>=_, pure, readRun, readEnd, readLines, readText}
+use Rattle.lines.specs.JudgeLaws.{Verdict}
+use Rattle.record_lines.specs.VerdictLaws.{without-then}
+use Rattle.frames.specs.ReaderLaws.{then-then, go-on, network, behindSwitches, behindBranches, behindBuses, behindHead, lines-read}
 use Rattle.frames.specs.Conditions.{kindConditions, surplusConditions, busesOf, bodyConditions, conditions, judgeLines, verdictOf}
 
 verdict-then : {A : Type 0} (v : Verdict) (a : A) → verdictOf (v andThen accepted a) ≡ v

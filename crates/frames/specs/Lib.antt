@@ -1,10 +1,8 @@
-pub mod Hex
 pub mod Text
 pub mod Acceptable
 pub mod Conditions
 pub mod Passes
 pub mod ReaderLaws
-pub mod HexLaws
 pub mod LineLaws
 pub mod RecordLaws
 pub mod ReadLaws
@@ -18,7 +16,4 @@ pub mod Split
 pub mod Claim
 pub mod Reading
 pub mod ReadingLaws
-pub mod FirstLine
-pub mod FirstLineLaws
-pub mod FramedLaws
 pub mod FrameReads

@@ -12,10 +12,11 @@ use Rattle.network.specs.declared.switch.Switch.{Switch}
 use Rattle.network.specs.Answers.{Answer, accepted, refused, Fault, _if_, judge}
 use Rattle.network.specs.Faults.{Head, headFaults, busFaults, branchFaults, switchFaults}
 use Rattle.network.specs.Inside.{Each}
-use Rattle.frames.specs.Hex.{Fields}
-use Rattle.frames.specs.Text.{Line, cut, lineFaults, Frame, head, bus, branch, switch, looks, fieldsOf, headOf, busOf, branchOf, switchOf, headLineFaults, busLineFaults, branchLineFaults, switchLineFaults}
+use Rattle.lines.specs.Hex.{Fields}
+use Rattle.lines.specs.Lines.{Line, cut, lineFaults}
+use Rattle.record_lines.specs.Kinds.{Frame, head, bus, branch, switch, looks, fieldsOf, headOf, busOf, branchOf, switchOf, headLineFaults, busLineFaults, branchLineFaults, switchLineFaults}
 use Rattle.frames.specs.Conditions.{kindConditions, surplusConditions, busesOf, bodyConditions, conditions, met, LowestWins}
-use Rattle.frames.specs.ReaderLaws.{no-refusal}
+use Rattle.lines.specs.JudgeLaws.{no-refusal}
 
 -- ---- conditions by rising number
 abbrev Rising : List Fault → Type 0

@@ -4,27 +4,18 @@
 --   split : (t : List ℕ) → readText t ≡ readTwice t
 use mathlib.Core.List.{List, [], _∷_, _++_}
 use Prim.Native.Nat.{ℕ, _+_}
-use lib.Dec.{ltb}
 use Rattle.numbers.specs.UpTo.{upTo}
 use Rattle.network.specs.declared.bus.Bus.{Bus}
 use Rattle.network.specs.declared.branch.Branch.{Branch}
 use Rattle.network.specs.declared.switch.Switch.{Switch}
-use Rattle.network.specs.Answers.{Answer, accepted, refused, _andThen_, Fault, _if_}
+use Rattle.network.specs.Answers.{Answer, accepted, refused, _andThen_, Fault}
 use Rattle.network.specs.Records.{Network}
 use Rattle.network.specs.Faults.{Head}
 use Rattle.network.specs.Check.{checkRecords}
-use Rattle.frames.specs.Hex.{Fields}
-use Rattle.frames.specs.Text.{Line, cut, Frame, head, bus, branch, switch, headOf, busOf, branchOf, switchOf, headLineFaults, readOne, readEnd, without}
-
--- ---- a byte without a meaning, row 3; a bus line has no such byte
-abbrev pub busBytes : Fields (bus .widths) → List Fault
-busBytes f = []
-
-abbrev pub branchBytes : Fields (branch .widths) → List Fault
-branchBytes f = (3 if ltb 1 (f .1 .1 .1 .0)) ∷ []
-
-abbrev pub switchBytes : Fields (switch .widths) → List Fault
-switchBytes f = (3 if ltb 3 (f .1 .1 .0)) ∷ []
+use Rattle.lines.specs.Hex.{Fields}
+use Rattle.lines.specs.Lines.{Line, cut}
+use Rattle.record_lines.specs.Kinds.{Frame, head, bus, branch, switch, headOf, busOf, branchOf, switchOf, headLineFaults, busBytes, branchBytes, switchBytes, readOne, without}
+use Rattle.frames.specs.Text.{readEnd}
 
 -- ---- the pass over the lines of one kind
 -- the records read so far, the lines left, and the refusal at which the pass stopped, if it did; the line refused is then the first of those left

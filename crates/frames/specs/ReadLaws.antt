@@ -17,11 +17,16 @@ use Rattle.network.specs.InsideLaws.{HeadInside, head-iff}
 use Rattle.network.specs.Check as check
 use Rattle.network.specs.Check.{checkRun, checkRecords}
 use Rattle.network.specs.Inside.{Each}
-use Rattle.frames.specs.Hex.{Fields}
-use Rattle.frames.specs.Text.{Line, cut, lineFaults, looks, fieldsOf, head, switch, headOf, switchOf, headLineFaults, switchLineFaults, follow, _>>=_, pure, readOne, readRun, readEnd, readLines, without, readText}
+use Rattle.lines.specs.Hex.{Fields}
+use Rattle.lines.specs.Lines.{Line, cut, lineFaults}
+use Rattle.record_lines.specs.Kinds.{looks, fieldsOf, head, switch, headOf, switchOf, headLineFaults, switchLineFaults, readOne, without}
+use Rattle.frames.specs.Text.{follow, _>>=_, pure, readRun, readEnd, readLines, readText}
 use Rattle.frames.specs.Acceptable.{frameText, textOf, Writable}
-use Rattle.frames.specs.ReaderLaws.{Verdict, no-refusal, same-value, judge-passed, judge-append, then-then, then-accepted, go-on, follow-accepted, without-then, without-accepted, network, behindSwitches, behindBranches, behindBuses, behindHead, lines-read}
-use Rattle.frames.specs.LineLaws.{joined, joined-cut, cut-joined, Plain, lineOf, line-plain, fields-line, line-clear, line-kept}
+use Rattle.lines.specs.JudgeLaws.{Verdict, no-refusal, judge-passed, judge-append}
+use Rattle.record_lines.specs.VerdictLaws.{then-accepted, without-then}
+use Rattle.frames.specs.ReaderLaws.{same-value, then-then, go-on, follow-accepted, without-accepted, network, behindSwitches, behindBranches, behindBuses, behindHead, lines-read}
+use Rattle.lines.specs.CutLaws.{joined, joined-cut, cut-joined, Plain}
+use Rattle.frames.specs.LineLaws.{lineOf, line-plain, fields-line, line-clear, line-kept}
 use Rattle.frames.specs.RecordLaws.{Kind, headKind, busKind, branchKind, switchKind}
 
 -- the line of a record

@@ -1,47 +1,26 @@
--- Laws of answers and readers: the first condition met, one verdict after another, a reader that goes on.
-use mathlib.Core.Path.{_≡_, refl, ap, _∙_}
-use mathlib.Core.Bool.{Bool, true, false}
-use mathlib.Core.List.{List, [], _∷_, _++_}
+-- Laws of answers and readers: one verdict after another, a reader that goes on.
+use mathlib.Core.Path.{_≡_, refl, sym, ap, _∙_}
+use mathlib.Core.List.{List, [], _∷_}
 use Prim.Native.Nat.{ℕ, _+_}
-pub use Rattle.numbers.specs.Tests.{both, neither}
-use Rattle.network.specs.Answers.{Answer, accepted, refused, _andThen_, Fault, _if_, judge}
+use Rattle.network.specs.Answers.{Answer, accepted, refused, _andThen_}
 use Rattle.network.specs.declared.bus.Bus.{Bus}
 use Rattle.network.specs.declared.branch.Branch.{Branch}
 use Rattle.network.specs.declared.switch.Switch.{Switch}
-pub use Rattle.network.specs.AnswerLaws.{no-refusal, same-value}
+pub use Rattle.network.specs.AnswerLaws.{same-value}
 use Rattle.network.specs.Records.{Network}
 use Rattle.network.specs.Faults.{Head}
-use Rattle.frames.specs.Text.{Line, head, bus, branch, switch, headOf, busOf, branchOf, switchOf, headLineFaults, busLineFaults, branchLineFaults, switchLineFaults, Reader, follow, _>>=_, pure, readOne, readRun, readEnd, readLines, without}
-
-abbrev pub Verdict : Type 0
-Verdict = Answer (Unit {0})
-
--- ---- the first condition met
-pub judge-past : (n : ℕ) (b : Bool) (fs : List Fault) (p : ℕ) → b ≡ false → judge ((n if b) ∷ fs) p ≡ judge fs p
-unfolding judge
-judge-past n b fs p e = rw e
-
-pub judge-passed : (n : ℕ) (b : Bool) (fs : List Fault) (p : ℕ) → judge ((n if b) ∷ fs) p ≡ accepted tt → (b ≡ false) × (judge fs p ≡ accepted tt)
-unfolding judge
-judge-passed n true fs p e = no-refusal e
-judge-passed n false fs p e = (refl, e)
-
-pub judge-append : (fs gs : List Fault) (p : ℕ) → judge (fs ++ gs) p ≡ (judge fs p andThen judge gs p)
-unfolding judge _andThen_
-judge-append [] gs p = refl
-judge-append ((n if true) ∷ fs) gs p = refl
-judge-append ((n if false) ∷ fs) gs p = judge-append fs gs p
+use Rattle.lines.specs.Lines.{Line}
+use Rattle.lines.specs.JudgeLaws.{Verdict, no-refusal}
+use Rattle.lines.specs.FirstLine.{judgeEnd}
+use Rattle.record_lines.specs.Kinds.{head, bus, branch, switch, headOf, busOf, branchOf, switchOf, headLineFaults, busLineFaults, branchLineFaults, switchLineFaults, Reader, readOne, without}
+use Rattle.record_lines.specs.VerdictLaws.{without-then}
+use Rattle.frames.specs.Text.{follow, _>>=_, pure, readRun, readEnd, readLines}
 
 -- ---- one verdict after another
 pub then-then : {A : Type 0} (v w : Verdict) (b : Answer A) → (v andThen (w andThen b)) ≡ ((v andThen w) andThen b)
 unfolding _andThen_
 then-then (accepted u) w b = refl
 then-then (refused n p) w b = refl
-
-pub then-accepted : {A : Type 0} (v : Verdict) (b : Answer A) {a : A} → (v andThen b) ≡ accepted a → (v ≡ accepted tt) × (b ≡ accepted a)
-unfolding _andThen_
-then-accepted (accepted u) b e = (refl, e)
-then-accepted (refused n p) b e = no-refusal e
 
 -- ---- a reader that goes on after a verdict
 follow-then : {A B : Type 0} (v : Verdict) (r : A × List Line) (f : A → Reader B) → follow (v andThen accepted r) f ≡ (v andThen f (r .0) (r .1))
@@ -60,10 +39,16 @@ unfolding follow
 follow-accepted (accepted q) f e k = k q refl e
 follow-accepted (refused n p) f e k = no-refusal e
 
-pub without-then : {A : Type 0} (v : Verdict) (a : A) (ls : List Line) → without (v andThen accepted (a, ls)) ≡ (v andThen accepted a)
-unfolding without _andThen_
-without-then (accepted u) a ls = refl
-without-then (refused n p) a ls = refl
+then-nothing : (v : Verdict) → (v andThen accepted tt) ≡ v
+unfolding _andThen_
+then-nothing (accepted u) = refl
+then-nothing (refused n p) = refl
+
+-- that no line is left is judged as it is read
+pub end-judged : (p : ℕ) (ls : List Line) → judgeEnd p ls ≡ without (readEnd p ls)
+unfolding judgeEnd readEnd without
+end-judged p [] = refl
+end-judged p (l ∷ ls) = sym (without-then _ tt ls ∙ then-nothing _)
 
 pub without-accepted : {A C : Type 0} (x : Answer (A × List Line)) {a : A} → without x ≡ accepted a → ((r : A × List Line) → x ≡ accepted r → r .0 ≡ a → C) → C
 unfolding without

@@ -18,11 +18,14 @@ use Rattle.network.specs.AnswerLaws.{judge-iff}
 use Rattle.network.specs.InsideLaws.{HeadInside, head-iff}
 use Rattle.network.specs.Check as check
 use Rattle.network.specs.Check.{checkRun, checkRecords}
-use Rattle.frames.specs.Hex.{Fields}
-use Rattle.frames.specs.Text.{Line, cut, lineFaults, Frame, head, bus, branch, switch, looks, fieldsOf, headOf, busOf, branchOf, switchOf, headLineFaults, busLineFaults, branchLineFaults, switchLineFaults, Reader, follow, _>>=_, pure, readOne, readRun, readEnd, without, readText}
-use Rattle.frames.specs.ReaderLaws.{Verdict, no-refusal, judge-append, then-then, go-on, network, behindSwitches, behindBranches, behindBuses, behindHead, lines-read}
+use Rattle.lines.specs.Hex.{Fields}
+use Rattle.lines.specs.Lines.{Line, cut, lineFaults}
+use Rattle.record_lines.specs.Kinds.{Frame, head, bus, branch, switch, looks, fieldsOf, headOf, busOf, branchOf, switchOf, headLineFaults, busLineFaults, branchLineFaults, switchLineFaults, Reader, readOne, without, busBytes, branchBytes, switchBytes}
+use Rattle.frames.specs.Text.{follow, _>>=_, pure, readRun, readEnd, readText}
+use Rattle.lines.specs.JudgeLaws.{Verdict, no-refusal, judge-append}
+use Rattle.frames.specs.ReaderLaws.{then-then, go-on, network, behindSwitches, behindBranches, behindBuses, behindHead, lines-read}
 use Rattle.frames.specs.ReadLaws.{head-passed}
-use Rattle.frames.specs.Passes.{busBytes, branchBytes, switchBytes, Pass, going, halted, passOne, passOn, passStep, passRun, onward, after, passBuses, passBranches, passSwitches, collect, settle, afterHead, readTwice}
+use Rattle.frames.specs.Passes.{Pass, going, halted, passOne, passOn, passStep, passRun, onward, after, passBuses, passBranches, passSwitches, collect, settle, afterHead, readTwice}
 
 -- ---- a pass from its first line on
 abbrev behind : {A : Type 0} → A → Pass A → Pass A

@@ -7,8 +7,9 @@ use native.Mathlib.Omega.{arith}
 use native.Mathlib.Nat.{zero-add, suc-add}
 use Rattle.numbers.specs.UpTo.{upTo, upTo-more}
 use Rattle.network.specs.Answers.{accepted, refused, Fault}
-use Rattle.frames.specs.Hex.{Fields}
-use Rattle.frames.specs.Text.{Line, Frame, readOne}
+use Rattle.lines.specs.Hex.{Fields}
+use Rattle.lines.specs.Lines.{Line}
+use Rattle.record_lines.specs.Kinds.{Frame, readOne}
 use Rattle.frames.specs.Passes.{going, halted, passOne, passOn, passStep, passRun}
 
 module _ {A : Type 0} (F : Frame) (make : Fields (F .widths) → A) (bytes : Fields (F .widths) → List Fault) (place : ℕ) (ls : List Line) where

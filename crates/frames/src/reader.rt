@@ -5,22 +5,24 @@ ghost use lib.ListN.{length, drop};
 ghost use Rattle.network.specs.Answers.{accepted, refused, answerOf, _andThen_};
 ghost use Rattle.network.specs.Check.{checkRecords};
 ghost use Rattle.network.specs.Records.{networkOf, recordsOf};
-ghost use Rattle.frames.specs.Text.{cut, readText};
+ghost use Rattle.lines.specs.Lines.{cut};
+ghost use Rattle.frames.specs.Text.{readText};
 ghost use Rattle.frames.specs.Passes.{collect};
-ghost use Rattle.frames.specs.FrameReads.{headOfCode, IsCollected};
+ghost use Rattle.record_lines.specs.LineAnswers.{headOfCode};
+ghost use Rattle.frames.specs.FrameReads.{IsCollected};
 ghost use Rattle.frames.specs.Reading.{readingOf};
 use crate::branch;
 use crate::bus;
-use crate::head;
-use crate::head::Head;
-use crate::head::HeadRead;
-use crate::line;
 use crate::pass::Pass;
 use crate::switch;
 use checks::check;
+use lines::line::judge_end;
 use network::error::Verdict;
 use network::switch::ReconfigAlgorithm;
 use network::topology::PowerNetwork;
+use record_lines::head;
+use record_lines::head::Head;
+use record_lines::head::HeadRead;
 
 // A text's network, or its refusal beside a network in which nothing is listed.
 pub struct Reading {
@@ -56,7 +58,7 @@ fn read_body(text: &[u8], head: Head) -> Pass
     };
     let network = switches.network;
     let at = switches.at;
-    let stopped = line::judge_end(text, at, place + head.switches);
+    let stopped = judge_end(text, at, place + head.switches);
     Pass {
         network,
         at,

@@ -9,10 +9,10 @@ use lib.Dec.{lit<}
 use lib.ListN.{length, take, drop, length-append}
 use lib.Pow.{pow-add}
 use borrow.Rule.Slice.PartMut.{putMid}
-use Rattle.frames.specs.Hex.{digits, Fields, writeFields, Fit, total}
-use Rattle.frames.specs.Text.{Frame, layout}
+use Rattle.lines.specs.Hex.{digits, Fields, writeFields, Fit, total}
+use Rattle.record_lines.specs.Kinds.{Frame, layout}
 use Rattle.frames.specs.Acceptable.{frameText}
-use Rattle.frames.specs.HexLaws.{length-digits}
+use Rattle.lines.specs.HexLaws.{length-digits}
 use Rattle.slices.specs.Written.{written, lastDigits}
 use Rattle.slices.specs.WrittenLaws.{written-short, written-append}
 use Rattle.slices.specs.DigitLaws.{all-digits, digits-join}

@@ -5,10 +5,10 @@ use Prim.Native.Nat.{ℕ, _+_, _*_}
 use native.Mathlib.Omega.{arith}
 use native.Mathlib.Nat.{mul-suc, mul-zero}
 use lib.ListN.{length, length-append}
-use Rattle.frames.specs.Hex.{Fields, total}
-use Rattle.frames.specs.Text.{Frame, layout}
+use Rattle.lines.specs.Hex.{Fields, total}
+use Rattle.record_lines.specs.Kinds.{Frame, layout}
 use Rattle.frames.specs.Acceptable.{frameText}
-use Rattle.frames.specs.HexLaws.{length-fields}
+use Rattle.lines.specs.HexLaws.{length-fields}
 
 -- its line feed included
 pub length-frame : (F : Frame) (f : Fields (F .widths)) → length (frameText F f) ≡ total (layout F) + 1

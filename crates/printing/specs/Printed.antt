@@ -5,7 +5,7 @@ use Prim.Native.Nat.{ℕ}
 use Rattle.printing.specs.declared.writer.SwitchAction.{SwitchAction}
 use Rattle.printing.specs.declared.writer.SwitchOperation.{SwitchOperation}
 use Rattle.printing.specs.declared.writer.SwitchAction.the-variants.{Open, Close}
-use Rattle.frames.specs.Text.{Frame}
+use Rattle.record_lines.specs.Kinds.{Frame}
 use Rattle.frames.specs.Acceptable.{frameText}
 
 -- ---- 81

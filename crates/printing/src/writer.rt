@@ -5,7 +5,7 @@ ghost use mathlib.Core.Path.{_≡_};
 ghost use mathlib.Core.List.{_++_};
 ghost use Prim.Native.Nat.{_≤_};
 ghost use lib.ListN.{length};
-ghost use Rattle.frames.specs.Hex.{digits};
+ghost use Rattle.lines.specs.Hex.{digits};
 ghost use Rattle.slices.specs.Written.{written};
 ghost use Rattle.printing.specs.Printed.{truthByte, actionByte, answerText, operationText, pairText, refusalText};
 use slices::writer::write_digits;

@@ -11,8 +11,8 @@ use Rattle.numbers.specs.Choose.{indexOf}
 use Rattle.numbers.specs.TableLaws.{replicate-table, table-cong, filled, filled-none, filled-more}
 use Rattle.network.specs.declared.branch.Branch.{Branch}
 use Rattle.checks.specs.FaultLaws.{among-index}
-use Rattle.checks.specs.Ids.{rows, idRows, positionOf}
-use Rattle.checks.specs.IdLaws.{position-found}
+use Rattle.ids.specs.Ids.{rows, idRows, positionOf}
+use Rattle.ids.specs.IdLaws.{position-found}
 use Rattle.network.specs.Records.{noBranch}
 use Rattle.network.specs.ReadLaws.{pastBranch, branch-read}
 use Rattle.radiality.specs.FeederRows.{endAt, endsOf}

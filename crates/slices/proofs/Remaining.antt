@@ -7,8 +7,8 @@ use native.Mathlib.Nat.{zero-add}
 use lib.ListN.{length, set, length-set, length-append}
 use lib.Seq.{sets, length-sets, set-comm}
 use borrow.Author.Tests.{lt-ltb, le-ltb}
-use Rattle.frames.specs.Hex.{digit, digits}
-use Rattle.frames.specs.HexLaws.{length-digits}
+use Rattle.lines.specs.Hex.{digit, digits}
+use Rattle.lines.specs.HexLaws.{length-digits}
 use Rattle.slices.specs.Written.{written, lastDigits}
 use Rattle.slices.specs.WrittenLaws.{sets-append, written-sets, written-short}
 use Rattle.slices.specs.DigitLaws.{last-digit}

@@ -6,8 +6,8 @@ use native.Mathlib.Omega.{arith}
 use native.Mathlib.Nat.{mod-lt, pow-suc, mul-comm, mul-assoc, zero-mul, zero-add, add-zero, add-suc, div-div-eq-div-mul, div-lt-iff-lt-mul}
 use lib.Arith.{mod-mul, digits-div, digits-mod}
 use lib.Dec.{lit<}
-use Rattle.frames.specs.Hex.{digit, digits}
-use Rattle.frames.specs.HexLaws.{pow-pos}
+use Rattle.lines.specs.Hex.{digit, digits}
+use Rattle.lines.specs.HexLaws.{pow-pos}
 use Rattle.slices.specs.Written.{lastDigits}
 
 -- a number of no more than w digits

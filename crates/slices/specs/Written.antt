@@ -4,7 +4,7 @@ use mathlib.Core.List.{List, _++_}
 use Prim.Native.Nat.{ℕ, _%_, _^_}
 use lib.Dec.{leb}
 use lib.ListN.{length, drop}
-use Rattle.frames.specs.Hex.{digits}
+use Rattle.lines.specs.Hex.{digits}
 
 -- bytes at the front of a slice: "a longer slice keeps its tail", and one that is too short keeps every byte
 unfoldable pub written : List ℕ → List ℕ → List ℕ

@@ -2,7 +2,7 @@
 ghost use mathlib.Core.Path.{_≡_};
 ghost use mathlib.Core.List.{[], _∷_, _++_};
 ghost use Prim.Native.Nat.{_<_};
-ghost use Rattle.frames.specs.Hex.{digit};
+ghost use Rattle.lines.specs.Hex.{digit};
 ghost use Rattle.slices.specs.Written.{written, lastDigits};
 use numbers::wide8;
 

@@ -12,7 +12,7 @@ use Rattle.network.specs.Answers.{answerOf, judge}
 use Rattle.checks.specs.CheckLaws.{Passed, passed-none, passed-more, passed-refused, passed-all}
 use Rattle.network.specs.Faults.{branchFaults, busId}
 use Rattle.checks.specs.FaultLaws.{branch-faults, stands-before}
-use Rattle.checks.specs.Ids.{rows, idRows}
+use Rattle.ids.specs.Ids.{rows, idRows}
 use Rattle.network.specs.ReadLaws.{branch-read}
 use Rattle.network.specs.Records.{noBranch}
 use Rattle.checks.proofs.check.check_branch_list.Statement.{statement}

@@ -6,7 +6,7 @@ use lib.ListN.{length}
 use borrow.Author.Needs.{needs}
 use Rattle.network.specs.AnswerLaws.{refused-then, accepted-then}
 use Rattle.network.specs.Faults.{busId}
-use Rattle.checks.specs.Ids.{idRows}
+use Rattle.ids.specs.Ids.{idRows}
 use Rattle.network.specs.LookupLaws.{listed-first}
 use Rattle.network.specs.ReadLaws.{length-of}
 use Rattle.network.specs.Records.{noBus, listed, recordsOf}

@@ -7,7 +7,7 @@ use borrow.Author.Needs.{needs}
 use Rattle.numbers.specs.TableLaws.{length-table}
 use Rattle.network.specs.Check.{headOf}
 use Rattle.network.specs.Faults.{switchId}
-use Rattle.checks.specs.Ids.{idRows}
+use Rattle.ids.specs.Ids.{idRows}
 use Rattle.network.specs.LookupLaws.{listed-first}
 use Rattle.network.specs.ReadLaws.{length-of}
 use Rattle.network.specs.Records.{noSwitch, recordsOf}

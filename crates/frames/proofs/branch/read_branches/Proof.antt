@@ -3,9 +3,9 @@ use mathlib.Core.Path.{sym, ap, _∙_}
 use Prim.Native.Nat.{_≤_, _-_}
 use native.Mathlib.Omega.{arith}
 use borrow.Author.Needs.{needs}
-use Rattle.frames.specs.Text.{branch, branchOf}
-use Rattle.frames.specs.Passes.{branchBytes}
-use Rattle.frames.specs.FrameReads.{branchAnswer, withBranches}
+use Rattle.record_lines.specs.Kinds.{branch, branchOf, branchBytes}
+use Rattle.record_lines.specs.LineAnswers.{branchAnswer}
+use Rattle.frames.specs.FrameReads.{withBranches}
 use Rattle.frames.proofs.LoopLaws.{Reached, none-reached, line-room, line-reached, line-stops, all-reached}
 use Rattle.frames.proofs.StoreLaws.{branch-stored}
 use Rattle.frames.proofs.branch.read_branches.Statement.{statement}
@@ -26,7 +26,7 @@ add-branch-line : tie.Need-add-branch-line Inv-loop μ-loop
 add-branch-line c = omega arith
 
 branch-line-requires : tie.Need-branch-line-requires Inv-loop μ-loop
-branch-line-requires c κs = c .before .loop .inv .0 .within
+branch-line-requires c κs = search needs
 
 enum-known-branch : tie.Need-enum-known-branch Inv-loop μ-loop
 enum-known-branch c = search needs

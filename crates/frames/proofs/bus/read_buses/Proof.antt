@@ -3,9 +3,9 @@ use mathlib.Core.Path.{sym, ap, _∙_}
 use Prim.Native.Nat.{_≤_, _-_}
 use native.Mathlib.Omega.{arith}
 use borrow.Author.Needs.{needs}
-use Rattle.frames.specs.Text.{bus, busOf}
-use Rattle.frames.specs.Passes.{busBytes}
-use Rattle.frames.specs.FrameReads.{busAnswer, withBuses}
+use Rattle.record_lines.specs.Kinds.{bus, busOf, busBytes}
+use Rattle.record_lines.specs.LineAnswers.{busAnswer}
+use Rattle.frames.specs.FrameReads.{withBuses}
 use Rattle.frames.proofs.LoopLaws.{Reached, none-reached, line-room, line-reached, line-stops, all-reached}
 use Rattle.frames.proofs.StoreLaws.{bus-stored}
 use Rattle.frames.proofs.bus.read_buses.Statement.{statement}
@@ -26,7 +26,7 @@ add-bus-line : tie.Need-add-bus-line Inv-loop μ-loop
 add-bus-line c = omega arith
 
 bus-line-requires : tie.Need-bus-line-requires Inv-loop μ-loop
-bus-line-requires c κs = c .before .loop .inv .0 .within
+bus-line-requires c κs = search needs
 
 enum-known-bus : tie.Need-enum-known-bus Inv-loop μ-loop
 enum-known-bus c = search needs

@@ -1,7 +1,9 @@
 -- `read_body` meets its contract: kind after kind, and each refusal ends it.
+use mathlib.Core.Path.{_∙_}
 use native.Mathlib.Omega.{arith}
 use borrow.Author.Needs.{needs}
-use Rattle.frames.specs.FrameReads.{headOfCode}
+use Rattle.frames.specs.ReaderLaws.{end-judged}
+use Rattle.record_lines.specs.LineAnswers.{headOfCode}
 use Rattle.frames.proofs.BodyLaws.{no-buses, no-branches, no-switches, buses-stop, branches-stop, switches-stop, all-read}
 use Rattle.frames.proofs.reader.read_body.Statement.{statement}
 use Rattle.frames.proofs.reader.read_body.Tie as tie
@@ -114,7 +116,7 @@ returns-4 c =
     let e = b .before in
     let s = e .before .before in
     all-read (headOfCode (s .args .head)) (s .args .text .now) _ (e .new .ensures) _ (b .read-buses .ensures) (v .enum-told .given .1) _ (r .read-branches .ensures)
-    (u .enum-told3 .given .1) _ (w .read-switches .ensures) (x .enum-told5 .given .1) (c .judge-end .ensures)
+    (u .enum-told3 .given .1) _ (w .read-switches .ensures) (x .enum-told5 .given .1) (c .judge-end .ensures ∙ end-judged _ _)
 
 pub read-body-spec : {M : Type 1} → statement M
 read-body-spec =

@@ -1,7 +1,7 @@
 -- `read_text` meets its contract: the head line, then the lines behind it, by the law that reading in two passes is reading line by line.
 use mathlib.Core.Path.{sym, ap, _∙_}
 use borrow.Author.Needs.{needs}
-use Rattle.frames.specs.FrameReads.{headAnswer}
+use Rattle.record_lines.specs.LineAnswers.{headAnswer}
 use Rattle.frames.specs.Reading.{readingOf}
 use Rattle.frames.proofs.TextLaws.{holds-records, head-refuses, body-asks, text-settled}
 use Rattle.frames.proofs.reader.read_text.Statement.{statement}

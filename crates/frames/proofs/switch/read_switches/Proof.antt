@@ -3,9 +3,9 @@ use mathlib.Core.Path.{sym, ap, _∙_}
 use Prim.Native.Nat.{_≤_, _-_}
 use native.Mathlib.Omega.{arith}
 use borrow.Author.Needs.{needs}
-use Rattle.frames.specs.Text.{switch, switchOf}
-use Rattle.frames.specs.Passes.{switchBytes}
-use Rattle.frames.specs.FrameReads.{switchAnswer, withSwitches}
+use Rattle.record_lines.specs.Kinds.{switch, switchOf, switchBytes}
+use Rattle.record_lines.specs.LineAnswers.{switchAnswer}
+use Rattle.frames.specs.FrameReads.{withSwitches}
 use Rattle.frames.proofs.LoopLaws.{Reached, none-reached, line-room, line-reached, line-stops, all-reached}
 use Rattle.frames.proofs.StoreLaws.{switch-stored}
 use Rattle.frames.proofs.switch.read_switches.Statement.{statement}
@@ -26,7 +26,7 @@ add-switch-line : tie.Need-add-switch-line Inv-loop μ-loop
 add-switch-line c = omega arith
 
 switch-line-requires : tie.Need-switch-line-requires Inv-loop μ-loop
-switch-line-requires c κs = c .before .loop .inv .0 .within
+switch-line-requires c κs = search needs
 
 enum-known-switch : tie.Need-enum-known-switch Inv-loop μ-loop
 enum-known-switch c = search needs

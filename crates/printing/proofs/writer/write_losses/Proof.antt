@@ -2,7 +2,7 @@
 use mathlib.Core.Path.{ap, _∙_}
 use Prim.Native.Nat.{ℕ, _+_, _%_, _^_}
 use native.Mathlib.Omega.{arith}
-use Rattle.frames.specs.HexLaws.{length-digits}
+use Rattle.lines.specs.HexLaws.{length-digits}
 use Rattle.printing.proofs.FrameNumbers.{three-written, three-numbers}
 use borrow.Author.Needs.{needs}
 use Rattle.printing.proofs.writer.write_losses.Statement.{statement}

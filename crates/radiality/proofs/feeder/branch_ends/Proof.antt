@@ -5,7 +5,7 @@ use Prim.Native.Nat.{ℕ, _≤_, _<_, _-_, min}
 use native.Mathlib.Omega.{arith}
 use lib.ListN.{length}
 use borrow.Author.Needs.{needs}
-use Rattle.checks.specs.Ids.{rows, idRows}
+use Rattle.ids.specs.Ids.{rows, idRows}
 use Rattle.radiality.proofs.Resolving.{endsFilled, ends-start, end-resolved, ends-end}
 use Rattle.radiality.proofs.feeder.branch_ends.Statement.{statement}
 use Rattle.radiality.proofs.feeder.branch_ends.Tie as tie

@@ -1,0 +1,2 @@
+// Ids looked up in rows.
+pub mod rows;

@@ -1,0 +1,111 @@
+// Ids in rows: an id is looked up among the few that share its bucket.
+ghost use mathlib.Core.Path.{_≡_};
+ghost use mathlib.Core.List.{map};
+ghost use Prim.Native.Nat.{_≤_, _<_};
+ghost use lib.ListN.{take};
+ghost use Rattle.network.specs.Faults.{busId, switchId};
+ghost use Rattle.ids.specs.Ids.{bucketOf, idArray, rowsOf, idRows, positionOf};
+use network::bus::Bus;
+use network::switch::Switch;
+use numbers::at_most;
+use numbers::wide16;
+
+// The ids of a list by position, and the positions by their ids' buckets: first has the lowest position in a bucket, next the next higher one, 512 is none.
+pub struct IdRows {
+    pub ids: [u16; 512],
+    pub first: [u16; 256],
+    pub next: [u16; 512],
+}
+
+// Any number below 256 is right. This one, by 65,536 times the golden ratio's fraction, spreads ids that rise in equal steps.
+fn bucket(id: u16) -> usize
+    ensures { λ r. ⌜ (r ≡ bucketOf id) × (r < 256) ⌝ }
+{
+    wide16(id) * 40503 % 65536 / 256
+}
+
+// The rows of the first n ids: from the last position to the first, each in front of its row.
+fn rows_of(ids: [u16; 512], n: usize) -> IdRows
+    requires { ⌜ n ≤ 512 ⌝ }
+    ensures { λ r. ⌜ r ≡ rowsOf ids n ⌝ }
+{
+    let mut first = [512u16; 256];
+    let mut next = [512u16; 512];
+    let mut i: usize = 0;
+    while i < n {
+        let at = n - 1 - i;
+        let row = bucket(ids[at]);
+        next[at] = first[row];
+        first[row] = at as u16;
+        i += 1;
+    }
+    IdRows { ids, first, next }
+}
+
+fn bus_ids(buses: [Bus; 256], n: usize) -> [u16; 512]
+    requires { ⌜ n ≤ 256 ⌝ }
+    ensures { λ r. ⌜ r ≡ idArray (map busId (take n buses)) ⌝ }
+{
+    let mut ids = [0u16; 512];
+    let mut i: usize = 0;
+    while i < n {
+        ids[i] = buses[i].id;
+        i += 1;
+    }
+    ids
+}
+
+// The rows of the listed buses.
+pub fn bus_rows(buses: [Bus; 256], count: usize) -> IdRows
+    ensures { λ r. ⌜ r ≡ idRows (map busId (take count buses)) ⌝ }
+{
+    let n = at_most(count, 256);
+    rows_of(bus_ids(buses, n), n)
+}
+
+fn switch_ids(switches: [Switch; 512], n: usize) -> [u16; 512]
+    requires { ⌜ n ≤ 512 ⌝ }
+    ensures { λ r. ⌜ r ≡ idArray (map switchId (take n switches)) ⌝ }
+{
+    let mut ids = [0u16; 512];
+    let mut i: usize = 0;
+    while i < n {
+        ids[i] = switches[i].id;
+        i += 1;
+    }
+    ids
+}
+
+// The rows of the listed switches.
+pub fn switch_rows(switches: [Switch; 512], count: usize) -> IdRows
+    ensures { λ r. ⌜ r ≡ idRows (map switchId (take count switches)) ⌝ }
+{
+    let n = at_most(count, 512);
+    rows_of(switch_ids(switches, n), n)
+}
+
+// The first position of an id among count ids in rows, and count where it has none.
+pub fn position_of<'a>(
+    ids: &'a [u16; 512],
+    first: &'a [u16; 256],
+    next: &'a [u16; 512],
+    count: usize,
+    id: u16,
+) -> usize
+    ensures { λ r. ⌜ r ≡ positionOf (now (ids .entry)) (now (first .entry)) (now (next .entry)) count id ⌝ }
+{
+    let row = bucket(id);
+    let mut at = wide16(first[row]);
+    let mut i: usize = 0;
+    while i < count {
+        if 512 <= at {
+            return count;
+        }
+        if ids[at] == id {
+            return at;
+        }
+        at = wide16(next[at]);
+        i += 1;
+    }
+    count
+}

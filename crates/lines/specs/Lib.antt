@@ -1,0 +1,8 @@
+pub mod Hex
+pub mod Lines
+pub mod HexLaws
+pub mod JudgeLaws
+pub mod CutLaws
+pub mod FirstLine
+pub mod FirstLineLaws
+pub mod PartLaws

@@ -1,0 +1,36 @@
+-- The lines of a text, and the refusals 1 and 2 of each.
+use mathlib.Core.Bool.{Bool, true, false, cond, not, _&&_, _||_}
+use mathlib.Core.List.{List, [], _∷_}
+use Prim.Native.Nat.{ℕ, _%_}
+use lib.Dec.{ltb, eqb}
+use lib.ListN.{length}
+use Rattle.network.specs.Answers.{Fault, _if_}
+use Rattle.lines.specs.Hex.{isDigit}
+
+-- "one frame a line, ended by a line feed"
+pub record Line : Type 0 where
+  pub chars : List ℕ
+  pub ended : Bool
+
+-- a character goes to the front of the line that follows it
+unfoldable pub put : ℕ → List Line → List Line
+put c [] = record { chars = c ∷ []; ended = false } ∷ []
+put c (l ∷ ls) = record { chars = c ∷ l .chars; ended = l .ended } ∷ ls
+
+-- a text's lines: a line feed (10) ends one; a last one without is not ended; nothing after the last line feed is no line.
+-- Joined they are the text again, and lines that are joined are cut into the same lines (`CutLaws.joined-cut`, `cut-joined`)
+unfoldable pub cut : List ℕ → List Line
+cut [] = []
+cut (c ∷ t) = cond (eqb c 10) (record { chars = []; ended = true } ∷ cut t) (put c (cut t))
+
+unfoldable pub every : (ℕ → Bool) → List ℕ → Bool
+every p [] = true
+every p (c ∷ cs) = p c && every p cs
+
+-- refusals 1 and 2 of a line; "a line over 36 characters is 2 whatever they are, ended or not"
+unfoldable pub lineFaults : Bool → Line → List Fault
+lineFaults asWanted l =
+    (2 if ltb 36 (length (l .chars)))
+    ∷ (1 if (not (l .ended) || eqb (length (l .chars) % 2) 1 || not (every isDigit (l .chars))))
+    ∷ (2 if not asWanted)
+    ∷ []

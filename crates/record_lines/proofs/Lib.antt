@@ -1,0 +1,3 @@
+pub mod NanLaws
+pub mod FieldLaws
+pub mod FrameLaws

@@ -1,0 +1,144 @@
+-- A line that passes rows 1 and 2 of a kind stands whole at the front of the text: its characters, and the lines behind it; and reading it is reading its fields.
+use mathlib.Core.Path.{_≡_, refl, sym, ap, _∙_, subst}
+use mathlib.Core.Bool.{Bool, true, false, cond, not, _||_, false≢true}
+use mathlib.Core.List.{List, [], _∷_}
+use Prim.Native.Nat.{ℕ, suc, _%_, _<_}
+use native.Mathlib.Omega.{arith}
+use lib.Dec.{eqb}
+use lib.ListN.{length, take, drop}
+use borrow.Author.Tests.{eqb-true, not-false}
+use Rattle.network.specs.Answers.{Answer, accepted, refused, _andThen_, Fault, judge}
+use Rattle.lines.specs.Hex.{isDigit, number, Fields, readFields, total}
+use Rattle.lines.specs.Lines.{Line, put, cut, every, lineFaults}
+use Rattle.record_lines.specs.Kinds.{Frame, layout, looks, fieldsOf, readOne, without}
+use Rattle.lines.specs.JudgeLaws.{Verdict, both, neither, no-refusal, judge-append, judge-passed}
+use Rattle.record_lines.specs.VerdictLaws.{then-accepted, without-then}
+use Rattle.network.specs.AnswerLaws.{same-value}
+use Rattle.lines.specs.FirstLine.{judgeFirst, wanted, judgeFrame}
+
+-- ---- the first of a text's lines
+abbrev firstChars : List Line → List ℕ
+firstChars [] = []
+firstChars (l ∷ ls) = l .chars
+
+abbrev firstEnded : List Line → Bool
+firstEnded [] = false
+firstEnded (l ∷ ls) = l .ended
+
+abbrev behindFirst : List Line → List Line
+behindFirst [] = []
+behindFirst (l ∷ ls) = ls
+
+record Front (t : List ℕ) (ls : List Line) : Type 0 where
+  room : length (firstChars ls) < length t
+  chars : firstChars ls ≡ take (length (firstChars ls)) t
+  rest : behindFirst ls ≡ cut (drop (suc (length (firstChars ls))) t)
+
+put-front : (c : ℕ) (t : List ℕ) (ls : List Line) → (firstEnded ls ≡ true → Front t ls) → firstEnded (put c ls) ≡ true → Front (c ∷ t) (put c ls)
+unfolding put
+put-front c t [] f e = absurd (false≢true e)
+put-front c t (l ∷ ls) f e =
+    let h = f e in
+    record { room = omega (arith, h .room); chars = ap (λ (cs : List ℕ). c ∷ cs) (h .chars); rest = h .rest }
+
+cut-front : (t : List ℕ) → firstEnded (cut t) ≡ true → Front t (cut t)
+unfolding cut
+cut-front [] e = absurd (false≢true e)
+cut-front (c ∷ t) e = go (eqb c 10) refl (cut-front t) e
+  where
+    next : Bool → List Line
+    next b = cond b (record { chars = []; ended = true } ∷ cut t) (put c (cut t))
+
+    go : (b : Bool) → eqb c 10 ≡ b → (firstEnded (cut t) ≡ true → Front t (cut t)) → firstEnded (next b) ≡ true → Front (c ∷ t) (next b)
+    go true q ih f = record { room = omega arith; chars = refl; rest = refl }
+    go false q ih f = put-front c t (cut t) ih f
+
+-- ---- a line of this length that passes rows 1 and 2
+pub record Framed (t : List ℕ) (size : ℕ) : Type 0 where
+  pub room : size < length t
+  pub line : cut t ≡ record { chars = take size t; ended = true } ∷ cut (drop (suc size) t)
+
+passed : (b : Bool) (l : Line) (p : ℕ) → judge (lineFaults b l) p ≡ accepted tt → (l .ended ≡ true) × (b ≡ true)
+unfolding lineFaults
+passed b l p e =
+    let s₁ = judge-passed 2 _ _ p e in
+    let s₂ = judge-passed 1 _ _ p (s₁ .1) in
+    let s₃ = judge-passed 2 _ _ p (s₂ .1) in
+    let n = neither (not (l .ended) || eqb (length (l .chars) % 2) 1) (not (every isDigit (l .chars))) (s₂ .0) in
+    (not-false _ (neither (not (l .ended)) (eqb (length (l .chars) % 2) 1) (n .0) .0), not-false _ (s₃ .0))
+
+line-framed : (kind size p : ℕ) (t : List ℕ) (l : Line) (ls : List Line) → cut t ≡ l ∷ ls → judge (lineFaults (wanted kind size l) l) p ≡ accepted tt → Framed t size
+line-framed kind size p t l ls q a =
+    let h = passed (wanted kind size l) l p a in
+    let long : length (l .chars) ≡ size = eqb-true _ _ (both (eqb (length (l .chars)) size) (eqb (number (take 2 (l .chars))) kind) (h .1) .0) in
+    let f : Front t (l ∷ ls) = subst (Front t) q (cut-front t (ap firstEnded q ∙ h .0)) in
+    let chars : l .chars ≡ take size t = f .chars ∙ ap (λ (k : ℕ). take k t) long in
+    let rest : ls ≡ cut (drop (suc size) t) = f .rest ∙ ap (λ (k : ℕ). cut (drop (suc k) t)) long in
+    record {
+      room = omega (arith, f .room);
+      line = q ∙ (λ i. record { chars = chars i; ended = h .0 i } ∷ rest i);
+    }
+
+pub framed : (kind size p : ℕ) (t : List ℕ) → judgeFrame kind size p (cut t) ≡ accepted tt → Framed t size
+unfolding judgeFrame judgeFirst
+framed kind size p t e = go (cut t) refl e
+  where
+    go : (ls : List Line) → cut t ≡ ls → judgeFrame kind size p ls ≡ accepted tt → Framed t size
+    go [] q a = no-refusal a
+    go (l ∷ ls) q a = line-framed kind size p t l ls q a
+
+-- ---- reading one line of a kind
+abbrev pub size : Frame → ℕ
+size F = total (layout F)
+
+-- the fields behind the kind byte of a line at the front of a text
+abbrev pub fieldsAt : (F : Frame) → List ℕ → Fields (F .widths)
+fieldsAt F t = readFields (F .widths) (drop 2 (take (size F) t))
+
+module _ {A : Type 0} (F : Frame) (make : Fields (F .widths) → A) (bytes : Fields (F .widths) → List Fault) (p : ℕ) where
+  -- rows 1 and 2 come first
+  pub one-refused : (ls : List Line) {m q : ℕ} → judgeFrame (F .kind) (size F) p ls ≡ refused m q → readOne F make bytes p ls ≡ refused m q
+  unfolding judgeFrame judgeFirst readOne looks readFields _andThen_
+  one-refused [] e = ap (λ (v : Verdict). v andThen refused 2 p) e
+  one-refused (l ∷ ls) e = rw (judge-append (lineFaults (looks F l) l) (bytes (fieldsOf F l)) p, e)
+
+  -- then the fields
+  pub one-framed : (t : List ℕ) → judgeFrame (F .kind) (size F) p (cut t) ≡ accepted tt
+      → readOne F make bytes p (cut t) ≡ (judge (bytes (fieldsAt F t)) p andThen accepted (make (fieldsAt F t), cut (drop (suc (size F)) t)))
+  unfolding judgeFrame judgeFirst readOne looks fieldsOf readFields _andThen_
+  one-framed t e =
+      let f = framed (F .kind) (size F) p t e in
+      let l : Line = record { chars = take (size F) t; ended = true } in
+      let rest = cut (drop (suc (size F)) t) in
+      let clear : judge (lineFaults (looks F l) l) p ≡ accepted tt = sym (ap (judgeFrame (F .kind) (size F) p) (f .line)) ∙ e in
+      ap (readOne F make bytes p) (f .line) ∙ rw (judge-append (lineFaults (looks F l) l) (bytes (fieldsOf F l)) p, clear)
+
+-- ---- a refusal by its number and place
+abbrev numberOf : {A : Type 0} → Answer A → ℕ
+numberOf (accepted a) = 0
+numberOf (refused n p) = n
+
+abbrev placeOf : {A : Type 0} → Answer A → ℕ
+placeOf (accepted a) = 0
+placeOf (refused n p) = p
+
+pub without-refused : {A : Type 0} (x : Answer (A × List Line)) {m q : ℕ} → without x ≡ refused m q → x ≡ refused m q
+unfolding without
+without-refused (accepted r) e = no-refusal (sym e)
+without-refused (refused n p) e = λ i. refused (numberOf (e i)) (placeOf (e i))
+
+-- ---- the line that is read is the one at the front
+module _ {A : Type 0} (F : Frame) (make : Fields (F .widths) → A) (bytes : Fields (F .widths) → List Fault) (p : ℕ) where
+  pub one-made : (t : List ℕ) {a : A} → without (readOne F make bytes p (cut t)) ≡ accepted a
+      → (readOne F make bytes p (cut t) ≡ accepted (a, cut (drop (suc (size F)) t))) × (size F < length t)
+  unfolding without _andThen_
+  one-made t {a} e = go (judgeFrame (F .kind) (size F) p (cut t)) refl
+    where
+      go : (v : Verdict) → judgeFrame (F .kind) (size F) p (cut t) ≡ v → (readOne F make bytes p (cut t) ≡ accepted (a, cut (drop (suc (size F)) t))) × (size F < length t)
+      go (refused m q) f = no-refusal (sym (ap without (one-refused F make bytes p (cut t) f)) ∙ e)
+      go (accepted u) f =
+          let rest : List Line = cut (drop (suc (size F)) t) in
+          let v : Verdict = judge (bytes (fieldsAt F t)) p in
+          let o = one-framed F make bytes p t f in
+          let k = then-accepted v (accepted (make (fieldsAt F t))) (sym (without-then v (make (fieldsAt F t)) rest) ∙ sym (ap without o) ∙ e) in
+          (o ∙ ap (λ (x : Verdict). x andThen accepted (make (fieldsAt F t), rest)) (k .0) ∙ ap (λ (x : A). accepted (x, rest)) (same-value (k .1)), framed (F .kind) (size F) p t f .room)

@@ -1,0 +1,114 @@
+-- Document 01's four kinds of frame: the record that each makes, its refusals 3 to 9, and one line of a kind.
+use mathlib.Core.Bool.{Bool, _&&_}
+use mathlib.Core.List.{List, [], _∷_, _++_}
+use Prim.Native.Nat.{ℕ, zero, suc, _%_, _/_}
+use lib.Dec.{ltb, eqb}
+use lib.ListN.{length}
+use lib.Ieee.{binary64, ofBits}
+use Rattle.network.specs.declared.bus.Bus as N-bus
+use Rattle.network.specs.declared.branch.Branch as N-branch
+use Rattle.network.specs.declared.switch.Switch as N-switch
+use Rattle.network.specs.declared.switch.ReconfigAlgorithm.{ReconfigAlgorithm}
+use Rattle.network.specs.declared.switch.ReconfigAlgorithm.the-variants.{BranchExchange, TabuSearch, Exhaustive}
+use Rattle.network.specs.Answers.{Answer, accepted, refused, _andThen_, Fault, _if_, judge}
+use Rattle.network.specs.Faults.{Head, headFaults, busFaults, branchFaults, switchFaults}
+use Rattle.lines.specs.Hex.{Fields, readFields, total}
+use Rattle.lines.specs.Lines.{Line, lineFaults}
+
+-- ---- the four kinds of frame: the kind byte, and the digits of each field after it
+pub record Frame : Type 0 where
+  pub kind : ℕ
+  pub widths : List ℕ
+
+-- buses, branches, switches (u16), base_mva (f64), method byte, max_iterations (u16)
+abbrev pub head : Frame
+head = record { kind = 1; widths = 4 ∷ 4 ∷ 4 ∷ 16 ∷ 2 ∷ 4 ∷ [] }
+
+-- id (u16), pd in MW (f64)
+abbrev pub bus : Frame
+bus = record { kind = 2; widths = 4 ∷ 16 ∷ [] }
+
+-- from, to (u16), r (f64, per unit), status byte
+abbrev pub branch : Frame
+branch = record { kind = 3; widths = 4 ∷ 4 ∷ 16 ∷ 2 ∷ [] }
+
+-- id (u16), branch position from 0 (u16), flags byte
+abbrev pub switch : Frame
+switch = record { kind = 4; widths = 4 ∷ 4 ∷ 2 ∷ [] }
+
+-- what the characters of a line say as a frame of a kind: its kind byte, then its fields
+abbrev pub layout : Frame → List ℕ
+layout F = 2 ∷ F .widths
+
+-- has a line this kind's length and kind byte?
+unfoldable pub looks : Frame → Line → Bool
+looks F l = eqb (length (l .chars)) (total (layout F)) && eqb (readFields (layout F) (l .chars) .0) (F .kind)
+
+unfoldable pub fieldsOf : (F : Frame) → Line → Fields (F .widths)
+fieldsOf F l = readFields (layout F) (l .chars) .1
+
+-- ---- the record that the fields make
+-- "Methods: 00 exchange, 01 tabu, 02 exhaustive": for these three bytes the method of the byte (`RecordLaws.method-kept`). A greater byte is 3 (`headLineFaults`), and its method counts nowhere
+unfoldable pub methodOf : ℕ → ReconfigAlgorithm
+methodOf zero = BranchExchange
+methodOf (suc zero) = TabuSearch
+methodOf (suc (suc n)) = Exhaustive
+
+abbrev pub headOf : Fields (head .widths) → Head
+headOf f =
+    record {
+      buses = f .0;
+      branches = f .1 .0;
+      switches = f .1 .1 .0;
+      base = ofBits binary64 (f .1 .1 .1 .0);
+      algorithm = methodOf (f .1 .1 .1 .1 .0);
+      iterations = f .1 .1 .1 .1 .1 .0;
+    }
+
+abbrev pub busOf : Fields (bus .widths) → N-bus.Bus
+busOf f = record { id = f .0; pd = record { 0 = ofBits binary64 (f .1 .0) } }
+
+abbrev pub branchOf : Fields (branch .widths) → N-branch.Branch
+branchOf f = record { «from_bus» = f .0; «to_bus» = f .1 .0; r = ofBits binary64 (f .1 .1 .0); status = eqb (f .1 .1 .1 .0) 1 }
+
+-- "flags byte: bit 0 normally_open, bit 1 can_operate"
+abbrev pub switchOf : Fields (switch .widths) → N-switch.Switch
+switchOf f =
+    record { id = f .0; «branch_idx» = f .1 .0; «normally_open» = eqb (f .1 .1 .0 % 2) 1; «can_operate» = eqb (f .1 .1 .0 / 2 % 2) 1 }
+
+-- ---- refusals 3 to 9 of a line: first a byte without a meaning, then the record's own conditions
+abbrev pub headLineFaults : Fields (head .widths) → List Fault
+headLineFaults f = (3 if ltb 2 (f .1 .1 .1 .1 .0)) ∷ headFaults (headOf f)
+
+abbrev pub busLineFaults : List N-bus.Bus → Fields (bus .widths) → List Fault
+busLineFaults before f = busFaults before (busOf f)
+
+abbrev pub branchLineFaults : List N-bus.Bus → Fields (branch .widths) → List Fault
+branchLineFaults buses f = (3 if ltb 1 (f .1 .1 .1 .0)) ∷ branchFaults buses (branchOf f)
+
+abbrev pub switchLineFaults : Head → List N-switch.Switch → Fields (switch .widths) → List Fault
+switchLineFaults h before f = (3 if ltb 3 (f .1 .1 .0)) ∷ switchFaults h before (switchOf f)
+
+-- ---- a byte without a meaning, row 3; a bus line has no such byte
+abbrev pub busBytes : Fields (bus .widths) → List Fault
+busBytes f = []
+
+abbrev pub branchBytes : Fields (branch .widths) → List Fault
+branchBytes f = (3 if ltb 1 (f .1 .1 .1 .0)) ∷ []
+
+abbrev pub switchBytes : Fields (switch .widths) → List Fault
+switchBytes f = (3 if ltb 3 (f .1 .1 .0)) ∷ []
+
+-- ---- a reader takes lines from the front
+abbrev pub Reader : Type 0 → Type 0
+Reader A = List Line → Answer (A × List Line)
+
+-- one line of a kind, at this place; a missing line is 2
+unfoldable pub readOne : {A : Type 0} → (F : Frame) → (Fields (F .widths) → A) → (Fields (F .widths) → List Fault) → ℕ → Reader A
+readOne F make faults place [] = refused 2 place
+readOne F make faults place (l ∷ ls) = judge (lineFaults (looks F l) l ++ faults (fieldsOf F l)) place andThen accepted (make (fieldsOf F l), ls)
+
+-- what a reader says without the lines left
+unfoldable pub without : {A : Type 0} → Answer (A × List Line) → Answer A
+without (accepted r) = accepted (r .0)
+without (refused n p) = refused n p

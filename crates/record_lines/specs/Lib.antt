@@ -1,0 +1,4 @@
+pub mod Kinds
+pub mod LineAnswers
+pub mod VerdictLaws
+pub mod FramedLaws

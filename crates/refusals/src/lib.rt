@@ -1,0 +1,2 @@
+// Refusals of one record.
+pub mod record;

@@ -1,0 +1,146 @@
+// A line's refusals 3 to 9, from its record and what the records before it say of it.
+ghost use mathlib.Core.Path.{_≡_};
+ghost use mathlib.Core.Bool.{not, _&&_, _||_};
+ghost use mathlib.Core.List.{[], _∷_};
+ghost use lib.Dec.{eqb, leb, ltb};
+ghost use Rattle.network.specs.Answers.{answerOf, judge, _if_};
+ghost use Rattle.network.specs.Faults.{okBase, okLoad, okR, methodByte};
+use network::branch::Branch;
+use network::bus::Bus;
+use network::error::Verdict;
+use network::switch::ReconfigAlgorithm;
+use network::switch::Switch;
+use network::topology::PowerNetwork;
+
+// base_mva from 0.001 to 1,000,000
+fn base_in_range(base_mva: f64) -> bool
+    ensures { λ r. ⌜ r ≡ okBase «base_mva» ⌝ }
+{
+    base_mva >= 0.001 && base_mva <= 1000000.0
+}
+
+// pd within ±1,000,000
+fn load_in_range(pd: f64) -> bool
+    ensures { λ r. ⌜ r ≡ okLoad pd ⌝ }
+{
+    pd >= -1000000.0 && pd <= 1000000.0
+}
+
+// r from 0 to 1,000
+fn resistance_in_range(r: f64) -> bool
+    ensures { λ ok. ⌜ ok ≡ okR r ⌝ }
+{
+    r >= 0.0 && r <= 1000.0
+}
+
+// A head line's refusals, from its counts, base_mva and max_iterations.
+pub fn judge_head(
+    bus_count: u16,
+    branch_count: u16,
+    switch_count: u16,
+    base_mva: f64,
+    max_iterations: u16,
+) -> Verdict
+    ensures { λ r. ⌜ answerOf r ≡ judge
+        ((3 if ltb 1000 «max_iterations»)
+        ∷ (4 if (ltb 256 «bus_count» || ltb 512 «branch_count» || ltb 512 «switch_count»))
+        ∷ (5 if not (okBase «base_mva»))
+        ∷ []) 1 ⌝ }
+{
+    let place: u16 = 1;
+    if max_iterations > PowerNetwork::MAX_ITERATIONS {
+        return Verdict::Refused { number: 3, place };
+    }
+    if bus_count > PowerNetwork::MAX_BUSES {
+        return Verdict::Refused { number: 4, place };
+    }
+    if branch_count > PowerNetwork::MAX_BRANCHES {
+        return Verdict::Refused { number: 4, place };
+    }
+    if switch_count > PowerNetwork::MAX_SWITCHES {
+        return Verdict::Refused { number: 4, place };
+    }
+    if base_in_range(base_mva) {
+        return Verdict::Accepted;
+    }
+    Verdict::Refused { number: 5, place }
+}
+
+// A bus line's refusals; `twice` says that a bus before it has its id.
+pub fn judge_bus(bus: Bus, twice: bool, place: u16) -> Verdict
+    ensures { λ r. ⌜ answerOf r ≡ judge
+        ((5 if not (okLoad (bus .pd .0)))
+        ∷ (7 if twice)
+        ∷ []) place ⌝ }
+{
+    if !load_in_range(bus.pd.0) {
+        return Verdict::Refused { number: 5, place };
+    }
+    if twice {
+        return Verdict::Refused { number: 7, place };
+    }
+    Verdict::Accepted
+}
+
+// A branch line's refusals; the flags say whether a bus with the id of each end is listed.
+pub fn judge_branch(branch: Branch, from_listed: bool, to_listed: bool, place: u16) -> Verdict
+    ensures { λ r. ⌜ answerOf r ≡ judge
+        ((5 if not (okR (branch .r)))
+        ∷ (6 if (not «from_listed» || not «to_listed»))
+        ∷ []) place ⌝ }
+{
+    if !resistance_in_range(branch.r) {
+        return Verdict::Refused { number: 5, place };
+    }
+    if !from_listed {
+        return Verdict::Refused { number: 6, place };
+    }
+    if !to_listed {
+        return Verdict::Refused { number: 6, place };
+    }
+    Verdict::Accepted
+}
+
+// With method 02, a tie with ten ties before it.
+fn is_eleventh_tie(algorithm: ReconfigAlgorithm, normally_open: bool, ties: u16) -> bool
+    ensures { λ r. ⌜ r ≡ (eqb (methodByte algorithm) 2 && («normally_open» && leb 10 ties)) ⌝ }
+{
+    match algorithm {
+        ReconfigAlgorithm::BranchExchange => false,
+        ReconfigAlgorithm::TabuSearch => false,
+        ReconfigAlgorithm::Exhaustive => normally_open && ties >= PowerNetwork::MAX_TIES,
+    }
+}
+
+// A switch line's refusals; of the switches before it, `twice` says that one has its id, `second` that one is on its
+// branch, and `ties` how many are normally open.
+pub fn judge_switch(
+    switch: Switch,
+    branch_count: u16,
+    algorithm: ReconfigAlgorithm,
+    twice: bool,
+    second: bool,
+    ties: u16,
+    place: u16,
+) -> Verdict
+    ensures { λ r. ⌜ answerOf r ≡ judge
+        ((6 if leb «branch_count» (switch .«branch_idx»))
+        ∷ (7 if twice)
+        ∷ (8 if second)
+        ∷ (9 if (eqb (methodByte algorithm) 2 && (switch .«normally_open» && leb 10 ties)))
+        ∷ []) place ⌝ }
+{
+    if switch.branch_idx >= branch_count {
+        return Verdict::Refused { number: 6, place };
+    }
+    if twice {
+        return Verdict::Refused { number: 7, place };
+    }
+    if second {
+        return Verdict::Refused { number: 8, place };
+    }
+    if is_eleventh_tie(algorithm, switch.normally_open, ties) {
+        return Verdict::Refused { number: 9, place };
+    }
+    Verdict::Accepted
+}
