@@ -37,13 +37,14 @@ use Rattle.plan.specs.Plan.{plan, planText, planned, planAnswerOf}
 use Rattle.plan.specs.Length as PlanLength
 use Rattle.operations.specs.declared.operations.OperationsAnswer.{OperationsAnswer}
 use Rattle.operations.specs.declared.operations.OperationsAnswer.the-variants as lists
-use Rattle.reconfiguration.specs.declared.solve.ReconfigResult.{ReconfigResult}
-use Rattle.reconfiguration.specs.declared.solve.SolveAnswer.the-variants as solves
-use Rattle.reconfiguration.specs.FromBase.{base-good}
+use Rattle.searches.specs.declared.answer.ReconfigResult.{ReconfigResult}
+use Rattle.searches.specs.declared.answer.SolveAnswer.the-variants as solves
+use Rattle.searches.specs.FromBase.{base-good}
 use Rattle.reconfiguration.specs.Answers.{best-good, answers-have-plans}
-use Rattle.reconfiguration.specs.States.{stateOf}
-use Rattle.reconfiguration.specs.StateLaws.{state-held}
-use Rattle.reconfiguration.specs.Solve.{Result, result, best, solved, resultOf, solveAnswerOf}
+use Rattle.searches.specs.States.{stateOf}
+use Rattle.searches.specs.StateLaws.{state-held}
+use Rattle.searches.specs.Results.{Result, resultBy, solvedBy, resultOf, solveAnswerOf}
+use Rattle.reconfiguration.specs.Solve.{result, best, solved}
 use Rattle.operations.specs.Operations.{operations, operationsText, listed, operationsAnswerOf}
 use Rattle.operations.specs.OperationLines as Operations
 use Rattle.answers.specs.Printing.{resultText, operationLines, planLines, moveLines, networkText, printedOf, printed, answeredText}
@@ -128,7 +129,7 @@ module _ (n : PowerNetwork) (ok : checkRecords (recordsOf n) ≡ accepted tt) (o
 -- ---- the search
 module _ (n : PowerNetwork) (ok : checkRecords (recordsOf n) ≡ accepted tt) (space : List ℕ) (room : length space ≡ 512) where
   solved-is : {c : Call Result} → c ≡ solved (recordsOf n) space → c ≡ record { answer = accepted (result (recordsOf n)); out = written (best (recordsOf n) .state) space }
-  unfolding solved
+  unfolding solved solvedBy result
   solved-is e = call-is (result (recordsOf n)) (best (recordsOf n) .state) space ok (omega (arith, few-switches n ok, switches-listed n, best-good (recordsOf n) .long)) e
 
   pub solved-result : {r : ReconfigResult} {after : List ℕ} → record { answer = solveAnswerOf (solves.Solved r); out = after } ≡ solved (recordsOf n) space → resultOf r ≡ result (recordsOf n)
@@ -151,7 +152,7 @@ base-held n ok e =
 
 -- the bits of a result
 pub result-bits : (N : Network) → checkRecords N ≡ accepted tt → {r : ReconfigResult} → resultOf r ≡ result N → HasBits r
-unfolding result
+unfolding result resultBy
 result-bits N ok e = (
   rw (ap (λ (x : Result). x .base-loss) e) (base-bits N ok),
   rw (ap (λ (x : Result). x .best-loss) e) (best-bits N ok),

@@ -28,6 +28,7 @@ use Rattle.plan.specs.Plannable.{Free}
 use Rattle.network.specs.Listed.{state-accepted}
 use Rattle.plan.specs.Accepted.{plan-accepted}
 use Rattle.plan.specs.Length as PlanLength
+use Rattle.searches.specs.Results.{solvedBy}
 use Rattle.reconfiguration.specs.Solve.{best, result, solved}
 use Rattle.reconfiguration.specs.Answers.{best-good}
 use Rattle.operations.specs.Operations.{operations, operationsText, listed}
@@ -60,7 +61,7 @@ module _ (N : Network) (inside : Inside N) where
   -- `solve`: a byte for each switch
   pub solved-in-full : (out : List ℕ) → length (N .switches) ≤ length out
       → solved N out ≡ record { answer = accepted (result N); out = best N .state ++ drop (length (N .switches)) out }
-  unfolding solved
+  unfolding solved solvedBy result
   solved-in-full out room =
       let long : length (best N .state) ≡ length (N .switches) = best-good N .long in
       in-full (result N) (best N .state) out checked (rw long room) ∙ rw long

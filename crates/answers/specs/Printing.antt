@@ -12,7 +12,8 @@ use Rattle.printing.specs.Printed.{answerText, refusalText}
 use Rattle.printing.specs.Calls.{Call, called}
 use Rattle.radiality.specs.Feeder.{radialIn}
 use Rattle.plan.specs.Plan.{plan, planText}
-use Rattle.reconfiguration.specs.Solve.{Result, result, best}
+use Rattle.searches.specs.Results.{Result}
+use Rattle.reconfiguration.specs.Solve.{result, best}
 use Rattle.operations.specs.Operations.{operations, operationsText}
 use Rattle.answers.specs.declared.printer.TextAnswer.{TextAnswer}
 use Rattle.answers.specs.declared.printer.TextAnswer.the-variants.{Printed, Refused}

@@ -31,7 +31,8 @@ use Rattle.losses.specs.Accepted.{accepted-loss-within}
 use Rattle.losses.specs.PercentLaws.{percent-within}
 use Rattle.plan.specs.Plan.{plan, planText}
 use Rattle.plan.specs.Length as PlanLength
-use Rattle.reconfiguration.specs.Solve.{Result, result, best, reduction, reductionOf}
+use Rattle.searches.specs.Results.{Result, reduction, resultBy}
+use Rattle.reconfiguration.specs.Solve.{result, best}
 use Rattle.reconfiguration.specs.Answers.{best-loss, answers-have-plans}
 use Rattle.operations.specs.Operations.{operations}
 use Rattle.operations.specs.OperationLines as Operations
@@ -83,8 +84,8 @@ module _ (N : Network) (ok : checkRecords N ≡ accepted tt) where
   pub best-bits : T (not (isNan (best N .loss)))
   best-bits = within-no-nan best-within
 
-  pub reduction-bits : T (not (isNan (reductionOf N)))
-  unfolding reductionOf reduction
+  pub reduction-bits : T (not (isNan (result N .reduction)))
+  unfolding result resultBy reduction
   reduction-bits = go (lt trillionth (lossIn N (baseState N))) refl
     where
       go : (b : Bool) → lt trillionth (lossIn N (baseState N)) ≡ b → T (not (isNan (cond b (mul binary64 (div binary64 (sub binary64 (lossIn N (baseState N)) (best N .loss)) (lossIn N (baseState N))) hundred) zero64)))

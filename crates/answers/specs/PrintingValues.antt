@@ -11,7 +11,7 @@ use Rattle.network.specs.Answers.{accepted}
 use Rattle.network.specs.Check.{checkRecords}
 use Rattle.network.specs.Live.{baseState}
 use Rattle.network.specs.Records.{recordsOf}
-use Rattle.reconfiguration.specs.declared.solve.ReconfigResult.{ReconfigResult}
+use Rattle.searches.specs.declared.answer.ReconfigResult.{ReconfigResult}
 use Rattle.reconfiguration.specs.Solve.{best}
 
 abbrev pub Searched : PowerNetwork → List ℕ → List ℕ → Type 0

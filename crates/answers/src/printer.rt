@@ -7,7 +7,7 @@ ghost use Rattle.network.specs.Answers.{accepted};
 ghost use Rattle.network.specs.Check.{checkRecords};
 ghost use Rattle.network.specs.Records.{recordsOf};
 ghost use Rattle.slices.specs.Written.{written};
-ghost use Rattle.reconfiguration.specs.Solve.{resultOf};
+ghost use Rattle.searches.specs.Results.{resultOf};
 ghost use Rattle.answers.specs.Printing.{resultText, operationLines, planLines, moveLines, networkText, printed, answeredText, textAnswerOf};
 ghost use Rattle.answers.specs.PrintingValues.{Searched, HasBits};
 use frames::reader::read_text;
@@ -25,9 +25,9 @@ use printing::writer::PAIR_LENGTH;
 use printing::writer::REFUSAL_LENGTH;
 use printing::writer::write_answer;
 use printing::writer::write_refusal;
-use reconfiguration::solve::ReconfigResult;
-use reconfiguration::solve::SolveAnswer;
 use reconfiguration::solve::solve;
+use searches::answer::ReconfigResult;
+use searches::answer::SolveAnswer;
 use slices::writer::write_bytes;
 
 // The longest answer: an 81 line, an 82 line for each of 512 switches, an 83 line for each of 255 pairs.

@@ -24,8 +24,8 @@ use network::topology::PowerNetwork;
 use numbers::at_most;
 use operations::operations::OperationsAnswer;
 use operations::operations::compute_switch_operations;
-use reconfiguration::solve::SolveAnswer;
 use reconfiguration::solve::solve;
+use searches::answer::SolveAnswer;
 
 // A dot for each byte.
 fn dots() -> [u8; 8192]

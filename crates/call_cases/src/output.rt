@@ -2,7 +2,7 @@
 ghost use Prim.Native.Nat.{_≤_};
 use controller::answer::CallAnswer;
 use libc::STDOUT_FILENO;
-use reconfiguration::solve::ReconfigResult;
+use searches::answer::ReconfigResult;
 
 fn print_field(value: u64, width: usize) {
     io::write_all(STDOUT_FILENO, b" ");

@@ -25,63 +25,50 @@ use Rattle.plan.specs.Claim.{SwitchingPlan}
 use Rattle.plan.specs.Plannable.{Free}
 use Rattle.plan.specs.Accepted.{plan-accepted}
 use Rattle.plan.specs.Proof.{demand3}
-use Rattle.reconfiguration.specs.Exchange.{exchange}
-use Rattle.reconfiguration.specs.Tabu.{tabu}
+use Rattle.searches.specs.FromBase.{base-good}
+use Rattle.searches.specs.LiveBranches.{radial-part-same}
+use Rattle.searches.specs.SearchLaws.{Sound}
+use Rattle.exchange.specs.Exchange.{exchangeBest}
+use Rattle.exchange.specs.ExchangeLaws.{exchange-from-base, exchange-sound}
+use Rattle.tabu.specs.Tabu.{tabuBest}
+use Rattle.tabu.specs.TabuLaws.{tabu-from-base, tabu-sound}
+use Rattle.exhaustive.specs.Exhaustive.{exhaustiveBest}
+use Rattle.exhaustive.specs.ExhaustiveLaws.{exhaustive-closes, exhaustive-sound}
 use Rattle.reconfiguration.specs.Solve.{bestBy, best}
-use Rattle.reconfiguration.specs.FromBase.{FromBase, base-good, from-base, toggled-from-base, swapped-from-base}
-use Rattle.reconfiguration.specs.ExchangeLaws.{tie-operable, exchange-keeps, exchange-loss}
-use Rattle.reconfiguration.specs.TabuLaws.{tabu-keeps, tabu-loss}
-use Rattle.reconfiguration.specs.ExhaustiveLaws.{exhaustive-closes}
-use Rattle.reconfiguration.specs.LiveBranches.{radial-part-same}
 
 module _ (N : Network) where
-  exchange-from-base : FromBase N (exchange N .state)
-  exchange-from-base = exchange-keeps N (FromBase N) (λ s t h w. rw (w .result) (swapped-from-base N s h (w .tie) (w .section) (tie-operable N w) (w .section-operable))) (from-base N)
-
-  tabu-from-base : FromBase N (tabu N .best)
-  tabu-from-base = tabu-keeps N (FromBase N) (λ s t h w. rw (w .result) (toggled-from-base N s h (w .moved) (w .operates))) (from-base N)
+  best-sound : Sound N (best N)
+  unfolding best bestBy
+  best-sound = go (N .algorithm)
+    where
+      go : (a : ReconfigAlgorithm) → Sound N (bestBy a N)
+      go BranchExchange = exchange-sound N
+      go TabuSearch = tabu-sound N
+      go Exhaustive = exhaustive-sound N
 
   -- ---- of every answer
   -- it has one byte 00 or 01 for each switch
   pub best-good : GoodState N (best N .state)
-  unfolding best bestBy
-  best-good = go (N .algorithm)
-    where
-      go : (a : ReconfigAlgorithm) → GoodState N (bestBy a N .state)
-      go BranchExchange = exchange-from-base .good
-      go TabuSearch = tabu-from-base .good
-      go Exhaustive = exhaustive-closes N .good
+  best-good = best-sound .good
 
   -- its loss is that of its state
   pub best-loss : best N .loss ≡ lossIn N (best N .state)
-  unfolding best bestBy
-  best-loss = go (N .algorithm)
-    where
-      go : (a : ReconfigAlgorithm) → bestBy a N .loss ≡ lossIn N (bestBy a N .state)
-      go BranchExchange = exchange-loss N
-      go TabuSearch = tabu-loss N
-      go Exhaustive = exhaustive-closes N .loses
+  best-loss = best-sound .loses
 
   -- ---- of every answer from a radial base
   module _ (r : radialIn N (baseState N) ≡ true) where
     -- it is radial
     pub best-radial : radialIn N (best N .state) ≡ true
-    unfolding best bestBy
-    best-radial = go (N .algorithm)
-      where
-        go : (a : ReconfigAlgorithm) → radialIn N (bestBy a N .state) ≡ true
-        go BranchExchange = exchange-keeps N (λ s. radialIn N s ≡ true) (λ s t h w. w .radial) r
-        go TabuSearch = tabu-keeps N (λ s. radialIn N s ≡ true) (λ s t h w. w .radial) r
-        go Exhaustive = exhaustive-closes N .radial r
+    best-radial = best-sound .radial r
 
     -- the switches that a plan moves are operable
     pub best-free : Inside N → Free N (baseState N) (best N .state)
-    unfolding best bestBy
+    unfolding best bestBy exchangeBest tabuBest exhaustiveBest
     best-free inside = go (N .algorithm)
       where
         go : (a : ReconfigAlgorithm) → Free N (baseState N) (bestBy a N .state)
-        go BranchExchange = λ i l n d. exchange-from-base .moved i n
-        go TabuSearch = λ i l n d. tabu-from-base .moved i n
+        go BranchExchange = λ i l n d. exchange-from-base N .moved i n
+        go TabuSearch = λ i l n d. tabu-from-base N .moved i n
         go Exhaustive = λ i l n d. let h = exhaustive-closes N in absurd (d (radial-part-same N inside (baseState N) _ r (h .radial r) (h .more) (branchOf N i)))
 
 -- planned for a search's answer from a radial base, no refusal comes before 13

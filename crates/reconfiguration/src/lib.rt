@@ -1,7 +1,2 @@
-// The searches, their answer, and the list of operations.
-mod exchange;
-mod exhaustive;
+// The search that a feeder asks for.
 pub mod solve;
-mod states;
-mod tabu;
-mod tabu_list;

@@ -23,7 +23,8 @@ use Rattle.losses.specs.Loss.{lossIn}
 use Rattle.printing.specs.Calls.{checkRoom, Call, answered, called}
 use Rattle.plan.specs.Plan.{planned}
 use Rattle.reconfiguration.specs.Answers.{best-loss}
-use Rattle.reconfiguration.specs.Solve.{best, Result, result, solved}
+use Rattle.searches.specs.Results.{Result, resultBy, solvedBy}
+use Rattle.reconfiguration.specs.Solve.{best, result, solved}
 use Rattle.controller.specs.Calls.{onRecords}
 use Rattle.controller.specs.CallLaws.{numbered, NoNan, radiality-answered, loss-answered, plan-answered, radiality-refused, loss-refused, plan-refused}
 use Rattle.timing.specs.Rounds.{valueOf, recordCount, searchValue, asked, total}
@@ -79,7 +80,7 @@ bits-if-accepted (accepted u) r bytes out h = h refl
 bits-if-accepted (refused n p) r bytes out h = tt
 
 pub search-no-nan : (N : Network) (out : List ℕ) (x : Answer Result) → x ≡ solved N out .answer → NoNan (lossOf x)
-unfolding solved called result
+unfolding solved solvedBy called result resultBy
 search-no-nan N out x e =
     let room = checkRoom (length (best N .state)) (length out) in
     let bits : checkRecords N ≡ accepted tt → T (not (isNan (best N .loss))) =

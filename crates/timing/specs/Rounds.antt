@@ -9,7 +9,8 @@ use Rattle.numbers.specs.UpTo.{upTo}
 use Rattle.network.specs.Answers.{Answer, accepted, refused}
 use Rattle.network.specs.Records.{Network}
 use Rattle.frames.specs.Text.{readText}
-use Rattle.reconfiguration.specs.Solve.{Result, solved}
+use Rattle.searches.specs.Results.{Result}
+use Rattle.reconfiguration.specs.Solve.{solved}
 use Rattle.controller.specs.CallLaws.{numbered}
 use Rattle.controller.specs.Calls.{onRecords, textRadiality, textLoss, textPlan}
 

@@ -23,8 +23,8 @@ use plan::planner::PlanAnswer;
 use plan::planner::plan;
 use radiality::radiality::Radiality;
 use radiality::radiality::verify_radiality;
-use reconfiguration::solve::SolveAnswer;
 use reconfiguration::solve::solve;
+use searches::answer::SolveAnswer;
 
 // How many records a text has.
 pub(crate) fn reading(text: &[u8]) -> u64

@@ -2,7 +2,7 @@
 use mathlib.Core.Path.{ap, sym, subst, _∙_}
 use lib.Ieee.{binary64, toBits}
 use Rattle.printing.specs.Calls.{Call}
-use Rattle.reconfiguration.specs.Solve.{Result, solveAnswerOf}
+use Rattle.searches.specs.Results.{Result, solveAnswerOf}
 use Rattle.controller.specs.CallLaws.{numbered, NoNan}
 use Rattle.timing.specs.Rounds.{valueOf, searchValue}
 use Rattle.timing.specs.RoundLaws.{lossOf, search-no-nan}

@@ -1,0 +1,256 @@
+-- `branch_exchange_step` meets its contract: the best is that of the first i switches. A switch is not seen, or its loop has no section, or its trial does not improve, or it takes the place of
+-- the best before.
+use mathlib.Core.Path.{_≡_, refl, sym, ap, _∙_}
+use mathlib.Core.Logic.{⊎-elim}
+use mathlib.Core.Option.{none}
+use Prim.Native.Nat.{_≤_, _<_, _-_}
+use native.Mathlib.Omega.{arith}
+use lib.ListN.{length, getD}
+use borrow.Author.Needs.{needs}
+use Rattle.numbers.specs.UpTo.{upTo, upTo-more}
+use Rattle.network.specs.ReadLaws.{pastBranch, length-of}
+use Rattle.network.specs.Records.{noSwitch, recordsOf}
+use Rattle.network.proofs.branch.Branch as branch
+use Rattle.network.proofs.bus.Bus as bus
+use Rattle.radiality.specs.FeederRows.{liveFlags}
+use Rattle.losses.specs.Loss.{lossIn}
+use Rattle.searches.specs.States.{stateOf}
+use Rattle.network.specs.Listed.{few-switches, switches-listed}
+use Rattle.searches.specs.StateLaws.{flags-listed, held-bytes, swapped-held}
+use Rattle.searches.specs.StateRows.{flags-loss}
+use Rattle.network.specs.Switches.{size, swapped}
+use Rattle.searches.specs.SwitchReads.{SwitchAt, on-branch, switch-read}
+use Rattle.exchange.specs.Exchange.{roundOf}
+use Rattle.exchange.specs.ExchangeSwaps.{sections-long}
+use Rattle.exchange.specs.ExchangeTrials.{Tried, tie-tried, tried-flags, seen-read, see-unseen, see-none, see-tried}
+use Rattle.exchange.specs.ExchangeValues.{trialOf, seeing}
+use Rattle.exchange.proofs.exchange.branch_exchange_step.Statement.{statement}
+use Rattle.exchange.proofs.exchange.branch_exchange_step.Tie as tie
+
+abbrev Inv-loop : tie.InvT-loop
+Inv-loop graph loads configuration current network sections live state branches base-mva count best₀ i₀ best i =
+    (i ≤ count) × (best ≡ trialOf (recordsOf network) configuration (upTo (seeing (recordsOf network) (stateOf network configuration) current) none i))
+
+abbrev μ-loop : tie.MeasureT-loop
+μ-loop graph loads configuration current network sections live state branches base-mva count best₀ i₀ best i = count - i
+
+live-branches-requires : tie.Need-live-branches-requires Inv-loop μ-loop
+live-branches-requires c κs = search needs
+
+wide16-requires : tie.Need-wide16-requires Inv-loop μ-loop
+wide16-requires c κs = search needs
+
+loop-holds : tie.Need-loop-holds Inv-loop μ-loop
+unfolding upTo trialOf
+loop-holds c = (omega arith, refl)
+
+mul-switch : tie.Need-mul-switch Inv-loop μ-loop
+mul-switch c = search needs
+
+-- switch i is listed, and so it has a byte
+listed : (c : tie.In-loop Inv-loop μ-loop) → c .before .loop .i < c .before .before .before .before .before .before .args .t1 .«switch_count»
+listed c = omega (arith, c .loop-test .taken, c .before .before .wide16 .ensures .0)
+
+inside : (c : tie.In-loop Inv-loop μ-loop) → c .before .loop .i < 512
+inside c =
+    let start = c .before .before .before .before .before .before in
+    omega (arith, listed c, few-switches (start .args .t1) (start .pre .0 .0))
+
+element-copy-out-switch : tie.Need-element-copy-out-switch Inv-loop μ-loop
+element-copy-out-switch c = inside c
+
+wide16-requires-2 : tie.Need-wide16-requires-2 Inv-loop μ-loop
+wide16-requires-2 c κs = search needs
+
+mul-served : tie.Need-mul-served Inv-loop μ-loop
+mul-served c = search needs
+
+-- the branch of switch i has a flag
+within : (c : tie.After-wide162 Inv-loop μ-loop) → c .wide162 .result < 512
+within c =
+    let loop = c .before .before .before in
+    let start = loop .before .before .before .before .before in
+    omega (arith, c .wide162 .ensures .0, on-branch (start .args .t1) (start .pre .0 .0) (loop .loop .i) (listed (c .before .before)) _ refl)
+
+element-copy-out-served : tie.Need-element-copy-out-served Inv-loop μ-loop
+element-copy-out-served c = within c
+
+array-read-is-seen : tie.Need-array-read-is-seen Inv-loop μ-loop
+array-read-is-seen c = inside (c .before .before)
+
+is-seen-requires : tie.Need-is-seen-requires Inv-loop μ-loop
+is-seen-requires c κs = search needs
+
+-- switch i, and the status of its branch
+here : (c : tie.After-wide162 Inv-loop μ-loop)
+    → let loop = c .before .before .before in
+    let n = loop .before .before .before .before .before .args .t1 in
+    SwitchAt n (loop .loop .i) (getD (n .switches) (loop .loop .i) noSwitch) (getD (n .branches) (c .wide162 .result) pastBranch .status)
+here c =
+    let loop = c .before .before .before in
+    let start = loop .before .before .before .before .before in
+    let n = start .args .t1 in
+    switch-read n (start .pre .0 .0) (loop .loop .i) (listed (c .before .before)) _ refl (length-of (branch.the-type .to) (n .branches) (start .good .0 .1 .1 .1 .0 .1 .0 .1)) _ (c .wide162 .ensures .0)
+
+-- the live branches of the round's state
+flags : (c : tie.After-live-branches Inv-loop μ-loop) → let args = c .before .args in c .live-branches .result ≡ liveFlags (recordsOf (args .t1)) (stateOf (args .t1) (args .configuration))
+flags c = let args = c .before .args in c .live-branches .ensures ∙ flags-listed (args .t1) (args .configuration)
+
+try-tie-requires : tie.Need-try-tie-requires Inv-loop μ-loop
+try-tie-requires c κs =
+    let read = c .before .before .before .before in
+    let start = read .before .before .before .before .before .before .before .before in
+    let n = start .args .t1 in
+    (ap length (start .pre .1) ∙ sections-long (recordsOf n), held-bytes n (start .args .configuration) (start .pre .2), omega (arith, read .wide162 .ensures .0, within read))
+
+-- the section of its trial
+tried : (c : tie.After-wide163 Inv-loop μ-loop)
+    → let loop = c .before .before .before .before .before .before .before .before .before in
+    let args = loop .before .before .before .before .before .args in
+    Tried (args .t1) (args .configuration) (loop .loop .i) (c .wide163 .result)
+tried c =
+    let call = c .before in
+    let read = call .before .before .before .before .before in
+    let loop = read .before .before .before in
+    let made = loop .before .before .before .before in
+    let start = made .before in
+    let n = start .args .t1 in
+    let sized = length-of (bus.the-type .to) (n .buses) (start .good .0 .1 .1 .0 .1 .0 .1) in
+    tie-tried n (start .pre .0 .0) (start .args .configuration) (start .pre .2) (loop .loop .i) _ _ (here read) _ (flags made) sized _ (start .pre .0 .1) _ (start .pre .1) _
+    (c .wide163 .ensures .0 ∙ call .try-tie .ensures)
+
+wide16-requires-3 : tie.Need-wide16-requires-3 Inv-loop μ-loop
+wide16-requires-3 c κs = search needs
+
+mul-wide16 : tie.Need-mul-wide16 Inv-loop μ-loop
+mul-wide16 c = search needs
+
+element-copy-out-wide16 : tie.Need-element-copy-out-wide16 Inv-loop μ-loop
+element-copy-out-wide16 c = c .if2 .taken
+
+wide16-requires-4 : tie.Need-wide16-requires-4 Inv-loop μ-loop
+wide16-requires-4 c κs = search needs
+
+swapped-live-requires : tie.Need-swapped-live-requires Inv-loop μ-loop
+swapped-live-requires c κs =
+    let found = c .before in
+    let call = found .before in
+    let read = call .before .before .before .before .before .before in
+    let start = read .before .before .before .before .before .before .before .before in
+    (within read, omega (arith, c .wide164 .ensures .0, on-branch (start .args .t1) (start .pre .0 .0) (call .wide163 .result) (tried call .below (found .if2 .taken)) _ refl))
+
+compute-losses-estimate-requires : tie.Need-compute-losses-estimate-requires Inv-loop μ-loop
+compute-losses-estimate-requires c κs = search needs
+
+-- the loss of its trial
+lost : (c : tie.After-compute-losses-estimate Inv-loop μ-loop)
+    → let call = c .before .before .before .before in
+    let loop = call .before .before .before .before .before .before .before .before .before in
+    let args = loop .before .before .before .before .before .args in
+    c .compute-losses-estimate .result ≡ lossIn (recordsOf (args .t1)) (swapped (stateOf (args .t1) (args .configuration)) (loop .loop .i) (call .wide163 .result))
+lost c =
+    let moved = c .before in
+    let opened = moved .before in
+    let found = opened .before in
+    let call = found .before in
+    let read = call .before .before .before .before .before .before in
+    let loop = read .before .before .before in
+    let made = loop .before .before .before .before in
+    let start = made .before in
+    let n = start .args .t1 in
+    let given = start .pre .0 in
+    let sized = length-of (bus.the-type .to) (n .buses) (start .good .0 .1 .1 .0 .1 .0 .1) in
+    let live = tried-flags n (given .0) (start .args .configuration) (start .pre .2) (loop .loop .i) _ _ (here read) _ (flags made) (call .wide163 .result) (tried call .below (found .if2 .taken)) _ _
+    (read .wide162 .ensures .0) (opened .wide164 .ensures .0) in
+    flags-loss n sized (given .0) (swapped (stateOf n (start .args .configuration)) (loop .loop .i) (call .wide163 .result)) _ _ (given .1) (moved .swapped-live .ensures ∙ live) _ _ (given .2)
+    (c .compute-losses-estimate .ensures)
+
+better-of-requires : tie.Need-better-of-requires Inv-loop μ-loop
+better-of-requires c κs =
+    let found = c .before .before .before in
+    let goes = found .before .before .before .before .before .before .before .before .before in
+    (inside goes, found .if2 .taken)
+
+add-i : tie.Need-add-i Inv-loop μ-loop
+add-i c = search needs
+
+loop-less : tie.Need-loop-less Inv-loop μ-loop
+loop-less c = search needs
+
+loop-again : tie.Need-loop-again Inv-loop μ-loop
+loop-again c =
+    let asked = c .before in
+    let read = asked .before in
+    let goes = read .before .before in
+    let loop = goes .before in
+    let start = loop .before .before .before .before .before in
+    let n = start .args .t1 in
+    let N = recordsOf n in
+    let ok = start .pre .0 .0 in
+    let held = start .args .configuration in
+    let s = stateOf n held in
+    let current = start .args .current in
+    let i = loop .loop .i in
+    let so-far = upTo (seeing N s current) none i in
+    let best = loop .loop .inv .1 in
+    let seen = seen-read n ok held i _ _ (here read) _ (asked .is-seen .ensures) in
+    let more = ap (trialOf N held) (sym (upTo-more (seeing N s current) none i)) in (
+      omega arith,
+      ⊎-elim
+          (λ w.
+          let call : tie.After-wide163 Inv-loop μ-loop = record {
+            before = record { before = record { before = record { before = record { before = asked; if1 = w .0 }; sections = w .1 }; state2 = w .2 }; try-tie = w .3 };
+            wide163 = w .4;
+          } in
+          let t = tried call in
+          let loses = lost (record { before = record { before = record { before = record { before = call; if2 = w .5 }; wide164 = w .6 }; swapped-live = w .7 }; compute-losses-estimate = w .8 }) in
+          let swaps = swapped-held n held i (w .4 .result) (listed goes) (t .below (w .5 .taken)) (start .pre .2) (few-switches n ok) in
+          w .10 ∙ w .9 .ensures ∙ see-tried N held s current so-far _ best i (seen ∙ w .0 .taken) (swapped s i (w .4 .result)) (t .found (w .5 .taken)) _ loses _ swaps ∙ more)
+          (⊎-elim
+          (λ w.
+          let call : tie.After-wide163 Inv-loop μ-loop = record {
+            before = record { before = record { before = record { before = record { before = asked; if1 = w .0 }; sections = w .1 }; state2 = w .2 }; try-tie = w .3 };
+            wide163 = w .4;
+          } in
+          w .6 ∙ see-none N held s current so-far _ best i (seen ∙ w .0 .taken) (tried call .absent (λ h. omega (arith, w .5 .left))) ∙ more)
+          (λ w. w .1 ∙ see-unseen N held s current so-far _ best i (seen ∙ w .0 .left) ∙ more))
+          (c .if1 .came),
+    )
+
+returns : tie.Need-returns Inv-loop μ-loop
+unfolding roundOf
+returns c =
+    let loop = c .before in
+    let args = loop .before .before .before .before .before .args in
+    let N = recordsOf (args .t1) in
+    let all : loop .loop .i ≡ size N = omega (arith, switches-listed (args .t1)) in
+    loop .loop .inv .1 ∙ ap (λ m. trialOf N (args .configuration) (upTo (seeing N (stateOf (args .t1) (args .configuration)) (args .current)) none m)) all
+
+pub branch-exchange-step-spec : {M : Type 1} → statement M
+branch-exchange-step-spec =
+    tie.close
+    (tie.spec
+    Inv-loop
+    μ-loop
+    live-branches-requires
+    wide16-requires
+    loop-holds
+    mul-switch
+    element-copy-out-switch
+    wide16-requires-2
+    mul-served
+    element-copy-out-served
+    array-read-is-seen
+    is-seen-requires
+    try-tie-requires
+    wide16-requires-3
+    mul-wide16
+    element-copy-out-wide16
+    wide16-requires-4
+    swapped-live-requires
+    compute-losses-estimate-requires
+    better-of-requires
+    add-i
+    loop-less
+    loop-again
+    returns)

@@ -1,0 +1,50 @@
+-- `try_tie` meets its contract: the first swap along the path by the rows, with the tie's branch live where it is in service.
+use mathlib.Core.Path.{ap, _∙_}
+use denote.Struct.Field.{u16-field}
+use lib.ListN.{take, set}
+use borrow.Author.Needs.{needs}
+use Rattle.numbers.specs.Choose.{firstSome}
+use Rattle.network.specs.ReadLaws.{length-of}
+use Rattle.graph.specs.Filled.{path-few}
+use Rattle.exchange.specs.ExchangeTrials.{path-list}
+use Rattle.exchange.specs.ExchangeValues.{sectionAt, rowSwap, rowTrial}
+use Rattle.exchange.proofs.exchange.try_tie.Statement.{statement}
+use Rattle.exchange.proofs.exchange.try_tie.Tie as tie
+
+find-loop-branches-closed-tie-requires : tie.Need-find-loop-branches-closed-tie-requires
+find-loop-branches-closed-tie-requires c κs = search needs
+
+wide16-requires : tie.Need-wide16-requires
+wide16-requires c κs = search needs
+
+array-write-closed : tie.Need-array-write-closed
+array-write-closed c = search needs
+
+first-swap-requires : tie.Need-first-swap-requires
+first-swap-requires c κs =
+    let found = c .before in
+    let start = found .before in
+    let long = length-of (u16-field .into) (found .find-loop-branches-closed-tie .result .branch) (found .find-loop-branches-closed-tie .ok .1 .1 .1 .0 .1 .0 .1) in
+    (start .pre .0, start .pre .1, path-few _ _ (found .find-loop-branches-closed-tie .ensures) long)
+
+returns : tie.Need-returns
+unfolding rowTrial
+returns c =
+    let at = c .before in
+    let found = at .before in
+    let start = found .before in
+    let swaps = rowSwap (start .args .graph) (start .args .sections .now) (start .args .state .now) in
+    let path = found .find-loop-branches-closed-tie .result in
+    c .first-swap .ensures
+    ∙ ap (λ k. sectionAt (firstSome (swaps (set (start .args .live) k (start .args .in-service))) (take (path .count) (path .branch)))) (at .wide16 .ensures .0)
+    ∙ ap (λ l. sectionAt (firstSome (swaps (set (start .args .live) (start .args .branch) (start .args .in-service))) l)) (path-list _ path (found .find-loop-branches-closed-tie .ensures))
+
+pub try-tie-spec : {M : Type 1} → statement M
+try-tie-spec =
+    tie.close
+    (tie.spec
+    find-loop-branches-closed-tie-requires
+    wide16-requires
+    array-write-closed
+    first-swap-requires
+    returns)

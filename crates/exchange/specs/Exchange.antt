@@ -1,0 +1,78 @@
+-- Document 01's branch exchange, step by step. Its background is Merlin and Back 1975.
+use mathlib.Core.Bool.{Bool, true, false, cond, not, _&&_}
+use mathlib.Core.List.{List}
+use mathlib.Core.Option.{Option, none, some}
+use Prim.Native.Nat.{ℕ, zero, suc}
+use lib.Dec.{eqb, ltb}
+use lib.Ieee.{Float, binary64, sub, lt}
+use Rattle.numbers.specs.Constants.{billionth}
+use Rattle.numbers.specs.UpTo.{upTo}
+use Rattle.numbers.specs.Choose.{least, firstSome}
+use Rattle.network.specs.Records.{Network}
+use Rattle.network.specs.Live.{live, baseState}
+use Rattle.network.specs.Switches.{State, byte, branchOf, operable, size, isTie, swapped}
+use Rattle.graph.specs.Walk.{bfsPath}
+use Rattle.radiality.specs.Feeder.{feeder, radialIn}
+use Rattle.losses.specs.Loss.{lossIn}
+use Rattle.searches.specs.Results.{Best}
+
+-- "the normally open, operable, still open switches"
+abbrev pub seen : Network → State → ℕ → Bool
+seen N s i = isTie N i && (operable N i && eqb (byte s i) 1)
+
+-- "The loop is the breadth-first path from the tie's from bus to its to bus"
+unfoldable pub loopOf : Network → State → ℕ → List ℕ
+loopOf N s tie = bfsPath (feeder N) (live N s) (feeder N .from (branchOf N tie)) (feeder N .to (branchOf N tie))
+
+-- the "first operable section switch" of branch k
+unfoldable pub sectionOf : Network → ℕ → Option ℕ
+sectionOf N k = least (λ i. eqb (branchOf N i) k && (not (isTie N i) && operable N i)) (size N)
+
+-- the swap of a tie with a section, where the section "is closed" and the "swap is radial"
+unfoldable pub swapWith : Network → State → ℕ → Option ℕ → Option State
+swapWith N s tie none = none
+swapWith N s tie (some section) = cond (eqb (byte s section) 0 && radialIn N (swapped s tie section)) (some (swapped s tie section)) none
+
+-- "The first branch whose first operable section switch is closed and whose swap is radial is tried, then the tie is done, better or not"
+unfoldable pub trial : Network → State → ℕ → Option State
+trial N s tie = firstSome (λ k. swapWith N s tie (sectionOf N k)) (loopOf N s tie)
+
+-- "A trial improves when its loss is below current − 1e-9"
+unfoldable pub improves : Network → Float → State → Bool
+improves N current t = lt (lossIn N t) (sub binary64 current billionth)
+
+-- a trial that improves takes the place of the one before: "The last improving tie wins the round"
+unfoldable pub kept : Network → Float → Option State → Option State → Option State
+kept N current best none = best
+kept N current best (some t) = cond (improves N current t) (some t) best
+
+-- a round "sees the normally open, operable, still open switches in list order", each with the state as the round found it
+unfoldable pub roundOf : Network → State → Float → Option State
+roundOf N s current = upTo (λ best i. cond (seen N s i) (kept N current best (trial N s i)) best) none (size N)
+
+-- where the exchange stands after some rounds
+pub record Exchange : Type 0 where
+  pub state : State
+  pub loss : Float
+  pub rounds : ℕ
+  pub ended : Bool
+
+-- "Every round counts"; "A round without one ends the search"
+unfoldable pub afterRound : Network → Exchange → Option State → Exchange
+afterRound N x none = record { state = x .state; loss = x .loss; rounds = suc (x .rounds); ended = true }
+afterRound N x (some t) = record { state = t; loss = lossIn N t; rounds = suc (x .rounds); ended = false }
+
+-- "up to max_iterations rounds": n more
+unfoldable pub exchangeRounds : Network → ℕ → Exchange → Exchange
+exchangeRounds N zero x = x
+exchangeRounds N (suc n) x = elim (x .ended) [ true ↦ x | false ↦ exchangeRounds N n (afterRound N x (roundOf N (x .state) (x .loss))) ]
+
+-- from the base
+unfoldable pub exchange : Network → Exchange
+exchange N = exchangeRounds N (N .iterations) (record { state = baseState N; loss = lossIn N (baseState N); rounds = 0; ended = false })
+
+-- "Every round counts; converged means rounds < max_iterations"
+unfoldable pub exchangeBest : Network → Best
+exchangeBest N =
+    let x = exchange N in
+    record { state = x .state; loss = x .loss; iterations = x .rounds; converged = ltb (x .rounds) (N .iterations) }

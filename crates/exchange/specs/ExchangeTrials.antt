@@ -1,0 +1,219 @@
+-- What the code holds of a trial: the first swap along a path, the loop of a tie by the rows, and the last improving trial of a round.
+use mathlib.Core.Path.{_≡_, refl, sym, ap, _∙_, fun-ext}
+use mathlib.Core.Bool.{Bool, true, false, cond, _&&_}
+use mathlib.Core.List.{List, [], _∷_}
+use mathlib.Core.Option.{Option, none, some}
+use Prim.Native.Nat.{ℕ, _+_, _-_, _≤_, _<_}
+use native.Mathlib.Decide.{decLt}
+use native.Mathlib.Omega.{arith}
+use lib.Dec.{eqb, ltb}
+use lib.Ieee.{Float, binary64, sub, lt}
+use lib.ListN.{length, getD, take, drop, set, replicate, length-take, List·getD-eq-default}
+use lib.Seq.{getD-take, take-append-seam}
+use borrow.Author.Tests.{lt-ltb, le-ltb, ltb-true, eq-eqb, ne-eqb}
+use Rattle.numbers.specs.Constants.{billionth}
+use Rattle.numbers.specs.Tests.{both}
+use Rattle.numbers.specs.Choose.{firstSome, _orElse_}
+use Rattle.network.specs.declared.configuration.NetworkConfiguration.{NetworkConfiguration}
+use Rattle.network.specs.declared.switch.Switch.{Switch}
+use Rattle.network.specs.declared.topology.PowerNetwork.{PowerNetwork}
+use Rattle.network.specs.Records.{Network, noSwitch, recordsOf}
+use Rattle.network.specs.Answers.{accepted}
+use Rattle.network.specs.Check.{checkRecords}
+use Rattle.network.specs.Configuration.{configurationOf}
+use Rattle.network.specs.InsideLaws.{check-inside}
+use Rattle.network.specs.Positions.{on-a-branch}
+use Rattle.graph.specs.declared.rows.Graph.{Graph}
+use Rattle.graph.specs.declared.walks.Path.{Path}
+use Rattle.graph.specs.Rows.{filled, pathOf, rowNet, rowPath, rowRadial}
+use Rattle.radiality.specs.Feeder.{feeder}
+use Rattle.radiality.specs.FeederLaws.{feeder-sound, feeder-small}
+use Rattle.radiality.specs.FeederRows.{feederGraph, liveFlags}
+use Rattle.radiality.specs.FeederRowLaws.{feeder-row-ends, live-row-path}
+use Rattle.losses.specs.Loss.{lossIn}
+use Rattle.network.specs.Switches.{State, byte, branchOf, swapped, inService}
+use Rattle.exchange.specs.declared.exchange.Trial.{Trial}
+use Rattle.searches.specs.States.{stateOf}
+use Rattle.searches.specs.Given.{Held}
+use Rattle.network.specs.Listed.{switches-listed, few-switches, switch-at}
+use Rattle.searches.specs.StateLaws.{byte-at}
+use Rattle.searches.specs.SwitchReads.{SwitchAt, own-switch, own-status}
+use Rattle.exchange.specs.Exchange.{seen, loopOf, sectionOf, swapWith, trial, improves, kept}
+use Rattle.searches.specs.Found.{IfSome, cond-holds, firstSome-holds}
+use Rattle.exchange.specs.ExchangeValues.{sectionAt, sectionsOf, rowSwap, rowTrial, swapAt, trialOf, seeing}
+use Rattle.exchange.specs.ExchangeSwaps.{swapped-flags, swap-by-row, row-below}
+use Rattle.exchange.specs.Firsts.{first-next, first-found}
+
+-- ---- a section as the code holds it: 512 is none
+pub section-some : (found : Option ℕ) (section : ℕ) → section ≡ sectionAt found → section < 512 → found ≡ some section
+unfolding sectionAt
+section-some none section e l = absurd (omega arith)
+section-some (some i) section e l = ap some (sym e)
+
+pub section-none : (found : Option ℕ) (section : ℕ) → IfSome (λ i. i < 512) found → section ≡ sectionAt found → (section < 512 → ⊥) → found ≡ none
+unfolding sectionAt
+section-none none section h e l = refl
+section-none (some i) section h e l = absurd (l (omega arith))
+
+-- ---- the swap with the section of a branch, test by test
+-- beyond the array there is none
+pub section-within : (sections : List ℕ) (k section : ℕ) → length sections ≡ 512 → section ≡ getD sections k 512 → section < 512 → k < 512
+section-within sections k section long e l = go (decLt k 512)
+  where
+    go : Dec (k < 512) → k < 512
+    go (yes h) = h
+    go (no n) = absurd (omega (arith, List·getD-eq-default sections 512 {n = k} (omega arith)))
+
+module _ (g : Graph) (sections state : List ℕ) (live : List Bool) (k section : ℕ) (e : section ≡ getD sections k 512) where
+  pub swap-absent : (section < 512 → ⊥) → 512 ≡ sectionAt (rowSwap g sections state live k)
+  unfolding rowSwap sectionAt
+  swap-absent l = rw (← e, le-ltb section 512 (omega arith))
+
+  module _ (l : section < 512) where
+    pub swap-open : (getD state section 0 ≡ 0 → ⊥) → 512 ≡ sectionAt (rowSwap g sections state live k)
+    unfolding rowSwap sectionAt
+    swap-open o = rw (← e, lt-ltb section 512 l, ne-eqb (getD state section 0) 0 o)
+
+    module _ (o : getD state section 0 ≡ 0) (radial : Bool) (r : radial ≡ rowRadial g (set live k false)) where
+      pub swap-loops : radial ≡ false → 512 ≡ sectionAt (rowSwap g sections state live k)
+      unfolding rowSwap sectionAt
+      swap-loops f = rw (← e, lt-ltb section 512 l, eq-eqb (getD state section 0) 0 o, ← r, f)
+
+      pub swap-radial : radial ≡ true → section ≡ sectionAt (rowSwap g sections state live k)
+      unfolding rowSwap sectionAt
+      swap-radial t = rw (← e, lt-ltb section 512 l, eq-eqb (getD state section 0) 0 o, ← r, t)
+
+pub swap-small : (g : Graph) (sections state : List ℕ) (live : List Bool) (k : ℕ) → IfSome (λ i. i < 512) (rowSwap g sections state live k)
+unfolding rowSwap
+swap-small g sections state live k =
+    let section = getD sections k 512 in
+    let fits = eqb (getD state section 0) 0 && rowRadial g (set live k false) in
+    cond-holds (λ i. i < 512) (ltb section 512 && fits) (some section) none (λ t. ltb-true section 512 (both (ltb section 512) fits t .0)) tt
+
+-- ---- the first swap along a path, whose branches are the first of an array
+module _ (f : ℕ → Option ℕ) (small : (k : ℕ) → IfSome (λ i. i < 512) (f k)) (array : List ℕ) (count i section : ℕ) (e : section ≡ sectionAt (f (getD array i 0))) (l : i < count)
+    (long : count ≤ length array) where
+  abbrev path : List ℕ
+  path = take count array
+
+  inside : i < length path
+  inside = simp length-take (omega arith)
+
+  here : (found : Option ℕ) → f (getD array i 0) ≡ found → f (getD path i 0) ≡ found
+  here found q = ap f (getD-take count array i 0 l) ∙ q
+
+  pub along-next : (section < 512 → ⊥) → firstSome f (drop i path) ≡ firstSome f path → firstSome f (drop (i + 1) path) ≡ firstSome f path
+  along-next h q = sym (first-next f path i inside (here none (section-none _ section (small (getD array i 0)) e h))) ∙ q
+
+  pub along-found : section < 512 → firstSome f (drop i path) ≡ firstSome f path → section ≡ sectionAt (firstSome f path)
+  unfolding sectionAt
+  along-found h q = ap sectionAt (sym (first-found f path i section inside (here (some section) (section-some _ section e h))) ∙ q)
+
+-- ---- a path as the code holds it
+pub path-list : (l : List ℕ) (p : Path) → p ≡ pathOf l → take (p .count) (p .branch) ≡ l
+unfolding pathOf filled
+path-list l p e = rw e (take-append-seam l (replicate (256 - length l) 0))
+
+-- ---- the trial of a tie by the rows
+first-swapped : (s : State) (tie : ℕ) (f : ℕ → Option ℕ) (l : List ℕ) → firstSome (λ k. swapAt s tie (f k)) l ≡ swapAt s tie (firstSome f l)
+unfolding firstSome _orElse_ swapAt
+first-swapped s tie f [] = refl
+first-swapped s tie f (k ∷ l) = go (f k) (first-swapped s tie f l)
+  where
+    go : (found : Option ℕ) → firstSome (λ k. swapAt s tie (f k)) l ≡ swapAt s tie (firstSome f l) → (swapAt s tie found orElse firstSome (λ k. swapAt s tie (f k)) l) ≡ swapAt s tie (found orElse firstSome f l)
+    go none ih = ih
+    go (some section) ih = refl
+
+module _ (n : PowerNetwork) (ok : checkRecords (recordsOf n) ≡ accepted tt) (sized : length (n .buses) ≡ 256) (c : NetworkConfiguration) (held : Held n c) (tie : ℕ) (h : tie < n .«switch_count»)
+    (g : Graph) (a : g ≡ feederGraph n) (sections : List ℕ) (q : sections ≡ sectionsOf (recordsOf n)) (live : List Bool) (b : live ≡ liveFlags (recordsOf n) (stateOf n c)) where
+  abbrev N : Network
+  N = recordsOf n
+
+  abbrev on : ℕ
+  on = branchOf N tie
+
+  abbrev pub tieRow : Option ℕ
+  tieRow = rowTrial g sections (c .switches) live on (inService N on)
+
+  loop-by-rows : rowPath g live (rowNet g .from on) (rowNet g .to on) ≡ loopOf N (stateOf n c) tie
+  unfolding loopOf
+  loop-by-rows =
+      let listed : on < feeder N .branches = unfold feeder in on-a-branch N (check-inside N .0 ok) tie (omega (arith, switches-listed n)) in
+      let ends = feeder-row-ends n sized ok on listed in
+      let inside = check-inside N .0 ok in
+      let small : feeder N .from on < 256 = omega (arith, feeder-sound N inside on listed .0, feeder-small N inside) in
+      rw (a, b, ends .0, ends .1) (live-row-path n sized ok (stateOf n c) (feeder N .from on) (feeder N .to on) small)
+
+  pub trial-by-rows : trial N (stateOf n c) tie ≡ swapAt (stateOf n c) tie tieRow
+  unfolding trial rowTrial
+  trial-by-rows =
+      let path = rowPath g live (rowNet g .from on) (rowNet g .to on) in
+      ap (firstSome (λ k. swapWith N (stateOf n c) tie (sectionOf N k))) (sym loop-by-rows)
+      ∙ ap (λ f. firstSome f path) (fun-ext (swap-by-row n ok c held tie h sized g a sections q live b))
+      ∙ first-swapped (stateOf n c) tie _ path
+
+  pub trial-below : IfSome (λ i. i < n .«switch_count») tieRow
+  unfolding rowTrial
+  trial-below = firstSome-holds (λ i. i < n .«switch_count») _ (row-below n ok c held tie h sized g a sections q live b) _
+
+-- what the section that the code finds for a tie says, 512 for none
+pub record Tried (n : PowerNetwork) (c : NetworkConfiguration) (tie section : ℕ) : Type 0 where
+  pub absent : (section < 512 → ⊥) → trial (recordsOf n) (stateOf n c) tie ≡ none
+  pub found : section < 512 → trial (recordsOf n) (stateOf n c) tie ≡ some (swapped (stateOf n c) tie section)
+  pub below : section < 512 → section < n .«switch_count»
+
+module _ (n : PowerNetwork) (ok : checkRecords (recordsOf n) ≡ accepted tt) (c : NetworkConfiguration) (held : Held n c) (tie : ℕ) (sw : Switch) (served : Bool) (at : SwitchAt n tie sw served)
+    (live : List Bool) (b : live ≡ liveFlags (recordsOf n) (stateOf n c)) where
+  pub tie-tried : length (n .buses) ≡ 256 → (g : Graph) → g ≡ feederGraph n → (sections : List ℕ) → sections ≡ sectionsOf (recordsOf n) → (section : ℕ)
+      → section ≡ sectionAt (rowTrial g sections (c .switches) live (sw .«branch_idx») served) → Tried n c tie section
+  unfolding swapAt
+  tie-tried sized g a sections q section e =
+      let row = tieRow n ok sized c held tie (at .below) g a sections q live b in
+      let tried = trial-by-rows n ok sized c held tie (at .below) g a sections q live b in
+      let listed : IfSome (λ i. i < n .«switch_count») row = trial-below n ok sized c held tie (at .below) g a sections q live b in
+      let found : section ≡ sectionAt row = e ∙ ap (λ w. sectionAt (rowTrial g sections (c .switches) live (w .«branch_idx») served)) (sym (own-switch n ok tie sw served at))
+      ∙ ap (λ t. sectionAt (rowTrial g sections (c .switches) live (branchOf (recordsOf n) tie) t)) (sym (own-status n ok tie sw served at)) in
+      record {
+        absent = λ l. tried ∙ ap (swapAt (stateOf n c) tie) (section-none row section (few-some row listed) found l);
+        found = λ l. tried ∙ ap (swapAt (stateOf n c) tie) (section-some row section found l);
+        below = λ l. some-below row listed (section-some row section found l);
+      }
+    where
+      few-some : (found : Option ℕ) → IfSome (λ i. i < n .«switch_count») found → IfSome (λ i. i < 512) found
+      few-some none h = tt
+      few-some (some i) h = omega (arith, few-switches n ok)
+
+      some-below : (found : Option ℕ) → IfSome (λ i. i < n .«switch_count») found → {section : ℕ} → found ≡ some section → section < n .«switch_count»
+      some-below found h e = rw e at h
+
+  -- the flags after the swap
+  pub tried-flags : (section : ℕ) → section < n .«switch_count» → (on opened : ℕ) → on ≡ sw .«branch_idx» → opened ≡ getD (n .switches) section noSwitch .«branch_idx»
+      → set (set live on served) opened false ≡ liveFlags (recordsOf n) (swapped (stateOf n c) tie section)
+  tried-flags section l on opened e p =
+      rw (b, e, p, ← switch-at n section l, ← own-switch n ok tie sw served at, ← own-status n ok tie sw served at) (swapped-flags n ok c held tie (at .below) section (omega (arith, switches-listed n)))
+
+-- ---- a switch more in a round
+pub seen-read : (n : PowerNetwork) → checkRecords (recordsOf n) ≡ accepted tt → (c : NetworkConfiguration) (i : ℕ) (sw : Switch) (served : Bool) → SwitchAt n i sw served → (b : Bool)
+    → b ≡ (sw .«normally_open» && (sw .«can_operate» && eqb (getD (c .switches) i 0) 1)) → seen (recordsOf n) (stateOf n c) i ≡ b
+seen-read n ok c i sw served at b e =
+    ap (λ w. w .«normally_open» && (w .«can_operate» && eqb (byte (stateOf n c) i) 1)) (own-switch n ok i sw served at)
+    ∙ ap (λ x. sw .«normally_open» && (sw .«can_operate» && eqb x 1)) (byte-at n c i (at .below))
+    ∙ sym e
+
+module _ (N : Network) (c : NetworkConfiguration) (s : State) (current : Float) (b : Option State) (best : Trial) (q : best ≡ trialOf N c b) (i : ℕ) where
+  pub see-unseen : seen N s i ≡ false → best ≡ trialOf N c (seeing N s current b i)
+  see-unseen f = rw f q
+
+  module _ (t : seen N s i ≡ true) where
+    pub see-none : trial N s i ≡ none → best ≡ trialOf N c (seeing N s current b i)
+    unfolding kept
+    see-none e = rw (t, e) q
+
+    pub see-tried : (u : State) → trial N s i ≡ some u → (loss : Float) → loss ≡ lossIn N u → (d : NetworkConfiguration) → d ≡ configurationOf u
+        → cond (lt loss (sub binary64 current billionth)) (record { found = true; configuration = d; loss = loss }) best ≡ trialOf N c (seeing N s current b i)
+    unfolding kept improves trialOf
+    see-tried u e loss l d p = rw (t, e, l, p) (go (lt (lossIn N u) (sub binary64 current billionth)))
+      where
+        go : (better : Bool) → cond better (record { found = true; configuration = configurationOf u; loss = lossIn N u }) best ≡ trialOf N c (cond better (some u) b)
+        go true = refl
+        go false = q

@@ -1,0 +1,59 @@
+-- The values by which the code holds what the exchange finds.
+use mathlib.Core.Bool.{Bool, true, false, cond, _&&_}
+use mathlib.Core.List.{List}
+use mathlib.Core.Option.{Option, none, some}
+use Prim.Native.Nat.{ℕ}
+use lib.Dec.{eqb, ltb}
+use lib.Ieee.{Float}
+use lib.ListN.{getD, set}
+use Rattle.numbers.specs.Choose.{firstSome}
+use Rattle.numbers.specs.Constants.{zero64}
+use Rattle.numbers.specs.UpTo.{table}
+use Rattle.network.specs.declared.configuration.NetworkConfiguration.{NetworkConfiguration}
+use Rattle.network.specs.Configuration.{configurationOf}
+use Rattle.network.specs.Records.{Network}
+use Rattle.graph.specs.declared.rows.Graph.{Graph}
+use Rattle.graph.specs.Rows.{rowNet, rowPath, rowRadial}
+use Rattle.losses.specs.Loss.{lossIn}
+use Rattle.network.specs.Switches.{State, swapped}
+use Rattle.exchange.specs.declared.exchange.Trial.{Trial}
+use Rattle.exchange.specs.declared.exchange.BranchExchange.{BranchExchange}
+use Rattle.exchange.specs.Exchange.{seen, sectionOf, trial, kept, Exchange}
+
+-- a switch by its position, 512 for none
+unfoldable pub sectionAt : Option ℕ → ℕ
+sectionAt none = 512
+sectionAt (some i) = i
+
+-- the first operable section switch of each branch
+unfoldable pub sectionsOf : Network → List ℕ
+sectionsOf N = table (λ k. sectionAt (sectionOf N k)) 512
+
+-- ---- a trial by the rows of the feeder and the arrays that the code has
+-- the section of branch k, where it is closed and the swap with it radial: with the tie closed these branches are live
+unfoldable pub rowSwap : Graph → List ℕ → List ℕ → List Bool → ℕ → Option ℕ
+rowSwap g sections state live k =
+    let section = getD sections k 512 in
+    cond (ltb section 512 && (eqb (getD state section 0) 0 && rowRadial g (set live k false))) (some section) none
+
+-- the first along the loop of a tie on branch k, which has this status
+unfoldable pub rowTrial : Graph → List ℕ → List ℕ → List Bool → ℕ → Bool → Option ℕ
+rowTrial g sections state live k served = firstSome (rowSwap g sections state (set live k served)) (rowPath g live (rowNet g .from k) (rowNet g .to k))
+
+-- the state after it
+unfoldable pub swapAt : State → ℕ → Option ℕ → Option State
+swapAt s tie none = none
+swapAt s tie (some section) = some (swapped s tie section)
+
+-- ---- where the exchange stands
+-- a state that was found, with its loss; for none the configuration c that the search started from
+unfoldable pub trialOf : Network → NetworkConfiguration → Option State → Trial
+trialOf N c none = record { found = false; configuration = c; loss = zero64 }
+trialOf N c (some t) = record { found = true; configuration = configurationOf t; loss = lossIn N t }
+
+-- a switch more in a round
+abbrev pub seeing : Network → State → Float → Option State → ℕ → Option State
+seeing N s current best i = cond (seen N s i) (kept N current best (trial N s i)) best
+
+unfoldable pub exchangeOf : Exchange → BranchExchange
+exchangeOf x = record { configuration = configurationOf (x .state); loss = x .loss; rounds = x .rounds; ended = x .ended }

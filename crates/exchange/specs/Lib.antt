@@ -1,0 +1,8 @@
+pub mod Exchange
+pub mod ExchangeValues
+pub mod Firsts
+pub mod ExchangeLaws
+pub mod ExchangeEnds
+pub mod ExchangeSwaps
+pub mod ExchangeTrials
+pub mod ExchangeRounds

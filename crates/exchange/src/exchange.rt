@@ -1,0 +1,353 @@
+// Translated and changed from src/network/reconfiguration.rs of oxigrid. Copyright 2024-2026 COOLJAPAN OU (Team Kitasan), Apache License 2.0.
+// Document 01's branch exchange. Its background is Merlin and Back 1975.
+ghost use mathlib.Core.Path.{_≡_};
+ghost use mathlib.Core.Bool.{true, false, cond, not, _&&_};
+ghost use mathlib.Core.Option.{Option};
+ghost use Prim.Native.Nat.{_<_, _≤_};
+ghost use lib.Dec.{eqb};
+ghost use lib.Ieee.{binary64, lt, sub};
+ghost use lib.ListN.{length, getD, take, set};
+ghost use Rattle.network.specs.Answers.{accepted};
+ghost use Rattle.network.specs.Check.{checkRecords};
+ghost use Rattle.network.specs.Records.{Network, recordsOf};
+ghost use Rattle.network.specs.Switches.{State};
+ghost use Rattle.graph.specs.Rows.{rowNet, rowPath, pathOf};
+ghost use Rattle.numbers.specs.Choose.{firstSome};
+ghost use Rattle.numbers.specs.Constants.{billionth};
+ghost use Rattle.searches.specs.Results.{solvedBy, solveAnswerOf};
+ghost use Rattle.searches.specs.SearchValues.{startOf, foundOf};
+ghost use Rattle.searches.specs.States.{stateOf};
+ghost use Rattle.searches.specs.Given.{Given, Held, Base};
+ghost use Rattle.exchange.specs.Exchange.{Exchange, roundOf, afterRound, exchange, exchangeBest};
+ghost use Rattle.exchange.specs.ExchangeValues.{sectionAt, sectionsOf, rowSwap, rowTrial, trialOf, exchangeOf};
+use graph::radial::is_radial;
+use graph::rows::Graph;
+use graph::walks::Path;
+use losses::reconfiguration::compute_losses_estimate;
+use network::bus::Power;
+use network::configuration::NetworkConfiguration;
+use network::configuration::live_branches;
+use network::error::Verdict;
+use network::switch::Switch;
+use network::topology::PowerNetwork;
+use numbers::wide16;
+use paths::path::bfs_path;
+use searches::answer::Found;
+use searches::answer::SolveAnswer;
+use searches::answer::answer_with;
+use searches::answer::check_search;
+use searches::start::Start;
+use searches::start::start_of;
+
+// A state that was tried, with its loss. Where none was found, the state that it started from.
+struct Trial {
+    found: bool,
+    configuration: NetworkConfiguration,
+    loss: f64,
+}
+
+// Where the exchange stands after some rounds.
+struct BranchExchange {
+    configuration: NetworkConfiguration,
+    loss: f64,
+    rounds: u16,
+    ended: bool,
+}
+
+// Is this an operable section switch?
+fn is_section(switch: Switch) -> bool
+    ensures { λ r. ⌜ r ≡ (not (switch .«normally_open») && switch .«can_operate») ⌝ }
+{
+    !switch.normally_open && switch.can_operate
+}
+
+// For each branch the position of its operable section switch, 512 where it has none. A branch has one switch at most.
+fn sections_of(network: PowerNetwork) -> [u16; 512]
+    requires { ⌜ checkRecords (recordsOf network) ≡ accepted tt ⌝ }
+    ensures { λ r. ⌜ r ≡ sectionsOf (recordsOf network) ⌝ }
+{
+    let count = network.switch_count;
+    let mut sections = [512u16; 512];
+    let mut i = 0u16;
+    while i < count {
+        let at = wide16(i);
+        let switch = network.switches[at];
+        let on = wide16(switch.branch_idx);
+        if is_section(switch) {
+            sections[on] = i;
+        }
+        i += 1;
+    }
+    sections
+}
+
+// The section of branch k.
+fn section_on(sections: &[u16; 512], k: u16) -> u16
+    requires { ⌜ length (now sections) ≡ 512 ⌝ }
+    ensures { λ r. ⌜ r ≡ getD (now (sections .entry)) k 512 ⌝ }
+{
+    if k < PowerNetwork::MAX_BRANCHES {
+        let at = wide16(k);
+        return sections[at];
+    }
+    PowerNetwork::MAX_SWITCHES
+}
+
+// The section of branch k, where it is closed and the swap with it radial, else 512: with the tie closed these branches are live.
+fn swap_with(
+    graph: Graph,
+    sections: &[u16; 512],
+    state: &[u8; 512],
+    live: [bool; 512],
+    k: u16,
+) -> u16
+    requires { ⌜ (length (now sections) ≡ 512) × (length (now state) ≡ 512) ⌝ }
+    ensures { λ r. ⌜ r ≡ sectionAt (rowSwap graph (now (sections .entry)) (now (state .entry)) live k) ⌝ }
+{
+    let section = section_on(sections, k);
+    if section < PowerNetwork::MAX_SWITCHES {
+        let at = wide16(section);
+        if state[at] == NetworkConfiguration::CLOSED {
+            let on = wide16(k);
+            let mut swapped = live;
+            swapped[on] = false;
+            if is_radial(graph, swapped) {
+                return section;
+            }
+        }
+    }
+    PowerNetwork::MAX_SWITCHES
+}
+
+// The first section along a path that a tie can be swapped with, 512 where there is none.
+fn first_swap(
+    graph: Graph,
+    sections: &[u16; 512],
+    state: &[u8; 512],
+    live: [bool; 512],
+    path: Path,
+) -> u16
+    requires { ⌜ (length (now sections) ≡ 512) × (length (now state) ≡ 512) × (path .count ≤ 256) ⌝ }
+    ensures { λ r. ⌜ r ≡ sectionAt (firstSome (rowSwap graph (now (sections .entry)) (now (state .entry)) live) (take (path .count) (path .branch))) ⌝ }
+{
+    let n = wide16(path.count);
+    let mut i = 0usize;
+    while i < n {
+        let section = swap_with(graph, sections, state, live, path.branch[i]);
+        if section < PowerNetwork::MAX_SWITCHES {
+            return section;
+        }
+        i += 1;
+    }
+    PowerNetwork::MAX_SWITCHES
+}
+
+// The branches that a closed tie on this branch would make a loop with: the path from its from bus to its to bus.
+fn find_loop_branches_closed_tie(graph: Graph, live: [bool; 512], branch: u16) -> Path
+    requires { ⌜ branch < 512 ⌝ }
+    ensures { λ r. ⌜ r ≡ pathOf (rowPath graph live (rowNet graph .from branch) (rowNet graph .to branch)) ⌝ }
+{
+    let far = graph.far;
+    let k = wide16(branch);
+    let to = far[2 * k];
+    let from = far[2 * k + 1];
+    bfs_path(graph, live, from, to)
+}
+
+// The section that a tie on this branch is swapped with: the first along its loop, 512 where there is none.
+fn try_tie(
+    graph: Graph,
+    sections: &[u16; 512],
+    state: &[u8; 512],
+    live: [bool; 512],
+    branch: u16,
+    in_service: bool,
+) -> u16
+    requires { ⌜ (length (now sections) ≡ 512) × (length (now state) ≡ 512) × (branch < 512) ⌝ }
+    ensures { λ r. ⌜ r ≡ sectionAt (rowTrial graph (now (sections .entry)) (now (state .entry)) live branch «in_service») ⌝ }
+{
+    let path = find_loop_branches_closed_tie(graph, live, branch);
+    let on = wide16(branch);
+    let mut closed = live;
+    closed[on] = in_service;
+    first_swap(graph, sections, state, closed, path)
+}
+
+// Does a round see the switch, a tie that is operable and still open?
+fn is_seen(switch: Switch, state: u8) -> bool
+    ensures { λ r. ⌜ r ≡ (switch .«normally_open» && (switch .«can_operate» && eqb state 1)) ⌝ }
+{
+    if state == NetworkConfiguration::OPEN {
+        return switch.normally_open && switch.can_operate;
+    }
+    false
+}
+
+// A trial improves when its loss is below current − 1e-9.
+fn improves(loss: f64, current: f64) -> bool
+    ensures { λ r. ⌜ r ≡ lt loss (sub binary64 current billionth) ⌝ }
+{
+    loss < current - 1e-9
+}
+
+// The live branches after a swap: the tie's where it is in service, and not the section's.
+fn swapped_live(live: [bool; 512], closed: usize, in_service: bool, opened: usize) -> [bool; 512]
+    requires { ⌜ (closed < 512) × (opened < 512) ⌝ }
+    ensures { λ r. ⌜ r ≡ set (set live closed «in_service») opened false ⌝ }
+{
+    let mut swapped = live;
+    swapped[closed] = in_service;
+    swapped[opened] = false;
+    swapped
+}
+
+// The best of a round after the swap of a tie with a section: one that improves takes the place of the one before.
+fn better_of(
+    best: Trial,
+    configuration: NetworkConfiguration,
+    current: f64,
+    tie: usize,
+    section: usize,
+    loss: f64,
+) -> Trial
+    requires { ⌜ (tie < 512) × (section < 512) ⌝ }
+    ensures { λ r. ⌜ r ≡ cond (lt loss (sub binary64 current billionth))
+        (record { found = true; configuration = record { switches = set (set (configuration .switches) tie 0) section 1 }; loss = loss }) best ⌝ }
+{
+    if improves(loss, current) {
+        let mut swapped = configuration;
+        swapped.switches[tie] = NetworkConfiguration::CLOSED;
+        swapped.switches[section] = NetworkConfiguration::OPEN;
+        return Trial {
+            found: true,
+            configuration: swapped,
+            loss,
+        };
+    }
+    best
+}
+
+// A round: the last improving trial among the switches in list order, each tried from the state as the round found it.
+fn branch_exchange_step(
+    network: PowerNetwork,
+    graph: Graph,
+    loads: [Power; 256],
+    sections: [u16; 512],
+    configuration: NetworkConfiguration,
+    current: f64,
+) -> Trial
+    requires { ⌜ Given network graph loads × (sections ≡ sectionsOf (recordsOf network)) × Held network configuration ⌝ }
+    ensures { λ r. ⌜ r ≡ trialOf (recordsOf network) configuration (roundOf (recordsOf network) (stateOf network configuration) current) ⌝ }
+{
+    let live = live_branches(network, configuration);
+    let state = configuration.switches;
+    let branches = network.branches;
+    let base_mva = network.base_mva;
+    let count = wide16(network.switch_count);
+    let mut best = Trial {
+        found: false,
+        configuration,
+        loss: 0.0,
+    };
+    let mut i = 0usize;
+    while i < count {
+        let switch = network.switches[i];
+        let on = wide16(switch.branch_idx);
+        let served = network.branches[on].status;
+        if is_seen(switch, state[i]) {
+            let found = try_tie(graph, &sections, &state, live, switch.branch_idx, served);
+            let section = wide16(found);
+            if section < NetworkConfiguration::MAX_SWITCHES {
+                let opened = wide16(network.switches[section].branch_idx);
+                let swapped = swapped_live(live, on, served, opened);
+                let loss = compute_losses_estimate(graph, loads, branches, base_mva, swapped);
+                best = better_of(best, configuration, current, i, section, loss);
+            }
+        }
+        i += 1;
+    }
+    best
+}
+
+// Every round counts; a round without an improving trial ends the search.
+fn after_round(done: BranchExchange, step: Trial) -> BranchExchange
+    requires { ⌜ done .rounds < 65535 ⌝ }
+    ensures { λ r. ⌜ ((N : Network) (x : Exchange) (best : Option State) → done ≡ exchangeOf x → step ≡ trialOf N (done .configuration) best
+        → r ≡ exchangeOf (afterRound N x best)) ⌝ }
+{
+    let rounds = done.rounds + 1;
+    if step.found {
+        let configuration = step.configuration;
+        return BranchExchange {
+            configuration,
+            loss: step.loss,
+            rounds,
+            ended: false,
+        };
+    }
+    let configuration = done.configuration;
+    BranchExchange {
+        configuration,
+        loss: done.loss,
+        rounds,
+        ended: true,
+    }
+}
+
+// Document 01's exchange, from the base.
+fn branch_exchange_rounds(
+    network: PowerNetwork,
+    graph: Graph,
+    loads: [Power; 256],
+    base: NetworkConfiguration,
+    base_loss: f64,
+) -> BranchExchange
+    requires { ⌜ Given network graph loads × Base network base «base_loss» ⌝ }
+    ensures { λ r. ⌜ r ≡ exchangeOf (exchange (recordsOf network)) ⌝ }
+{
+    let sections = sections_of(network);
+    let mut done = BranchExchange {
+        configuration: base,
+        loss: base_loss,
+        rounds: 0,
+        ended: false,
+    };
+    while done.rounds < network.max_iterations {
+        if done.ended {
+            return done;
+        }
+        let configuration = done.configuration;
+        let step = branch_exchange_step(network, graph, loads, sections, configuration, done.loss);
+        done = after_round(done, step);
+    }
+    done
+}
+
+// What the exchange finds.
+fn search(network: PowerNetwork, start: Start) -> Found
+    requires { ⌜ (checkRecords (recordsOf network) ≡ accepted tt) × (start ≡ startOf network) ⌝ }
+    ensures { λ r. ⌜ r ≡ foundOf (exchangeBest (recordsOf network)) ⌝ }
+{
+    let graph = start.graph;
+    let loads = start.loads;
+    let base = start.base;
+    let done = branch_exchange_rounds(network, graph, loads, base, start.loss);
+    let configuration = done.configuration;
+    Found {
+        configuration,
+        loss: done.loss,
+        iterations: done.rounds,
+        converged: done.rounds < network.max_iterations,
+    }
+}
+
+// Document 01's exchange of a feeder, whichever search its head asks for: the best state's bytes at the front of the slice, and the result.
+pub fn branch_exchange_solve(network: PowerNetwork, out: &mut [u8]) -> SolveAnswer
+    ensures { λ r. ⌜ record { answer = solveAnswerOf r; out = now (out .exit) } ≡ solvedBy exchangeBest (recordsOf network) (now (out .entry)) ⌝ }
+{
+    if let Verdict::Refused { number, place } = check_search(network, out.len()) {
+        return SolveAnswer::Refused { number, place };
+    }
+    let start = start_of(network);
+    answer_with(network, start, search(network, start), out)
+}

@@ -1,0 +1,2 @@
+// Document 01's branch exchange.
+pub mod exchange;

@@ -1,0 +1,25 @@
+-- `search` meets its contract: the masks go from the base, and what is found is read off them.
+use Rattle.network.specs.ReadLaws.{length-of}
+use Rattle.network.proofs.bus.Bus.{the-type}
+use Rattle.searches.specs.SearchValues.{foundOf}
+use Rattle.searches.specs.StartLaws.{start-given, start-base, start-live, start-radial}
+use Rattle.exhaustive.specs.Exhaustive.{exhaustiveBest}
+use Rattle.exhaustive.specs.ExhaustiveValues.{exhaustiveOf}
+use Rattle.exhaustive.proofs.exhaustive.search.Statement.{statement}
+use Rattle.exhaustive.proofs.exhaustive.search.Tie as tie
+
+exhaustive-masks-requires : tie.Need-exhaustive-masks-requires
+exhaustive-masks-requires c κs =
+    let start = c .before .before .before .before in
+    let n = start .args .network in
+    let sized = length-of (the-type .to) (n .buses) (start .good .0 .1 .1 .0 .1 .0 .1) in
+    let ok = start .pre .0 in
+    let e = start .pre .1 in
+    (start-given n sized ok e, start-base n sized ok e, start-live n sized ok e, start-radial n sized ok e, start .pre .2)
+
+returns : tie.Need-returns
+unfolding exhaustiveBest foundOf exhaustiveOf
+returns c = rw (c .before .exhaustive-masks .ensures)
+
+pub search-spec : {M : Type 1} → statement M
+search-spec = tie.close (tie.spec exhaustive-masks-requires returns)

@@ -1,0 +1,38 @@
+-- `with_mask` meets its contract: the loss by the rows is the loss of the mask's state, which is one radial state more.
+use mathlib.Core.Path.{ap, _∙_}
+use borrow.Author.Needs.{needs}
+use Rattle.network.specs.ReadLaws.{length-of}
+use Rattle.network.specs.Records.{recordsOf}
+use Rattle.network.proofs.bus.Bus.{the-type}
+use Rattle.network.specs.Listed.{few-switches}
+use Rattle.searches.specs.StateRows.{flags-loss}
+use Rattle.exhaustive.specs.Exhaustive.{masked}
+use Rattle.exhaustive.specs.ExhaustiveTrials.{mask-radial}
+use Rattle.exhaustive.specs.ExhaustiveValues.{exhaustiveOf}
+use Rattle.exhaustive.proofs.exhaustive.with_mask.Statement.{statement}
+use Rattle.exhaustive.proofs.exhaustive.with_mask.Tie as tie
+
+compute-losses-estimate-requires : tie.Need-compute-losses-estimate-requires
+compute-losses-estimate-requires c κs = search needs
+
+masked-requires : tie.Need-masked-requires
+masked-requires c κs = let start = c .before .before in few-switches (start .args .network) (start .pre .0 .0)
+
+with-radial-requires : tie.Need-with-radial-requires
+with-radial-requires c κs = search needs
+
+returns : tie.Need-returns
+returns c =
+    let made = c .before in
+    let lost = made .before in
+    let start = lost .before .before in
+    let n = start .args .network in
+    let given = start .pre .0 in
+    let sized = length-of (the-type .to) (n .buses) (start .good .0 .1 .1 .0 .1 .0 .1) in
+    let loses = flags-loss n sized (given .0) (masked (recordsOf n) (start .args .mask)) _ _ (given .1) (start .pre .2) _ _ (given .2) (lost .compute-losses-estimate .ensures) in
+    λ x e. c .with-radial .ensures (recordsOf n) x _ e (made .masked .ensures) ∙ ap (exhaustiveOf (recordsOf n)) (mask-radial (recordsOf n) x (start .args .mask) (start .pre .3) _ loses)
+
+pub with-mask-spec : {M : Type 1} → statement M
+with-mask-spec =
+    tie.close
+    (tie.spec compute-losses-estimate-requires masked-requires with-radial-requires returns)

@@ -1,0 +1,74 @@
+-- What the exhaustive search answers: the base, or a radial state with some of its ties closed.
+use mathlib.Core.Path.{_≡_, refl, sym, _∙_}
+use mathlib.Core.Bool.{Bool, true, false, cond}
+use mathlib.Core.Option.{Option, none, some}
+use Prim.Native.Nat.{ℕ, _≤_, _<_, _^_}
+use native.Mathlib.Omega.{arith}
+use lib.Ieee.{lt}
+use Rattle.numbers.specs.Counts.{count}
+use Rattle.numbers.specs.TableLaws.{length-table, getD-table}
+use Rattle.numbers.specs.UpTo.{upTo-keeps}
+use Rattle.network.specs.Records.{Network}
+use Rattle.network.specs.Faults.{ties}
+use Rattle.network.specs.Live.{stateByte, live, baseState}
+use Rattle.network.specs.Switches.{byte, size, isTie, GoodState}
+use Rattle.radiality.specs.Feeder.{radialIn}
+use Rattle.losses.specs.Loss.{lossIn}
+use Rattle.plan.specs.LiveLaws.{live-less}
+use Rattle.exhaustive.specs.Exhaustive.{bit, masked, Least, lesser, withLoss, Exhaustive, tryMask, exhaustive, leastOrBase, exhaustiveBest}
+use Rattle.searches.specs.Found.{IfSome, cond-holds}
+use Rattle.searches.specs.FromBase.{base-byte, base-good}
+use Rattle.searches.specs.SearchLaws.{Sound}
+
+module _ (N : Network) where
+  module _ (mask : ℕ) where
+    pub masked-byte : (i : ℕ) → i < size N → byte (masked N mask) i ≡ cond (isTie N i) (cond (bit mask (count (isTie N) i)) 0 1) 0
+    unfolding masked
+    masked-byte i l = getD-table _ (size N) i 0 l
+
+    pub masked-good : GoodState N (masked N mask)
+    masked-good = record { long = unfold masked in length-table _ (size N); bytes = λ i l. rw (masked-byte i l) (go (isTie N i) (bit mask (count (isTie N) i))) }
+      where
+        go : (tie closed : Bool) → cond tie (cond closed 0 1) 0 ≤ 1
+        go true true = omega arith
+        go true false = omega arith
+        go false closed = omega arith
+
+    -- a mask opens ties only, and those are open in the base
+    masked-open : (i : ℕ) → i < size N → byte (masked N mask) i ≡ 1 → byte (baseState N) i ≡ 1
+    masked-open i l e = base-byte N i ∙ go (isTie N i) (bit mask (count (isTie N) i)) (sym (masked-byte i l) ∙ e)
+      where
+        go : (tie closed : Bool) → _≡_ {A = ℕ} (cond tie (cond closed 0 1) 0) 1 → stateByte tie ≡ 1
+        go true closed e = refl
+        go false closed e = e
+
+    -- so that what is live in the base is live
+    pub masked-more : (k : ℕ) → live N (baseState N) k ≡ true → live N (masked N mask) k ≡ true
+    masked-more k h = live-less N (masked N mask) (baseState N) k (λ i o. masked-open i (o .listed)) h
+
+  -- in state b all that is live in the base is live; from a radial base b is radial
+  pub record Closes (b : Least) : Type 0 where
+    pub good : GoodState N (b .state)
+    pub more : (k : ℕ) → live N (baseState N) k ≡ true → live N (b .state) k ≡ true
+    pub radial : radialIn N (baseState N) ≡ true → radialIn N (b .state) ≡ true
+    pub loses : b .loss ≡ lossIn N (b .state)
+
+  pub exhaustive-closes : Closes (leastOrBase N (exhaustive N .least))
+  unfolding exhaustive tryMask lesser leastOrBase
+  exhaustive-closes = orBase (exhaustive N .least) (upTo-keeps (λ n x. IfSome Closes (x .least)) (tryMask N) _ (2 ^ ties (N .switches)) tt (λ m x l h. try m x h (radialIn N (masked N m)) refl))
+    where
+      least : (best : Option Least) (b : Least) → IfSome Closes best → Closes b → IfSome Closes (lesser best b)
+      least none b h w = w
+      least (some a) b h w = cond-holds Closes (lt (b .loss) (a .loss)) (some b) (some a) (λ e. w) h
+
+      try : (m : ℕ) (x : Exhaustive) → IfSome Closes (x .least) → (b : Bool) → radialIn N (masked N m) ≡ b → IfSome Closes (tryMask N x m .least)
+      try m x h true e = rw e (least (x .least) (withLoss N (masked N m)) h (record { good = masked-good m; more = masked-more m; radial = λ r. e; loses = refl }))
+      try m x h false e = rw e h
+
+      orBase : (found : Option Least) → IfSome Closes found → Closes (leastOrBase N found)
+      orBase none h = record { good = base-good N; more = λ k l. l; radial = λ r. r; loses = refl }
+      orBase (some b) h = h
+
+  pub exhaustive-sound : Sound N (exhaustiveBest N)
+  unfolding exhaustiveBest
+  exhaustive-sound = record { good = exhaustive-closes .good; loses = exhaustive-closes .loses; radial = exhaustive-closes .radial }

@@ -1,0 +1,69 @@
+-- The values by which the code holds the ties, the live branches of a mask, and where the exhaustive search stands.
+use mathlib.Core.Bool.{Bool, true, false, cond}
+use mathlib.Core.List.{List}
+use mathlib.Core.Option.{Option, none, some}
+use Prim.Native.Nat.{ℕ, suc}
+use lib.ListN.{getD, set}
+use Rattle.numbers.specs.Choose.{those}
+use Rattle.numbers.specs.TableLaws.{filled}
+use Rattle.numbers.specs.UpTo.{upTo}
+use Rattle.network.specs.declared.switch.ReconfigAlgorithm.{ReconfigAlgorithm}
+use Rattle.network.specs.declared.topology.PowerNetwork.{PowerNetwork}
+use Rattle.network.specs.Configuration.{configurationOf}
+use Rattle.network.specs.Records.{Network}
+use Rattle.network.specs.Switches.{branchOf, size, isTie, inService}
+use Rattle.exhaustive.specs.declared.exhaustive.ExhaustiveSearch.{ExhaustiveSearch}
+use Rattle.exhaustive.specs.declared.exhaustive.Ties.{Ties}
+use Rattle.exhaustive.specs.Exhaustive.{bit, Least, lesser, Exhaustive, leastOrBase}
+
+-- ---- ties
+-- the position of the t-th tie among the switches
+abbrev pub tieAt : Network → ℕ → ℕ
+tieAt N t = getD (those (isTie N) (size N)) t 0
+
+-- the branches of the first t ties, and whether they are in service
+unfoldable pub tiesOf : Network → ℕ → Ties
+tiesOf N t =
+    record {
+      count = t;
+      on = filled (λ j. branchOf N (tieAt N j)) 0 10 t;
+      «in_service» = filled (λ j. inService N (branchOf N (tieAt N j))) false 10 t;
+    }
+
+-- flags of live branches, with the t-th tie closed if its bit of the mask is 1
+abbrev pub closing : Ties → ℕ → List Bool → ℕ → List Bool
+closing ties mask flags t = cond (bit mask t) (set flags (getD (ties .on) t 0) (getD (ties .«in_service») t false)) flags
+
+unfoldable pub closedBy : Ties → ℕ → List Bool → List Bool
+closedBy ties mask live = upTo (closing ties mask) live (ties .count)
+
+-- ---- where the search stands
+
+abbrev pub isSome : Option Least → Bool
+isSome none = false
+isSome (some b) = true
+
+-- the least so far; where none was found, the base with its loss
+unfoldable pub exhaustiveOf : Network → Exhaustive → ExhaustiveSearch
+exhaustiveOf N x =
+    let b = leastOrBase N (x .least) in
+    record { found = isSome (x .least); configuration = configurationOf (b .state); loss = b .loss; radial = x .radial }
+
+-- a radial state more
+abbrev pub withRadial : Exhaustive → Least → Exhaustive
+withRadial x b = record { least = lesser (x .least) b; radial = suc (x .radial) }
+
+-- the feeder with this method in its head, as the code has it
+abbrev pub askedFor : ReconfigAlgorithm → PowerNetwork → PowerNetwork
+askedFor method n =
+    record {
+      buses = n .buses;
+      branches = n .branches;
+      switches = n .switches;
+      «bus_count» = n .«bus_count»;
+      «branch_count» = n .«branch_count»;
+      «switch_count» = n .«switch_count»;
+      «base_mva» = n .«base_mva»;
+      algorithm = method;
+      «max_iterations» = n .«max_iterations»;
+    }

@@ -1,0 +1,8 @@
+pub mod Exhaustive
+pub mod ExhaustiveValues
+pub mod AskingLaws
+pub mod ExhaustiveLaws
+pub mod ExhaustiveSettles
+pub mod ExhaustiveMasks
+pub mod ExhaustiveTies
+pub mod ExhaustiveTrials

@@ -1,0 +1,2 @@
+// Document 01's exhaustive search.
+pub mod exhaustive;

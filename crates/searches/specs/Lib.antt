@@ -1,0 +1,15 @@
+pub mod Results
+pub mod States
+pub mod SearchValues
+pub mod Given
+pub mod Found
+pub mod TableSets
+pub mod StateLaws
+pub mod SwitchReads
+pub mod StateRows
+pub mod Floats
+pub mod FromBase
+pub mod LiveBranches
+pub mod LiveFlags
+pub mod StartLaws
+pub mod SearchLaws

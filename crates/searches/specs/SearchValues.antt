@@ -1,0 +1,50 @@
+-- The values by which the code holds where a search starts and what it found, and what it answers with them.
+use mathlib.Core.Bool.{_||_}
+use mathlib.Core.List.{List}
+use Prim.Native.Nat.{ℕ}
+use Rattle.network.specs.declared.topology.PowerNetwork.{PowerNetwork}
+use Rattle.network.specs.Answers.{accepted}
+use Rattle.network.specs.Configuration.{configurationOf}
+use Rattle.network.specs.Live.{baseState}
+use Rattle.network.specs.Records.{recordsOf}
+use Rattle.graph.specs.Rows.{rowRadial}
+use Rattle.printing.specs.Calls.{Call}
+use Rattle.slices.specs.Written.{written}
+use Rattle.radiality.specs.FeederRows.{feederGraph, liveFlags}
+use Rattle.losses.specs.RowLoss.{rowLoss, loadsOf}
+use Rattle.searches.specs.declared.answer.Found.{Found}
+use Rattle.searches.specs.declared.start.Start.{Start}
+use Rattle.searches.specs.Results.{Best, Result, reduction}
+use Rattle.searches.specs.States.{stateOf}
+
+unfoldable pub startOf : PowerNetwork → Start
+startOf n =
+    let base = configurationOf (baseState (recordsOf n)) in
+    let flags = liveFlags (recordsOf n) (base .switches) in
+    record {
+      graph = feederGraph n;
+      loads = loadsOf n;
+      base = base;
+      live = flags;
+      radial = rowRadial (feederGraph n) flags;
+      loss = rowLoss (feederGraph n) (loadsOf n) (n .branches) (n .«base_mva») flags;
+    }
+
+unfoldable pub foundOf : Best → Found
+foundOf b = record { configuration = configurationOf (b .state); loss = b .loss; iterations = b .iterations; converged = b .converged }
+
+-- radial where the start is, else as its rows say of the state that was found
+unfoldable pub answerWith : PowerNetwork → Start → Found → List ℕ → Call Result
+answerWith n start found out =
+    record {
+      answer = accepted
+          (record {
+            radial = start .radial || rowRadial (start .graph) (liveFlags (recordsOf n) (found .configuration .switches));
+            base-loss = start .loss;
+            best-loss = found .loss;
+            reduction = reduction (start .loss) (found .loss);
+            iterations = found .iterations;
+            converged = found .converged;
+          });
+      out = written (stateOf n (found .configuration)) out;
+    }

@@ -1,0 +1,37 @@
+-- Of a checked network, where a search starts is document 01's base with its live branches, its radiality and its loss.
+use mathlib.Core.Path.{_≡_, refl, ap, _∙_}
+use lib.ListN.{length}
+use Rattle.network.specs.declared.topology.PowerNetwork.{PowerNetwork}
+use Rattle.network.specs.Records.{Network, recordsOf}
+use Rattle.network.specs.Answers.{accepted}
+use Rattle.network.specs.Check.{checkRecords}
+use Rattle.network.specs.Listed.{switches-listed, few-switches}
+use Rattle.network.specs.Live.{baseState}
+use Rattle.radiality.specs.Feeder.{radialIn}
+use Rattle.radiality.specs.FeederRows.{liveFlags}
+use Rattle.searches.specs.declared.start.Start.{Start}
+use Rattle.searches.specs.FromBase.{base-good}
+use Rattle.searches.specs.Given.{Given, Base}
+use Rattle.searches.specs.SearchValues.{startOf}
+use Rattle.searches.specs.StateLaws.{flags-held}
+use Rattle.searches.specs.StateRows.{flags-radial, flags-loss}
+
+module _ (n : PowerNetwork) (sized : length (n .buses) ≡ 256) (ok : checkRecords (recordsOf n) ≡ accepted tt) {start : Start} (e : start ≡ startOf n) where
+  abbrev N : Network
+  N = recordsOf n
+
+  pub start-given : Given n (start .graph) (start .loads)
+  unfolding startOf
+  start-given = (ok, ap (λ s. s .graph) e, ap (λ s. s .loads) e)
+
+  pub start-live : start .live ≡ liveFlags N (baseState N)
+  unfolding startOf
+  start-live = flags-held n (baseState N) (base-good N .long ∙ switches-listed n) (few-switches n ok) _ refl _ (ap (λ s. s .live) e)
+
+  pub start-radial : start .radial ≡ radialIn N (baseState N)
+  unfolding startOf
+  start-radial = flags-radial n sized ok (baseState N) _ _ refl (rw e at start-live) _ (ap (λ s. s .radial) e)
+
+  pub start-base : Base n (start .base) (start .loss)
+  unfolding startOf
+  start-base = (ap (λ s. s .base) e, flags-loss n sized ok (baseState N) _ _ refl (rw e at start-live) _ _ refl (ap (λ s. s .loss) e))

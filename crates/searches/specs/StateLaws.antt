@@ -1,0 +1,96 @@
+-- Configurations and the states that they hold: the bytes behind the listed switches do not matter, and a moved byte is a moved byte of the state.
+use mathlib.Core.Path.{_≡_, refl, sym, ap, _∙_}
+use mathlib.Core.Logic.{inl}
+use mathlib.Core.Bool.{Bool, cond, not, _&&_}
+use mathlib.Core.List.{List}
+use Prim.Native.Nat.{ℕ, _≤_, _<_}
+use native.Mathlib.Omega.{arith}
+use lib.Dec.{eqb}
+use lib.ListN.{length, getD, take, set, length-take}
+use lib.Seq.{take-all, take-set-lt, getD-take, getD-set-same, getD-set-other}
+use Rattle.numbers.specs.UpTo.{table}
+use Rattle.numbers.specs.TableLaws.{length-table, as-table, take-table, table-cong}
+use Rattle.network.specs.declared.configuration.NetworkConfiguration.{NetworkConfiguration}
+use Rattle.network.specs.declared.topology.PowerNetwork.{PowerNetwork}
+use Rattle.network.specs.Records.{noBranch, recordsOf}
+use Rattle.network.specs.Configuration.{configurationOf}
+use Rattle.network.specs.Live.{openOn, live}
+use Rattle.network.specs.LiveLaws.{open-take}
+use Rattle.radiality.specs.FeederRows.{liveFlags}
+use Rattle.network.specs.Switches.{byte, swapped, toggled}
+use Rattle.network.specs.Listed.{switches-listed}
+use Rattle.searches.specs.States.{stateOf}
+use Rattle.searches.specs.Given.{Held}
+use Rattle.searches.specs.TableSets.{table-set}
+
+module _ (n : PowerNetwork) where
+  module _ (c : NetworkConfiguration) where
+    pub byte-at : (i : ℕ) → i < n .«switch_count» → byte (stateOf n c) i ≡ getD (c .switches) i 0
+    unfolding stateOf
+    byte-at i h = getD-take (n .«switch_count») (c .switches) i 0 h
+
+    live-listed : (k : ℕ) → live (recordsOf n) (c .switches) k ≡ live (recordsOf n) (stateOf n c) k
+    unfolding live stateOf
+    live-listed k =
+        ap (λ b. getD (recordsOf n .branches) k noBranch .status && not b)
+        (sym (open-take (n .«switch_count») (recordsOf n .switches) (c .switches) k (inl (omega (arith, switches-listed n))))
+        ∙ ap (λ ws. openOn ws (take (n .«switch_count») (c .switches)) k) (take-all (n .«switch_count») (recordsOf n .switches) (omega (arith, switches-listed n))))
+
+    -- what `live_branches` answers are the flags of the state
+    pub flags-listed : table (live (recordsOf n) (c .switches)) 512 ≡ liveFlags (recordsOf n) (stateOf n c)
+    flags-listed = table-cong _ _ 512 (λ k h. live-listed k)
+
+    pub held-bytes : Held n c → length (c .switches) ≡ 512
+    held-bytes h = ap (λ d. length (d .switches)) h ∙ length-table _ 512
+
+    pub held-long : Held n c → n .«switch_count» ≤ 512 → length (stateOf n c) ≡ n .«switch_count»
+    unfolding stateOf
+    held-long h l =
+        let long = held-bytes h in
+        simp length-take (omega arith)
+
+  -- a configuration holds its state
+  pub state-held : (s : List ℕ) → length s ≡ n .«switch_count» → n .«switch_count» ≤ 512 → stateOf n (configurationOf s) ≡ s
+  unfolding stateOf
+  state-held s e l = take-table (λ i. getD s i 0) 512 (n .«switch_count») l ∙ sym (as-table (λ i. getD s i 0) (n .«switch_count») 0 s e (λ i h. refl))
+
+  pub held : (s : List ℕ) → length s ≡ n .«switch_count» → n .«switch_count» ≤ 512 → Held n (configurationOf s)
+  held s e l = ap configurationOf (sym (state-held s e l))
+
+  -- and its live branches are those of the state
+  pub flags-held : (s : List ℕ) → length s ≡ n .«switch_count» → n .«switch_count» ≤ 512 → (c : NetworkConfiguration) → c ≡ configurationOf s → (flags : List Bool)
+      → flags ≡ table (live (recordsOf n) (c .switches)) 512 → flags ≡ liveFlags (recordsOf n) s
+  flags-held s e l c h flags q = q ∙ flags-listed c ∙ ap (liveFlags (recordsOf n)) (ap (stateOf n) h ∙ state-held s e l)
+
+-- one byte moved
+set-held : (s : List ℕ) (i b : ℕ) → i < length s → length s ≤ 512 → set (configurationOf s .switches) i b ≡ configurationOf (set s i b) .switches
+set-held s i b l m = table-set (λ j. getD s j 0) (λ j. getD (set s i b) j 0) 512 i b (omega arith) (getD-set-same s i b 0 l) (λ j k d. sym (getD-set-other s i j b 0 d))
+
+module _ (n : PowerNetwork) (c : NetworkConfiguration) (i b : ℕ) (l : i < n .«switch_count») where
+  set-state : stateOf n (record { switches = set (c .switches) i b }) ≡ set (stateOf n c) i b
+  unfolding stateOf
+  set-state = take-set-lt (n .«switch_count») (c .switches) i b l
+
+  module _ (h : Held n c) (few : n .«switch_count» ≤ 512) where
+    set-configuration : record { switches = set (c .switches) i b } ≡ configurationOf (set (stateOf n c) i b)
+    set-configuration =
+        let long = held-long n c h few in
+        ap (λ bytes. record { switches = bytes }) (ap (λ d. set (d .switches) i b) h ∙ set-held (stateOf n c) i b (omega arith) (omega arith))
+
+    set-holds : Held n (record { switches = set (c .switches) i b })
+    set-holds = set-configuration ∙ ap configurationOf (sym set-state)
+
+-- a tie closed and a section opened
+module _ (n : PowerNetwork) (c : NetworkConfiguration) (tie section : ℕ) (a : tie < n .«switch_count») (b : section < n .«switch_count») where
+  abbrev closed : NetworkConfiguration
+  closed = record { switches = set (c .switches) tie 0 }
+
+  pub swapped-held : Held n c → n .«switch_count» ≤ 512 → record { switches = set (closed .switches) section 1 } ≡ configurationOf (swapped (stateOf n c) tie section)
+  unfolding swapped
+  swapped-held h l = set-configuration n closed section 1 b (set-holds n c tie 0 a h l) l ∙ ap (λ s. configurationOf (set s section 1)) (set-state n c tie 0 a)
+
+-- one switch moved
+module _ (n : PowerNetwork) (c : NetworkConfiguration) (i : ℕ) (l : i < n .«switch_count») where
+  pub toggled-held : Held n c → n .«switch_count» ≤ 512 → record { switches = toggled (c .switches) i } ≡ configurationOf (toggled (stateOf n c) i)
+  unfolding toggled
+  toggled-held h few = set-configuration n c i _ l h few ∙ ap (λ v. configurationOf (set (stateOf n c) i (cond (eqb v 1) 0 1))) (sym (byte-at n c i l))

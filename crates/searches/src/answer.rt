@@ -1,0 +1,102 @@
+// Translated and changed from src/network/reconfiguration.rs of oxigrid. Copyright 2024-2026 COOLJAPAN OU (Team Kitasan), Apache License 2.0.
+ghost use mathlib.Core.Path.{_≡_};
+ghost use lib.ListN.{take};
+ghost use Rattle.network.specs.Answers.{answerOf, _andThen_};
+ghost use Rattle.network.specs.Check.{checkRecords};
+ghost use Rattle.network.specs.Records.{recordsOf};
+ghost use Rattle.printing.specs.Calls.{checkRoom};
+ghost use Rattle.slices.specs.Written.{written};
+ghost use Rattle.searches.specs.Results.{reduction, solveAnswerOf};
+ghost use Rattle.searches.specs.SearchValues.{answerWith};
+use crate::start::Start;
+use checks::check::check;
+use graph::radial::is_radial;
+use network::configuration::NetworkConfiguration;
+use network::configuration::live_branches;
+use network::error::Verdict;
+use network::topology::PowerNetwork;
+use numbers::at_most;
+use numbers::wide16;
+use slices::writer::write_bytes;
+
+// What is answered beside the best state.
+pub struct ReconfigResult {
+    pub is_radial: bool,
+    pub base_losses_mw: f64,
+    pub optimized_losses_mw: f64,
+    pub loss_reduction_pct: f64,
+    pub n_iterations: u16,
+    pub converged: bool,
+}
+
+// The result of a search, or document 01's refusal number and place.
+pub enum SolveAnswer {
+    Solved(ReconfigResult),
+    Refused { number: u8, place: u16 },
+}
+
+// What a search found.
+pub struct Found {
+    pub configuration: NetworkConfiguration,
+    pub loss: f64,
+    pub iterations: u16,
+    pub converged: bool,
+}
+
+// A search's call tests the network, then whether a slice of this length has a byte for each switch.
+pub fn check_search(network: PowerNetwork, lent: usize) -> Verdict
+    ensures { λ r. ⌜ answerOf r ≡ (checkRecords (recordsOf network) andThen checkRoom (network .«switch_count») lent) ⌝ }
+{
+    if let Verdict::Refused { number, place } = check(network) {
+        return Verdict::Refused { number, place };
+    }
+    let count = wide16(network.switch_count);
+    if lent < count {
+        return Verdict::Refused {
+            number: 13,
+            place: 0,
+        };
+    }
+    Verdict::Accepted
+}
+
+// By how many per cent the best loss is below the base's.
+fn reduction(base: f64, best: f64) -> f64
+    ensures { λ r. ⌜ r ≡ reduction base best ⌝ }
+{
+    if base > 1e-12 {
+        return (base - best) / base * 100.0;
+    }
+    0.0
+}
+
+// The bytes of so many switches at the front of a slice.
+fn write_state(best: NetworkConfiguration, switch_count: u16, out: &mut [u8])
+    ensures { λ _. ⌜ now (out .exit) ≡ written (take «switch_count» (best .switches)) (now (out .entry)) ⌝ }
+{
+    let state = best.switches;
+    let count = at_most(wide16(switch_count), NetworkConfiguration::MAX_SWITCHES);
+    write_bytes(out, &state[0..count]);
+}
+
+// What was found is answered: its state, a byte for each switch at the front of the slice, and the result beside it. From a radial base every answer is
+// radial.
+pub fn answer_with(network: PowerNetwork, start: Start, found: Found, out: &mut [u8]) -> SolveAnswer
+    ensures { λ r. ⌜ record { answer = solveAnswerOf r; out = now (out .exit) } ≡ answerWith network start found (now (out .entry)) ⌝ }
+{
+    let best = found.configuration;
+    let mut radial = true;
+    if !start.radial {
+        let graph = start.graph;
+        radial = is_radial(graph, live_branches(network, best));
+    }
+    write_state(best, network.switch_count, out);
+    SolveAnswer::Solved(ReconfigResult {
+        is_radial: radial,
+        base_losses_mw: start.loss,
+        optimized_losses_mw: found.loss,
+        loss_reduction_pct: reduction(start.loss, found.loss),
+        n_iterations: found.iterations,
+        converged: found.converged,
+    })
+}

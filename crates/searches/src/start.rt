@@ -1,0 +1,44 @@
+// Translated and changed from src/network/reconfiguration.rs of oxigrid. Copyright 2024-2026 COOLJAPAN OU (Team Kitasan), Apache License 2.0.
+ghost use mathlib.Core.Path.{_≡_};
+ghost use Rattle.searches.specs.SearchValues.{startOf};
+use graph::radial::is_radial;
+use graph::rows::Graph;
+use losses::evaluation::loads_of;
+use losses::reconfiguration::compute_losses_estimate;
+use network::bus::Power;
+use network::configuration::NetworkConfiguration;
+use network::configuration::build_base_configuration;
+use network::configuration::live_branches;
+use network::topology::PowerNetwork;
+use radiality::feeder::graph_of;
+
+// Where every search starts: the feeder's rows and loads, and its base with the live branches, the radiality and the loss.
+pub struct Start {
+    pub graph: Graph,
+    pub loads: [Power; 256],
+    pub base: NetworkConfiguration,
+    pub live: [bool; 512],
+    pub radial: bool,
+    pub loss: f64,
+}
+
+// It is made once a call.
+pub fn start_of(network: PowerNetwork) -> Start
+    ensures { λ r. ⌜ r ≡ startOf network ⌝ }
+{
+    let graph = graph_of(network);
+    let loads = loads_of(network);
+    let base = build_base_configuration(network);
+    let live = live_branches(network, base);
+    let radial = is_radial(graph, live);
+    let branches = network.branches;
+    let loss = compute_losses_estimate(graph, loads, branches, network.base_mva, live);
+    Start {
+        graph,
+        loads,
+        base,
+        live,
+        radial,
+        loss,
+    }
+}

@@ -1,0 +1,26 @@
+-- `search` meets its contract: the rounds go from the base, and what is found is read off them.
+use Rattle.network.specs.ReadLaws.{length-of}
+use Rattle.network.specs.Records.{recordsOf}
+use Rattle.network.proofs.bus.Bus.{the-type}
+use Rattle.searches.specs.SearchValues.{foundOf}
+use Rattle.searches.specs.StartLaws.{start-given, start-base, start-radial}
+use Rattle.tabu.specs.Tabu.{tabuBest}
+use Rattle.tabu.specs.TabuValues.{tabuOf}
+use Rattle.tabu.proofs.tabu.search.Statement.{statement}
+use Rattle.tabu.proofs.tabu.search.Tie as tie
+
+tabu-rounds-requires : tie.Need-tabu-rounds-requires
+tabu-rounds-requires c κs =
+    let start = c .before .before .before in
+    let n = start .args .network in
+    let sized = length-of (the-type .to) (n .buses) (start .good .0 .1 .1 .0 .1 .0 .1) in
+    let ok = start .pre .0 in
+    let e = start .pre .1 in
+    (start-given n sized ok e, start-base n sized ok e, start-radial n sized ok e)
+
+returns : tie.Need-returns
+unfolding tabuBest foundOf tabuOf recordsOf
+returns c = rw (c .before .tabu-rounds .ensures)
+
+pub search-spec : {M : Type 1} → statement M
+search-spec = tie.close (tie.spec tabu-rounds-requires returns)

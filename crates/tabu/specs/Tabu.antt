@@ -1,0 +1,80 @@
+-- Document 01's tabu search, step by step.
+use mathlib.Core.Bool.{Bool, true, false, cond, not, _&&_, _||_}
+use mathlib.Core.List.{List, [], _∷_, _++_}
+use mathlib.Core.Option.{Option, none, some}
+use Prim.Native.Nat.{ℕ, zero, suc, _-_}
+use lib.Ieee.{Float, lt}
+use lib.ListN.{length, drop}
+use Rattle.numbers.specs.UpTo.{upTo}
+use Rattle.network.specs.Records.{Network}
+use Rattle.network.specs.Faults.{among}
+use Rattle.network.specs.Live.{baseState}
+use Rattle.network.specs.Switches.{State, operable, size, switch, toggled}
+use Rattle.radiality.specs.Feeder.{radialIn}
+use Rattle.losses.specs.Loss.{lossIn}
+use Rattle.searches.specs.Results.{Best}
+
+-- a move that can be made: the state after it, its loss, and the id of the switch that it moves
+pub record Move : Type 0 where
+  pub state : State
+  pub loss : Float
+  pub moved : ℕ
+
+-- where the search stands after some rounds: the state, the best ever and its loss, and the ids that are barred
+pub record Tabu : Type 0 where
+  pub state : State
+  pub best : State
+  pub best-loss : Float
+  pub barred : List ℕ
+  pub ended : Bool
+
+-- switch i toggled alone
+abbrev pub moveOf : Network → Tabu → ℕ → Move
+moveOf N x i = record { state = toggled (x .state) i; loss = lossIn N (toggled (x .state) i); moved = switch N i .id }
+
+-- it is of an operable switch, its result is radial, and it is not barred or "the loss is below the best ever"
+unfoldable pub allowed : Network → Tabu → ℕ → Bool
+allowed N x i =
+    operable N i
+    && (radialIn N (toggled (x .state) i)
+    && (not (among (switch N i .id) (x .barred)) || lt (lossIn N (toggled (x .state) i)) (x .best-loss)))
+
+-- "the least loss wins, the earlier on a tie"
+unfoldable pub lesser : Option Move → Move → Option Move
+lesser none m = some m
+lesser (some b) m = cond (lt (m .loss) (b .loss)) (some m) (some b)
+
+-- "each toggles every operable switch alone, in list order, and keeps radial results"
+unfoldable pub bestMove : Network → Tabu → Option Move
+bestMove N x = upTo (λ best i. cond (allowed N x i) (lesser best (moveOf N x i)) best) none (size N)
+
+-- "The last 7 moved ids"
+unfoldable pub lastSeven : List ℕ → List ℕ
+lastSeven l = drop (length l - 7) l
+
+-- the winner "is the next round's state"; it is the answer where its "loss is strictly below the best ever". "No candidate ends it"
+unfoldable pub afterMove : Tabu → Option Move → Tabu
+afterMove x none = record { state = x .state; best = x .best; best-loss = x .best-loss; barred = x .barred; ended = true }
+afterMove x (some m) =
+    record {
+      state = m .state;
+      best = cond (lt (m .loss) (x .best-loss)) (m .state) (x .best);
+      best-loss = cond (lt (m .loss) (x .best-loss)) (m .loss) (x .best-loss);
+      barred = lastSeven (x .barred ++ (m .moved ∷ []));
+      ended = false;
+    }
+
+-- "up to max_iterations rounds": n more
+unfoldable pub tabuRounds : Network → ℕ → Tabu → Tabu
+tabuRounds N zero x = x
+tabuRounds N (suc n) x = elim (x .ended) [ true ↦ x | false ↦ tabuRounds N n (afterMove x (bestMove N x)) ]
+
+-- "The answer is the base until a move's loss is strictly below the best ever"
+unfoldable pub tabu : Network → Tabu
+tabu N = tabuRounds N (N .iterations) (record { state = baseState N; best = baseState N; best-loss = lossIn N (baseState N); barred = []; ended = false })
+
+-- "It reports max_iterations and converged"
+unfoldable pub tabuBest : Network → Best
+tabuBest N =
+    let x = tabu N in
+    record { state = x .best; loss = x .best-loss; iterations = N .iterations; converged = true }

@@ -1,0 +1,78 @@
+-- The tabu search's answer is fixed after its first round: from then on the state is radial, a move leaves its live branches and so its loss, and that is not below
+-- the best ever. From a radial base it is fixed from the start: the base.
+use mathlib.Core.Path.{_≡_, refl, sym, ap, _∙_}
+use mathlib.Core.Logic.{_⊎_, inl, inr}
+use mathlib.Core.Bool.{Bool, true, false, cond}
+use mathlib.Core.List.{[]}
+use mathlib.Core.Option.{Option, none, some}
+use Prim.Native.Nat.{ℕ, zero, suc, _<_}
+use native.Mathlib.Omega.{arith}
+use lib.Ieee.{lt}
+use Rattle.numbers.specs.Tests.{clash}
+use Rattle.network.specs.Records.{Network}
+use Rattle.network.specs.Inside.{Inside}
+use Rattle.network.specs.Live.{baseState}
+use Rattle.network.specs.Switches.{toggled}
+use Rattle.radiality.specs.Feeder.{radialIn}
+use Rattle.losses.specs.Loss.{lossIn}
+use Rattle.tabu.specs.Tabu.{Move, Tabu, bestMove, afterMove, tabuRounds, tabu}
+use Rattle.searches.specs.Found.{IfSome}
+use Rattle.searches.specs.Floats.{lt-self}
+use Rattle.searches.specs.LiveBranches.{same-loss}
+use Rattle.tabu.specs.Toggles.{toggled-same}
+use Rattle.tabu.specs.TabuLaws.{Toggle, MoveFrom, bestMove-moves, next, rounds-keep}
+
+abbrev pub tabuStart : Network → Tabu
+tabuStart N = record { state = baseState N; best = baseState N; best-loss = lossIn N (baseState N); barred = []; ended = false }
+
+-- the same answer so far
+abbrev pub SameBest : Tabu → Tabu → Type 0
+SameBest x y = (x .best ≡ y .best) × (x .best-loss ≡ y .best-loss)
+
+module _ (N : Network) where
+  -- the search is at its end, or its state is radial with a loss that is not below the best ever
+  abbrev Settled : Tabu → Type 0
+  Settled x = (x .ended ≡ true) ⊎ ((radialIn N (x .state) ≡ true) × (lt (lossIn N (x .state)) (x .best-loss) ≡ false))
+
+  -- after any round
+  settles : (x : Tabu) (found : Option Move) → IfSome (MoveFrom N (x .state)) found → Settled (afterMove x found)
+  unfolding afterMove
+  settles x none w = inl refl
+  settles x (some m) w = inr (w .toggle .radial, rw (← w .loses) (go (lt (m .loss) (x .best-loss)) refl))
+    where
+      go : (b : Bool) → lt (m .loss) (x .best-loss) ≡ b → lt (m .loss) (cond b (m .loss) (x .best-loss)) ≡ false
+      go true e = lt-self (m .loss)
+      go false e = e
+
+  module _ (inside : Inside N) where
+    same-after : (x : Tabu) → radialIn N (x .state) ≡ true → lt (lossIn N (x .state)) (x .best-loss) ≡ false
+        → (found : Option Move) → IfSome (MoveFrom N (x .state)) found → SameBest (afterMove x found) x
+    unfolding afterMove
+    same-after x r n none w = (refl, refl)
+    same-after x r n (some m) w = (rw worse, rw worse)
+      where
+        t : Toggle N (x .state) (m .state)
+        t = w .toggle
+
+        worse : lt (m .loss) (x .best-loss) ≡ false
+        worse =
+            let e : lossIn N (x .state) ≡ m .loss = same-loss N (x .state) (toggled (x .state) (t .moved)) (toggled-same N inside (x .state) r (t .moved) (rw (t .result) at (t .radial))) ∙ sym (w .loses ∙ ap (lossIn N) (t .result)) in
+            rw e at n
+
+    stays-settled : (n : ℕ) (x : Tabu) → Settled x → SameBest (tabuRounds N n x) x
+    stays-settled n x h = rounds-keep N (λ y. SameBest y x × Settled y) (λ y e q. one y e (q .0) (q .1)) n x ((refl, refl), h) .0
+      where
+        one : (y : Tabu) → y .ended ≡ false → SameBest y x → Settled y → SameBest (next N y) x × Settled (next N y)
+        one y e b (inl t) = clash t e
+        one y e b (inr (r, n)) =
+            let q = same-after y r n (bestMove N y) (bestMove-moves N y) in
+            ((q .0 ∙ b .0, q .1 ∙ b .1), settles y (bestMove N y) (bestMove-moves N y))
+
+    -- rounds after the first leave the answer as it is
+    pub tabu-one-round : 0 < N .iterations → SameBest (tabu N) (next N (tabuStart N))
+    unfolding tabu
+    tabu-one-round l = go (N .iterations) l
+      where
+        go : (n : ℕ) → 0 < n → SameBest (tabuRounds N n (tabuStart N)) (next N (tabuStart N))
+        go zero l = absurd (omega arith)
+        go (suc n) l = unfold tabuRounds in stays-settled n (next N (tabuStart N)) (settles (tabuStart N) (bestMove N (tabuStart N)) (bestMove-moves N (tabuStart N)))

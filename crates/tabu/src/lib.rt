@@ -1,0 +1,3 @@
+// Document 01's tabu search.
+pub mod tabu;
+mod tabu_list;
