@@ -3,5 +3,4 @@ pub mod Building
 pub mod Counting
 pub mod Entering
 pub mod Expanding
-pub mod Listing
 pub mod Turning

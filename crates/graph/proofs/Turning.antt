@@ -73,7 +73,7 @@ module _ (clear : List Bool) (long : length clear ≡ 256) (off : (x : ℕ) → 
 
 module _ (neighbours : ℕ → List Visit) (start barred : ℕ) where
   -- the visits after h turns
-  abbrev visits : ℕ → List Visit
+  abbrev pub visits : ℕ → List Visit
   visits h = upTo (turn neighbours barred) (startAt start ∷ []) h
 
   -- in the arrays
@@ -100,7 +100,7 @@ module _ (neighbours : ℕ → List Visit) (start barred : ℕ) where
         rw (w .buses) (filled-read (λ v. v .bus) (visits h) h refl (omega (arith, w .counted)))
 
     pub one-turned : {seen′ : List Bool} {bus′ by′ : List ℕ} {n′ : ℕ} (at u : ℕ) → at ≡ h → u ≡ getD bus at 0 → h < n
-        → ((b : ℕ) (o : List Visit) → Walking b o seen bus by n → Walking b (enterAll b o (neighbours u)) seen′ bus′ by′ n′)
+        → (Walking barred (visits h) seen bus by n → Walking barred (enterAll barred (visits h) (neighbours u)) seen′ bus′ by′ n′)
         → Turning seen′ bus′ by′ n′ (h + 1)
     unfolding turn
     one-turned at u p q l step =
@@ -108,7 +108,7 @@ module _ (neighbours : ℕ → List Visit) (start barred : ℕ) where
         let m : h < length (visits h) = omega (arith, t .walking .counted) in
         record {
           walking = rw (upTo-more (turn neighbours barred) (startAt start ∷ []) h, lt-ltb h (length (visits h)) m, ← b)
-              (step barred (visits h) (t .walking));
+              (step (t .walking));
           within = omega (arith, turned-few);
         }
 

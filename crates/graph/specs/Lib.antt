@@ -2,7 +2,6 @@ pub mod Graph
 pub mod Walk
 pub mod Radial
 pub mod Rows
-pub mod Lists
 pub mod Chains
 pub mod Paths
 pub mod Forests
@@ -22,6 +21,4 @@ pub mod RowsHold
 pub mod RowsNeighbours
 pub mod RowsWalk
 pub mod Filled
-pub mod ListRoom
-pub mod ListLaws
 pub mod Walking

@@ -1,5 +1,4 @@
 // Feeders as graphs.
-pub mod lists;
 pub mod radial;
 pub mod rows;
 pub mod walk;

@@ -12,7 +12,7 @@ use numbers::wide8;
 use numbers::wide16;
 
 // Bus x is put behind those reached, with branch k, unless the branch is not live or the bus is marked: barred, or reached already.
-pub(crate) fn enter(
+fn enter(
     seen: &mut [bool; 256],
     bus: &mut [u8; 256],
     by: &mut [u16; 256],

@@ -17,7 +17,7 @@ use Rattle.network.specs.Records.{noBus, noBranch, recordsOf}
 use Rattle.graph.specs.declared.rows.Graph.{Graph}
 use Rattle.radiality.specs.Feeder.{feeder}
 use Rattle.radiality.specs.FeederLaws.{feeder-sound, feeder-small}
-use Rattle.radiality.specs.FeederRowLaws.{flags-live, same-buses, same-branches, feeder-ends}
+use Rattle.radiality.specs.FeederRowLaws.{flags-live, feeder-positions, same-buses, same-branches, feeder-ends}
 use Rattle.radiality.specs.FeederRows.{feederGraph, liveFlags, fromEnds, toEnds}
 use Rattle.graph.specs.Rows.{flag, netOf}
 use Rattle.losses.specs.Loss.{lossWith, lossIn}
@@ -39,18 +39,11 @@ module _ (n : PowerNetwork) (sized : length (n .buses) ≡ 256) (ok : checkRecor
   unfolding recordsOf
   resistances-there k h = ap (λ b. b .r) (getD-table (λ i. getD (n .branches) i noBranch) (n .«branch_count») k noBranch (omega (arith, same-branches n sized ok)))
 
-  ends-inside : (k : ℕ) → k < n .«branch_count» → (getD (fromEnds n) k 0 < n .«bus_count») × (getD (toEnds n) k 0 < n .«bus_count»)
-  ends-inside k h =
-      let l : k < feeder (recordsOf n) .branches = omega (arith, same-branches n sized ok) in
-      let e = feeder-ends n sized ok k l in
-      let s = feeder-sound (recordsOf n) inside k l in
-      (rw (e .0, same-buses n sized ok) at (s .0), rw (e .1, same-buses n sized ok) at (s .1))
-
   pub feeder-row-loss : (flags : List Bool) → length flags ≤ 512
       → rowLoss (feederGraph n) (loadsOf n) (n .branches) (n .«base_mva») flags ≡ lossWith (recordsOf n) (flag flags)
   unfolding feederGraph recordsOf
   feeder-row-loss flags short =
-      row-loss _ _ (fromEnds n) (toEnds n) flags short (omega (arith, feeder-small (recordsOf n) inside, same-buses n sized ok)) ends-inside (loadsOf n) (n .branches) (n .«base_mva»)
+      row-loss _ _ (fromEnds n) (toEnds n) flags (feeder-positions n sized) short (loadsOf n) (n .branches) (n .«base_mva»)
       ∙ sym
       (loss-same (feeder (recordsOf n)) (netOf (n .«bus_count») (n .«branch_count») (fromEnds n) (toEnds n)) (flag flags) (flag flags) (same-buses n sized ok) (same-branches n sized ok) (λ k l. refl)
       (feeder-ends n sized ok) _ _ _ _ (n .«base_mva») (feeder-sound (recordsOf n) inside) loads-there resistances-there)

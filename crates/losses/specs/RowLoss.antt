@@ -1,12 +1,12 @@
 -- The loss as the code takes it: over the rows of a graph, with arrays for the loads, the branches and the flags of the live ones.
 use mathlib.Core.Bool.{Bool, cond}
 use mathlib.Core.List.{List, map}
-use Prim.Native.Nat.{ℕ, _+_, _*_, min}
+use Prim.Native.Nat.{ℕ, _+_, _*_}
 use lib.Dec.{eqb}
 use lib.ListN.{getD}
-use lib.Ieee.{Float, binary64, add}
+use lib.Ieee.{Float, nan}
 use Rattle.numbers.specs.Constants.{zero64}
-use Rattle.numbers.specs.UpTo.{upTo, table}
+use Rattle.numbers.specs.UpTo.{table}
 use Rattle.network.specs.declared.branch.Branch.{Branch}
 use Rattle.network.specs.declared.bus.Bus.{Bus}
 use Rattle.network.specs.declared.bus.Power.{Power}
@@ -14,8 +14,7 @@ use Rattle.network.specs.declared.topology.PowerNetwork.{PowerNetwork}
 use Rattle.network.specs.Records.{noBus, noBranch}
 use Rattle.graph.specs.declared.rows.Graph.{Graph}
 use Rattle.graph.specs.Walk.{walkBy}
-use Rattle.graph.specs.Rows.{flag}
-use Rattle.graph.specs.Lists.{liveLists, listVisits}
+use Rattle.graph.specs.Rows.{flag, rowLeads}
 use Rattle.losses.specs.Loss.{walkLoad, totalOf}
 
 abbrev pub noPower : Power
@@ -25,28 +24,22 @@ noPower = record { 0 = zero64 }
 unfoldable pub powers : List Float → List Power
 powers mw = map (λ (x : Float). record { 0 = x }) mw
 
--- the load at a bus
+-- the load at a bus; behind the array there is none
 abbrev pub loadAt : List Power → ℕ → Float
-loadAt loads b = getD loads b noPower .0
+loadAt loads b = getD loads b (record { 0 = nan }) .0
 
--- the loads at the first n buses of an array, added in its order
-unfoldable pub arrayLoad : List Power → List ℕ → ℕ → Float
-arrayLoad loads bus n = upTo (λ t i. add binary64 t (loadAt loads (getD bus i 0))) zero64 n
-
--- the load behind branch k, by lists of neighbours
-unfoldable pub loadBehind : List ℕ → List ℕ → List ℕ → List Power → ℕ → Float
-loadBehind far at near loads k = walkLoad (loadAt loads) (walkBy (listVisits at near) (getD far (2 * k) 0) (getD far (2 * k + 1) 0))
+-- the load behind branch k: "from the to bus, never entering the from bus", by the rows
+unfoldable pub loadBehind : List ℕ → List ℕ → List ℕ → List Bool → List Power → ℕ → Float
+loadBehind far first next live loads k = walkLoad (loadAt loads) (walkBy (rowLeads far first next live) (getD far (2 * k) 0) (getD far (2 * k + 1) 0))
 
 -- the total of the live ones among the first n branches
 unfoldable pub rowTotal : List ℕ → List ℕ → List ℕ → List Power → List Branch → Float → List Bool → ℕ → Float
-rowTotal far at near loads branches base live n =
-    totalOf (flag live) (λ k. getD branches k noBranch .r) (loadBehind far at near loads) base n
+rowTotal far first next loads branches base live n =
+    totalOf (flag live) (λ k. getD branches k noBranch .r) (loadBehind far first next live loads) base n
 
--- the lists are read off the rows of the graph's buses once
 unfoldable pub rowLoss : Graph → List Power → List Branch → Float → List Bool → Float
 rowLoss g loads branches base live =
-    let lists = liveLists (g .far) (g .first) (g .next) live (min (g .«bus_count») 256) in
-    cond (eqb (g .«bus_count») 0) zero64 (rowTotal (g .far) (lists .at) (lists .near) loads branches base live (g .«branch_count»))
+    cond (eqb (g .«bus_count») 0) zero64 (rowTotal (g .far) (g .first) (g .next) loads branches base live (g .«branch_count»))
 
 -- the loads of 256 buses
 abbrev pub loadsAt : List Bus → List Power

@@ -89,11 +89,19 @@ search-no-nan N out x e =
     (bits-if-accepted (checkRecords N andThen room) (result N) (best N .state) out (λ ok. bits (then-iff (checkRecords N) room .0 ok .0)))
 
 -- ---- the rounds
-pub in-even : (i x y : ℕ) → i % 2 ≡ 0 → x ≡ cond (eqb (i % 2) 0) x y
+pub in-even : (i : ℕ) (x y : List ℕ) → i % 2 ≡ 0 → x ≡ cond (eqb (i % 2) 0) x y
 in-even i x y e = rw (eq-eqb (i % 2) 0 e)
 
-pub in-odd : (i x y : ℕ) → (i % 2 ≡ 0 → ⊥) → y ≡ cond (eqb (i % 2) 0) x y
+pub in-odd : (i : ℕ) (x y : List ℕ) → (i % 2 ≡ 0 → ⊥) → y ≡ cond (eqb (i % 2) 0) x y
 in-odd i x y n = rw (ne-eqb (i % 2) 0 n)
+
+pub states-in-turn : (kind : ℕ) (t a b : List ℕ) (i : ℕ) (first second : List ℕ) → first ≡ cond (eqb (i % 2) 0) a b → second ≡ cond (eqb (i % 2) 0) b a
+    → valueOf (asked kind t first second) ≡ cond (eqb (i % 2) 0) (valueOf (asked kind t a b)) (valueOf (asked kind t b a))
+states-in-turn kind t a b i first second p q = rw (p, q) (go (eqb (i % 2) 0))
+  where
+    go : (c : Bool) → valueOf (asked kind t (cond c a b) (cond c b a)) ≡ cond c (valueOf (asked kind t a b)) (valueOf (asked kind t b a))
+    go true = refl
+    go false = refl
 
 pub total-none : (even odd : ℕ) → 0 ≡ total even odd 0
 unfolding total upTo

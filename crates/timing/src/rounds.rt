@@ -33,20 +33,34 @@ fn call(kind: u8, text: &[u8], network: PowerNetwork, first: &[u8], second: &[u8
     }
 }
 
-// Round i: the states change places with every round, so that none repeats the one before it.
-fn round(kind: u8, text: &[u8], network: PowerNetwork, a: &[u8], b: &[u8], i: u64) -> u64
+// The first of two states in round i: they change places with every round, so that none repeats the one before it.
+fn in_turn<'a>(a: &'a [u8], b: &'a [u8], i: u64) -> &'a [u8]
+    ensures { λ r. ⌜ now r ≡ cond (eqb (i % 2) 0) (now (a .entry)) (now (b .entry)) ⌝ }
+{
+    if i % 2 == 0 {
+        return a;
+    }
+    b
+}
+
+// Round i. The call stands at one place, so that the compiler hands the network on without a copy.
+fn round<'a>(kind: u8, text: &[u8], network: PowerNetwork, a: &'a [u8], b: &'a [u8], i: u64) -> u64
     requires { ⌜ readText (now text) ≡ accepted (recordsOf network) ⌝ }
     ensures { λ r. ⌜ r ≡ cond (eqb (i % 2) 0)
         (valueOf (asked kind (now (text .entry)) (now (a .entry)) (now (b .entry))))
         (valueOf (asked kind (now (text .entry)) (now (b .entry)) (now (a .entry)))) ⌝ }
 {
-    if i % 2 == 0 {
-        return call(kind, text, network, a, b);
-    }
-    call(kind, text, network, b, a)
+    call(kind, text, network, in_turn(a, b, i), in_turn(b, a, i))
 }
 
-fn rounds(kind: u8, text: &[u8], network: PowerNetwork, a: &[u8], b: &[u8], times: u64) -> u64
+fn rounds<'a>(
+    kind: u8,
+    text: &[u8],
+    network: PowerNetwork,
+    a: &'a [u8],
+    b: &'a [u8],
+    times: u64,
+) -> u64
     requires { ⌜ readText (now text) ≡ accepted (recordsOf network) ⌝ }
     ensures { λ r. ⌜ r ≡ total (valueOf (asked kind (now (text .entry)) (now (a .entry)) (now (b .entry))))
         (valueOf (asked kind (now (text .entry)) (now (b .entry)) (now (a .entry)))) times ⌝ }
@@ -62,7 +76,13 @@ fn rounds(kind: u8, text: &[u8], network: PowerNetwork, a: &[u8], b: &[u8], time
 
 // So many rounds of a kind of call on a text's records and two of its states, and the sum of what they answer.
 #[no_mangle]
-pub extern "C" fn timing_rounds(kind: u8, text: &[u8], a: &[u8], b: &[u8], times: u64) -> u64
+pub extern "C" fn timing_rounds<'a>(
+    kind: u8,
+    text: &[u8],
+    a: &'a [u8],
+    b: &'a [u8],
+    times: u64,
+) -> u64
     ensures { λ r. ⌜ r ≡ total (valueOf (asked kind (now (text .entry)) (now (a .entry)) (now (b .entry))))
         (valueOf (asked kind (now (text .entry)) (now (b .entry)) (now (a .entry)))) times ⌝ }
 {

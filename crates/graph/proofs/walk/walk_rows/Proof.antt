@@ -66,7 +66,7 @@ loop-again c =
     let u = c .before .before .before .before .before in
     let t = u .before in
     one-turned _ _ _ (t .before .before .loop .inv) _ _ (t .wide16 .ensures .0) (u .wide83 .ensures .0) (t .before .loop-test .taken)
-    (c .expand .ensures)
+    (c .expand .ensures _ _)
 
 returns : tie.Need-returns Inv-loop μ-loop
 returns c = all-turned _ _ _ (c .before .loop .inv) (c .loop-test .left)

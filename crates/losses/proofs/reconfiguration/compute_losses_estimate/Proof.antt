@@ -11,10 +11,10 @@ use Rattle.losses.proofs.reconfiguration.compute_losses_estimate.Statem
 use Rattle.losses.proofs.reconfiguration.compute_losses_estimate.Tie as tie
 
 abbrev Inv-loop : tie.InvT-loop
-Inv-loop base-mva branches live n far at near mw total₀ k₀ total k = (k ≤ n) × (total ≡ rowTotal far at near (powers mw) branches base-mva live k)
+Inv-loop base-mva branches live n far first next lists mw total₀ k₀ total k = (k ≤ n) × (total ≡ rowTotal far first next (powers mw) branches base-mva live k)
 
 abbrev μ-loop : tie.MeasureT-loop
-μ-loop base-mva branches live n far at near mw total₀ k₀ total k = n - k
+μ-loop base-mva branches live n far first next lists mw total₀ k₀ total k = n - k
 
 returns : tie.Need-returns Inv-loop μ-loop
 returns c = loss-none _ _ _ _ _ (c .if1 .taken)
@@ -43,8 +43,15 @@ mul-branch-loss c = omega arith
 array-copy-out-branch-loss : tie.Need-array-copy-out-branch-loss Inv-loop μ-loop
 array-copy-out-branch-loss c = omega arith
 
+-- where the branches are counted
+abbrev counted : tie.At-loop Inv-loop μ-loop → tie.After-at-most Inv-loop μ-loop
+counted loop = loop .before .before .before .before .before .before .before .before .before .before
+
 branch-loss-requires : tie.Need-branch-loss-requires Inv-loop μ-loop
-branch-loss-requires c κs = (search needs, omega arith)
+branch-loss-requires c κs =
+    let loop = c .before .before .before .before .before .before .before .before .before .before .before in
+    let few : min (counted loop .before .before .before .before .args .graph .«bus_count») 256 ≤ 256 = omega arith in
+    (omega arith, (_, few, loop .before .before .live-lists .ensures))
 
 add-k : tie.Need-add-k Inv-loop μ-loop
 add-k c = omega arith
@@ -58,10 +65,6 @@ branches-long s = search needs
 live-long : (s : tie.Start Inv-loop μ-loop) → length (s .args .t5) ≡ 512
 live-long s = search needs
 
--- where the branches are counted
-abbrev counted : tie.At-loop Inv-loop μ-loop → tie.After-at-most Inv-loop μ-loop
-counted loop = loop .before .before .before .before .before .before .before .before .before .before .before .before
-
 loop-again : tie.Need-loop-again Inv-loop μ-loop
 loop-again c =
     let loop = c .before .before in
@@ -69,21 +72,20 @@ loop-again c =
     let long : length (start .args .t3) ≡ 512 = branches-long start in
     let inside : loop .loop .k < length (start .args .t3) = omega (arith, counted loop .at-most .ensures) in (
       omega arith,
-      ⊎-elim (λ w. total-live _ _ _ _ _ _ _ _ _ _ _ _ inside (loop .loop .inv .1) (w .0 .taken) (w .6 .ensures) (w .7)) (λ w. total-dead _ _ _ _ _ _ _ _ _ _ (loop .loop .inv .1) (w .0 .left) (w .1))
+      ⊎-elim (λ w. total-live _ _ _ _ _ _ _ _ _ _ _ _ inside (loop .loop .inv .1) (w .0 .taken) (w .10 .ensures) (w .11)) (λ w. total-dead _ _ _ _ _ _ _ _ _ _ (loop .loop .inv .1) (w .0 .left) (w .1))
           (c .if2 .came),
     )
 
 returns-2 : tie.Need-returns-2 Inv-loop μ-loop
 returns-2 c =
     let loop = c .before in
-    let lists = loop .before .before .before .before in
     let count = counted loop in
     let tested = count .before .before in
     let start = tested .before .before in
     let args = start .args in
     let long : length (args .t5) ≡ 512 = live-long start in
     let end : loop .loop .k ≡ min (args .graph .«branch_count») (length (args .t5)) = omega (arith, count .at-most .ensures, count .before .wide16 .ensures .0, loop .loop .inv .0, c .loop-test .left, long) in
-    loss-all _ _ _ _ _ _ _ _ _ (tested .if1 .left) end (loop .before .megawatts .ensures) (lists .live-lists .ensures) (loop .loop .inv .1)
+    loss-all _ _ _ _ _ _ _ _ (tested .if1 .left) end (loop .before .megawatts .ensures) (loop .loop .inv .1)
 
 pub compute-losses-estimate-spec : {M : Type 1} → statement M
 compute-losses-estimate-spec =

@@ -1,9 +1,9 @@
 -- `list_row` meets its contract. The invariant: what is left of the row, listed behind what is done, gives the whole; the step is `half-listed`.
 use Prim.Native.Nat.{_-_}
 use native.Mathlib.Omega.{arith}
-use Rattle.graph.proofs.Listing.{RowListing, none-listed, half-listed, row-ended, row-cut}
-use Rattle.graph.proofs.lists.list_row.Statement.{statement}
-use Rattle.graph.proofs.lists.list_row.Tie as tie
+use Rattle.lists.proofs.Listing.{RowListing, none-listed, half-listed, row-ended, row-cut}
+use Rattle.lists.proofs.lists.list_row.Statement.{statement}
+use Rattle.lists.proofs.lists.list_row.Tie as tie
 
 abbrev Inv-loop : tie.InvT-loop
 Inv-loop far next live first near₀ count end₀ h₀ i₀ near end h i = RowListing far live next first near₀ count near end h i

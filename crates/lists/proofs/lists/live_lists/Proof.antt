@@ -1,10 +1,10 @@
 -- `live_lists` meets its contract: after u turns the array has the lists of the first u buses, and a turn is `one-rowed`.
-use mathlib.Core.Path.{ap, _∙_}
+use mathlib.Core.Path.{_≡_, ap, _∙_}
 use Prim.Native.Nat.{ℕ, _≤_, _-_, min}
 use native.Mathlib.Omega.{arith}
-use Rattle.graph.proofs.Listing.{Rowing, none-rowed, one-rowed, all-rowed}
-use Rattle.graph.proofs.lists.live_lists.Statement.{statement}
-use Rattle.graph.proofs.lists.live_lists.Tie as tie
+use Rattle.lists.proofs.Listing.{Rowing, none-rowed, one-rowed, all-rowed, some-left-out}
+use Rattle.lists.proofs.lists.live_lists.Statement.{statement}
+use Rattle.lists.proofs.lists.live_lists.Tie as tie
 
 abbrev Inv-loop : tie.InvT-loop
 Inv-loop far first next live bus-count n at₀ near₀ end₀ u₀ at near end u = (u ≤ n) × Rowing far first next live at near end u
@@ -51,11 +51,21 @@ loop-again c =
     let loop = c .before .before .before .before in
     (omega arith, one-rowed _ _ _ _ (loop .loop .inv .1) (omega (arith, few loop)) (c .list-row .ensures))
 
-returns : tie.Need-returns Inv-loop μ-loop
-returns c =
+-- all buses have had their turn
+all-done : (c : tie.After-loop Inv-loop μ-loop) → c .before .loop .u ≡ min (c .before .before .before .before .args .bus-count) 256
+all-done c =
     let loop = c .before in
     let count = loop .before in
-    all-rowed _ _ _ _ (loop .loop .inv .1) _ (omega (arith, loop .loop .inv .0, c .loop-test .left) ∙ count .at-most .ensures ∙ ap (λ (k : ℕ). min k 256) (count .before .wide16 .ensures .0))
+    omega (arith, loop .loop .inv .0, c .loop-test .left) ∙ count .at-most .ensures ∙ ap (λ (k : ℕ). min k 256) (count .before .wide16 .ensures .0)
+
+returns : tie.Need-returns Inv-loop μ-loop
+returns c = some-left-out _ _ _ _ (c .before .before .loop .inv .1) _ (all-done (c .before)) (c .if1 .taken)
+
+returns-2 : tie.Need-returns-2 Inv-loop μ-loop
+returns-2 c =
+    let loop = c .before .before in
+    let n : loop .before .at-most .result ≡ min (loop .before .before .before .args .bus-count) 256 = loop .before .at-most .ensures ∙ ap (λ (k : ℕ). min k 256) (loop .before .before .wide16 .ensures .0) in
+    rw n (all-rowed _ _ _ _ (loop .loop .inv .1) _ (all-done (c .before)) (c .if1 .left))
 
 pub live-lists-spec : {M : Type 1} → statement M
 live-lists-spec =
@@ -74,4 +84,5 @@ live-lists-spec =
     array-write-at
     loop-less
     loop-again
-    returns)
+    returns
+    returns-2)

@@ -1,15 +1,15 @@
 -- `put_behind` meets its contract, by the laws of Listing.
 use borrow.Author.Needs.{needs}
 use borrow.Author.Tests.{not-true, not-false}
-use Rattle.graph.proofs.Listing.{dead-stays, full-stays, one-listed}
-use Rattle.graph.proofs.lists.put_behind.Statement.{statement}
-use Rattle.graph.proofs.lists.put_behind.Tie as tie
+use Rattle.lists.proofs.Listing.{dead-stays, full-stays, one-listed}
+use Rattle.lists.proofs.lists.put_behind.Statement.{statement}
+use Rattle.lists.proofs.lists.put_behind.Tie as tie
 
 returns : tie.Need-returns
 returns c = dead-stays _ _ (not-true _ (c .if1 .taken))
 
 returns-2 : tie.Need-returns-2
-returns-2 c = full-stays _ _ (c .if2 .taken)
+returns-2 c = full-stays _ _ (not-false _ (c .before .if1 .left)) (c .if2 .taken)
 
 wide16-requires : tie.Need-wide16-requires
 wide16-requires c κs = search needs

@@ -2,25 +2,24 @@
 use mathlib.Core.Path.{_≡_, refl, sym, ap, _∙_}
 use mathlib.Core.Logic.{_⊎_, inl, inr}
 use mathlib.Core.Bool.{Bool, true, false, cond}
-use mathlib.Core.List.{List, [], _∷_, _++_, append-nil, append-assoc}
+use mathlib.Core.List.{List, [], _∷_, _++_, map, append-nil, append-assoc}
 use Prim.Native.Nat.{ℕ, zero, suc, _+_, _-_, _/_, _<_, _≤_, min}
 use native.Mathlib.Decide.{ℕ-discrete}
 use native.Mathlib.Omega.{arith}
-use borrow.Author.Tests.{le-ltb}
-use lib.Dec.{ltb}
-use lib.ListN.{length, getD, set, replicate, length-append, length-set}
+use borrow.Author.Tests.{lt-ltb, le-ltb, le-leb, lt-leb}
+use lib.Dec.{leb, ltb}
+use lib.ListN.{length, getD, set, replicate, length-append, length-map, length-set, List·getD-map}
 use lib.Seq.{getD-set-same, getD-set-other, getD-append-seam}
 use Rattle.numbers.specs.UpTo.{upTo, table}
 use Rattle.numbers.specs.TableLaws.{length-table, getD-table, table-more, as-table, table-cong, replicate-table, filled, filled-more}
-use Rattle.graph.specs.declared.lists.LiveLists.{LiveLists}
-use Rattle.graph.specs.Walk.{Visit, enter, enterAll}
+use Rattle.graph.specs.Walk.{Visit, startAt, enter, enterAll}
 use Rattle.graph.specs.Visits.{visit, busesOf}
 use Rattle.graph.specs.Rows.{rowFrom, leads, rowLeads}
-use Rattle.graph.specs.Lists.{listsTo, arrayOf, startOf, listsOf, liveLists, listFrom, listLive, Listing}
-use Rattle.graph.specs.ListLaws.{lists-more}
-use Rattle.graph.specs.Walking.{Walking, enterLive}
 use Rattle.graph.proofs.Along.{along, Along, one-along}
 use Rattle.graph.proofs.Along as Along
+use Rattle.lists.specs.declared.lists.LiveLists.{LiveLists}
+use Rattle.lists.specs.Lists.{listsTo, arrayOf, startOf, listsOf, liveLists, forget, listFrom, listedOr, listLive, Listing, Reaching}
+use Rattle.lists.specs.ListLaws.{lists-more}
 
 -- ---- one bus
 -- an entry behind the list does not change those before it
@@ -36,17 +35,14 @@ module _ (live : Bool) (x : ℕ) {near : List ℕ} {end : ℕ} where
   dead-stays e l w = rw e w
 
   -- there is no room
-  pub full-stays : 1024 ≤ end → (l : List ℕ) → Listing l near end → Listing (listLive live l x) near end
+  pub full-stays : live ≡ true → 1024 ≤ end → (l : List ℕ) → Listing l near end → Listing (listLive live l x) near 1025
   unfolding listLive
-  full-stays h l w = go live
-    where
-      go : (b : Bool) → Listing (listLive b l x) near end
-      go true =
-          record {
-            ends = rw length-append (omega (arith, w .ends));
-            entries = w .entries ∙ table-cong _ _ 1024 (λ i k. before l x i (omega (arith, w .ends)));
-          }
-      go false = w
+  full-stays e h l w =
+      rw e
+      record {
+        ends = rw length-append (omega (arith, w .ends));
+        entries = w .entries ∙ table-cong _ _ 1024 (λ i k. before l x i (omega (arith, w .ends)));
+      }
 
   pub one-listed : (at : ℕ) → at ≡ end → live ≡ true → end < 1024 → (l : List ℕ) → Listing l near end → Listing (listLive live l x) (set near at x) (end + 1)
   unfolding listLive
@@ -131,9 +127,72 @@ module _ (far first next : List ℕ) (live : List Bool) where
         let w : Listing (listsTo row (u + 1)) near′ end′ = rw more (step (listsTo row u) (r .listing)) in
         record { listing = w; begins = rw (r .begins, w .ends) (filled-more (startOf row) 0 257 (u + 1) (omega arith)) }
 
-    pub all-rowed : (n : ℕ) → u ≡ n → _≡_ {A = LiveLists} (record { at = at; near = near }) (liveLists far first next live n)
+    -- with room for all of them, and without
+    pub all-rowed : (n : ℕ) → u ≡ n → end ≤ 1024 → _≡_ {A = LiveLists} (record { listed = n; at = at; near = near }) (liveLists far first next live n)
     unfolding liveLists listsOf
-    all-rowed n e = rw (r .begins, r .listing .entries, e)
+    all-rowed n e h =
+        let ends : end ≡ min (length (listsTo row n)) 1025 = rw e at (r .listing .ends) in
+        let fits : leb (length (listsTo row n)) 1024 ≡ true = le-leb (length (listsTo row n)) 1024 (omega arith) in
+        rw (r .begins, r .listing .entries, e, fits)
+
+    pub some-left-out : (n : ℕ) → u ≡ n → 1024 < end → _≡_ {A = LiveLists} (record { listed = 0; at = at; near = near }) (liveLists far first next live n)
+    unfolding liveLists listsOf
+    some-left-out n e h =
+        let ends : end ≡ min (length (listsTo row n)) 1025 = rw e at (r .listing .ends) in
+        let over : leb (length (listsTo row n)) 1024 ≡ false = lt-leb (length (listsTo row n)) 1024 (omega arith) in
+        rw (r .begins, r .listing .entries, e, over)
+
+-- ---- a row listed by itself
+row-short : (next : List ℕ) (n h : ℕ) → length (rowFrom next n h) ≤ n
+unfolding rowFrom
+row-short next zero h = omega arith
+row-short next (suc n) h = go (ltb h 1024) (row-short next n (getD next h 0))
+  where
+    go : (b : Bool) → length (rowFrom next n (getD next h 0)) ≤ n → length {A = ℕ} (elim b [ true ↦ h ∷ rowFrom next n (getD next h 0) | false ↦ [] ]) ≤ suc n
+    go true l = omega arith
+    go false l = omega arith
+
+leads-short : (far : List ℕ) (live : List Bool) (l : List ℕ) → length (leads far live l) ≤ length l
+unfolding leads
+leads-short far live [] = omega arith
+leads-short far live (h ∷ l) = go (getD live (h / 2) false) (leads-short far live l)
+  where
+    go : (b : Bool) → length (leads far live l) ≤ length l → length (cond b (record { bus = getD far h 0; by = h / 2 } ∷ leads far live l) (leads far live l)) ≤ suc (length l)
+    go true ih = omega arith
+    go false ih = omega arith
+
+pub nothing-listed : Listing [] (replicate 1024 0) 0
+nothing-listed = record { ends = refl; entries = replicate-table 0 1024 }
+
+visits-alone : (vs : List Visit) {near : List ℕ} {end : ℕ} → length vs ≤ 1024 → Listing (busesOf vs) near end → listFrom near 0 end ≡ map forget vs
+unfolding listFrom
+visits-alone vs {near} {end} few w =
+    let count : min end 1024 - 0 ≡ length vs = omega (arith, w .ends, length-map vs (λ v. v .bus)) in
+    rw (count, w .entries)
+    (sym (as-table _ (length vs) (startAt 0) (map forget vs) (length-map vs forget)
+    (λ i k.
+    let here : 0 + i ≡ i = omega arith in
+    List·getD-map forget vs i (startAt 0) ∙ rw here (ap (λ b. visit b 0) (sym (getD-table _ 1024 i 0 (omega arith) ∙ List·getD-map (λ v. v .bus) vs i (startAt 0)))))))
+
+row-alone : (far : List ℕ) (live : List Bool) (next : List ℕ) (first : ℕ) {near : List ℕ} {end : ℕ} → Listing (busesOf (leads far live (rowFrom next 1024 first))) near end
+    → listFrom near 0 end ≡ map forget (leads far live (rowFrom next 1024 first))
+row-alone far live next first w =
+    visits-alone (leads far live (rowFrom next 1024 first)) (omega (arith, leads-short far live (rowFrom next 1024 first), row-short next 1024 first)) w
+
+-- ---- the neighbours of a bus
+module _ (listed : ℕ) (at near far first next : List ℕ) (live : List Bool) (u x : ℕ) (same : x ≡ u) where
+  pub from-list : x < listed → listFrom near (getD at x 0) (getD at (x + 1) 0) ≡ listedOr listed at near far first next live u
+  unfolding listedOr
+  from-list l =
+      let b : ltb u listed ≡ true = lt-ltb u listed (omega arith) in
+      rw (b, same)
+
+  pub off-row : listed ≤ x → {row : List ℕ} {end : ℕ} → Listing (busesOf (leads far live (rowFrom next 1024 (getD first x 0)))) row end
+      → listFrom row 0 end ≡ listedOr listed at near far first next live u
+  unfolding listedOr rowLeads
+  off-row l w =
+      let b : ltb u listed ≡ false = le-ltb u listed (omega arith) in
+      rw (b, ← same) (row-alone far live next (getD first x 0) w)
 
 -- ---- a list entered
 enter-last : (barred : ℕ) (l o : List Visit) (v : Visit) → enterAll barred o (l ++ (v ∷ [])) ≡ enter barred (enterAll barred o l) v
@@ -141,24 +200,23 @@ unfolding enterAll
 enter-last barred [] o v = refl
 enter-last barred (w ∷ l) o v = enter-last barred l (enter barred o w) v
 
-module _ (near : List ℕ) (first last barred : ℕ) (seen₀ : List Bool) (bus₀ by₀ : List ℕ) (n₀ : ℕ) where
+module _ (near : List ℕ) (first last barred : ℕ) (seen₀ : List Bool) (bus₀ : List ℕ) (n₀ : ℕ) where
   -- the buses from position first to before position i are entered
-  pub record ListEntering (seen : List Bool) (bus by : List ℕ) (n i : ℕ) : Type 0 where
+  pub record ListEntering (seen : List Bool) (bus : List ℕ) (n i : ℕ) : Type 0 where
     pub from : first ≤ i
     pub within : i - first ≤ min last 1024 - first
-    pub done : (o : List Visit) → Walking barred o seen₀ bus₀ by₀ n₀ → Walking barred (enterAll barred o (table (λ j. visit (getD near (first + j) 0) 0) (i - first))) seen bus by n
+    pub done : (o : List Visit) → Reaching barred o seen₀ bus₀ n₀ → Reaching barred (enterAll barred o (table (λ j. visit (getD near (first + j) 0) 0) (i - first))) seen bus n
 
-  pub none-entered : ListEntering seen₀ bus₀ by₀ n₀ first
+  pub none-entered : ListEntering seen₀ bus₀ n₀ first
   unfolding enterAll table
   none-entered =
       let none : first - first ≡ 0 = omega arith in
       record { from = omega arith; within = omega arith; done = λ o w. rw none w }
 
-  module _ {seen : List Bool} {bus by : List ℕ} {n i : ℕ} (e : ListEntering seen bus by n i) where
-    pub one-entered : {seen′ : List Bool} {bus′ by′ : List ℕ} {n′ : ℕ} (at : ℕ) → at ≡ i → i < last → i < 1024
-        → ((o : List Visit) → Walking barred o seen bus by n → Walking barred (enterLive true barred o (record { bus = getD near at 0; by = 0 })) seen′ bus′ by′ n′)
-        → ListEntering seen′ bus′ by′ n′ (i + 1)
-    unfolding enterLive
+  module _ {seen : List Bool} {bus : List ℕ} {n i : ℕ} (e : ListEntering seen bus n i) where
+    pub one-entered : {seen′ : List Bool} {bus′ : List ℕ} {n′ : ℕ} (at : ℕ) → at ≡ i → i < last → i < 1024
+        → ((o : List Visit) → Reaching barred o seen bus n → Reaching barred (enter barred o (visit (getD near at 0) 0)) seen′ bus′ n′)
+        → ListEntering seen′ bus′ n′ (i + 1)
     one-entered at a l k step =
         let f = e .from in
         let w = e .within in
@@ -171,7 +229,7 @@ module _ (near : List ℕ) (first last barred : ℕ) (seen₀ : List Bool) (bus�
           done = λ o w. rw (more, table-more _ (i - first), enter-last, here) (step′ _ (e .done o w));
         }
 
-    pub all-entered : (last ≤ i) ⊎ (1024 ≤ i) → (o : List Visit) → Walking barred o seen₀ bus₀ by₀ n₀ → Walking barred (enterAll barred o (listFrom near first last)) seen bus by n
+    pub all-entered : (last ≤ i) ⊎ (1024 ≤ i) → (o : List Visit) → Reaching barred o seen₀ bus₀ n₀ → Reaching barred (enterAll barred o (listFrom near first last)) seen bus n
     unfolding listFrom
     all-entered h o w =
         let f = e .from in

@@ -1,29 +1,21 @@
--- A walk by lists reaches the buses that document 01's walk does, in the same order.
+-- A walk by lists reaches the buses that a walk by the rows does, in the same order: for any rows.
 use mathlib.Core.Path.{_≡_, refl, sym, ap, _∙_}
 use mathlib.Core.Bool.{Bool, true, false, cond, _||_}
 use mathlib.Core.List.{List, [], _∷_, _++_, map, map-append, append-nil, append-assoc}
 use Prim.Native.Nat.{ℕ, zero, suc, _+_, _-_, _<_, _≤_, min}
 use native.Mathlib.Decide.{ℕ-discrete}
 use native.Mathlib.Omega.{arith}
-use lib.Dec.{eqb, ltb}
+use lib.Dec.{eqb, leb, ltb}
 use lib.ListN.{length, getD, length-append, length-map, List·getD-append, List·getD-map}
 use lib.Seq.{getD-append-add}
-use borrow.Author.Tests.{lt-ltb}
-use Rattle.numbers.specs.UpTo.{upTo, upTo-more}
+use borrow.Author.Tests.{lt-ltb, ltb-true, leb-true}
+use Rattle.numbers.specs.UpTo.{upTo, upTo-more, upTo-cong}
 use Rattle.numbers.specs.TableLaws.{getD-table, table-cong, as-table, filled}
-use Rattle.graph.specs.declared.lists.LiveLists.{LiveLists}
-use Rattle.graph.specs.Walk.{Visit, startAt, reached, enter, enterAll, turn, walkBy, neighbours}
-use Rattle.graph.specs.Walk as walk
+use Rattle.graph.specs.Walk.{Visit, startAt, reached, enter, enterAll, turn, walkBy}
 use Rattle.graph.specs.Visits.{visit, busesOf}
-use Rattle.graph.specs.Rows.{flag, netOf, graphOf, rowNeighbours}
-use Rattle.graph.specs.RowsNeighbours.{rows-are-neighbours}
-use Rattle.graph.specs.RowsWalk.{Small, same-walk, small-neighbours}
-use Rattle.graph.specs.Lists.{listsTo, startOf, listsOf, liveLists, listFrom, listVisits}
-use Rattle.graph.specs.ListRoom.{lists-room}
-
--- a visit without its branch
-abbrev pub forget : Visit → Visit
-forget v = visit (v .bus) 0
+use Rattle.graph.specs.Rows.{rowLeads}
+use Rattle.lists.specs.declared.lists.LiveLists.{LiveLists}
+use Rattle.lists.specs.Lists.{listsTo, startOf, listsOf, liveLists, forget, listFrom, listedOr}
 
 -- ---- a walk without its branches is the walk by neighbours without their branches
 module _ (barred : ℕ) where
@@ -121,33 +113,42 @@ module _ (next : ℕ → List Visit) (n : ℕ) (few : n ≤ 256) (room : length 
       ∙ List·getD-append (row u) (s .0) 0 i inside
       ∙ List·getD-map (λ (v : Visit). v .bus) (next u) i (startAt 0)
 
-  list-read : listVisits (listsOf row n .at) (listsOf row n .near) u ≡ map forget (next u)
-  unfolding listVisits listFrom
+  list-read : listFrom (listsOf row n .near) (getD (listsOf row n .at) u 0) (getD (listsOf row n .at) (u + 1) 0) ≡ map forget (next u)
+  unfolding listFrom
   list-read =
       let count : min (before + length (next u)) 1024 - before ≡ length (next u) = omega (arith, size) in
       rw (begins, ends, count)
       (table-cong _ _ (length (next u)) (λ i k. ap (λ b. visit b 0) (entry i k))
       ∙ sym (as-table (λ i. forget (getD (next u) i (startAt 0))) (length (next u)) (startAt 0) (map forget (next u)) (length-map (next u) forget) (λ i k. List·getD-map forget (next u) i (startAt 0))))
 
--- ---- the lists of a graph
-small-forget : (size : ℕ) (o : List Visit) → Small size o → Small size (map forget o)
-small-forget size [] s = tt
-small-forget size (v ∷ o) s = (s .0, small-forget size o (s .1))
-
-module _ (n m : ℕ) (from to : List ℕ) (live : List Bool) (short : length live ≤ 512) (few : n ≤ 256)
-    (inside : (k : ℕ) → k < m → (getD from k 0 < n) × (getD to k 0 < n)) where
+-- ---- the lists of rows
+module _ (far first next : List ℕ) (live : List Bool) (n : ℕ) (few : n ≤ 256) where
   abbrev lists : LiveLists
-  lists = let g = graphOf n m from to in liveLists (g .far) (g .first) (g .next) live n
+  lists = liveLists far first next live n
 
-  same-neighbours : (u : ℕ) → u < n → listVisits (lists .at) (lists .near) u ≡ map forget (neighbours (netOf n m from to) (flag live) u)
-  unfolding liveLists
-  same-neighbours u l =
-      list-read (rowNeighbours (graphOf n m from to) live) n few (lists-room n m from to live n few) u l
-      ∙ ap (map forget) (rows-are-neighbours n m from to live u (omega arith) short)
+  -- a bus is listed only where all lists have room
+  listed-room : (u : ℕ) → u < lists .listed → (u < n) × (length (listsTo (λ x. busesOf (rowLeads far first next live x)) n) ≤ 1024)
+  unfolding liveLists listsOf
+  listed-room u = go (leb (length (listsTo (λ x. busesOf (rowLeads far first next live x)) n)) 1024) refl
+    where
+      go : (b : Bool) → leb (length (listsTo (λ x. busesOf (rowLeads far first next live x)) n)) 1024 ≡ b → u < cond b n 0
+          → (u < n) × (length (listsTo (λ x. busesOf (rowLeads far first next live x)) n) ≤ 1024)
+      go true e l = (l, leb-true _ 1024 e)
+      go false e l = absurd (omega arith)
 
-  pub list-walk : (start barred : ℕ) → start < n
-      → walkBy (listVisits (lists .at) (lists .near)) start barred ≡ map forget (walk.walk (netOf n m from to) (flag live) start barred)
-  unfolding walk.walk
-  list-walk start barred l =
-      same-walk n _ _ same-neighbours (λ u k. small-forget n (neighbours (netOf n m from to) (flag live) u) (small-neighbours n m from to live n inside u)) start barred l
-      ∙ sym (walk-forget barred (neighbours (netOf n m from to) (flag live)) start)
+  same-neighbours : (u : ℕ) → listedOr (lists .listed) (lists .at) (lists .near) far first next live u ≡ map forget (rowLeads far first next live u)
+  unfolding listedOr liveLists
+  same-neighbours u = go (ltb u (lists .listed)) refl
+    where
+      go : (b : Bool) → ltb u (lists .listed) ≡ b
+          → cond b (listFrom (lists .near) (getD (lists .at) u 0) (getD (lists .at) (u + 1) 0)) (map forget (rowLeads far first next live u)) ≡ map forget (rowLeads far first next live u)
+      go true e = let r = listed-room u (ltb-true u (lists .listed) e) in list-read (rowLeads far first next live) n few (r .1) u (r .0)
+      go false e = refl
+
+  pub list-walk : (start barred : ℕ)
+      → walkBy (listedOr (lists .listed) (lists .at) (lists .near) far first next live) start barred ≡ map forget (walkBy (rowLeads far first next live) start barred)
+  unfolding walkBy turn
+  list-walk start barred =
+      upTo-cong (turn (listedOr (lists .listed) (lists .at) (lists .near) far first next live) barred) (turn (λ u. map forget (rowLeads far first next live u)) barred) (startAt start ∷ []) 256
+      (λ o h l. rw (same-neighbours (getD o h (startAt 0) .bus)))
+      ∙ sym (walk-forget barred (rowLeads far first next live) start)
