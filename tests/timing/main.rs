@@ -17,7 +17,7 @@ use original::network::reconfiguration::{verify_radiality, NetworkConfiguration}
 use std::hint::black_box;
 use std::time::{Duration, Instant};
 
-/// Kinds of calls of `timing_rounds`, crates/timing/src/rounds.rt.
+/// Kinds of calls of `timing_rounds`, crates/timing/src/rounds.rt. Searches have `timing_searches`.
 const READING: u8 = 0;
 const RADIALITY: u8 = 1;
 const LOSS: u8 = 2;
@@ -38,10 +38,14 @@ extern "C" {
         b_length: usize,
         times: u64,
     ) -> u64;
+    fn timing_searches(text: *const u8, text_length: usize, times: u64) -> u64;
 }
 
 /// So many rounds of a call, the two states in turn, and the sum of what they answer.
 fn rattle(kind: u8, text: &[u8], a: &[u8], b: &[u8], times: u64) -> u64 {
+    if kind == SEARCH {
+        return unsafe { timing_searches(text.as_ptr(), text.len(), times) };
+    }
     unsafe { timing_rounds(kind, text.as_ptr(), text.len(), a.as_ptr(), a.len(), b.as_ptr(), b.len(), times) }
 }
 

@@ -28,7 +28,7 @@ bus-typed : (b : Bus) (vs : List Val) → Is BusType.the-row b vs → BusRoom b
 bus-typed b vs o = let f = o .1 .1 in (f .0 .1, passes _ (f .1 .0 .1 .1 .0 .1))
 
 branch-typed : (b : Branch) (vs : List Val) → Is BranchType.the-row b vs → BranchRoom b
-branch-typed b vs o = let f = o .1 .1 in (f .0 .1, f .1 .0 .1, passes _ (f .1 .1 .0 .1))
+branch-typed b vs o = let f = o .1 .1 in (f .1 .0 .1, f .1 .1 .0 .1, passes _ (f .0 .1))
 
 switch-typed : (s : Switch) (vs : List Val) → Is SwitchType.the-row s vs → SwitchRoom s
 switch-typed s vs o = let f = o .1 .1 in (f .0 .1, f .1 .0 .1)

@@ -27,7 +27,7 @@ use Rattle.searches.specs.Results.{Result, resultBy, solvedBy}
 use Rattle.reconfiguration.specs.Solve.{best, result, solved}
 use Rattle.controller.specs.Calls.{onRecords}
 use Rattle.controller.specs.CallLaws.{numbered, NoNan, radiality-answered, loss-answered, plan-answered, radiality-refused, loss-refused, plan-refused}
-use Rattle.timing.specs.Rounds.{valueOf, recordCount, searchValue, asked, total}
+use Rattle.timing.specs.Rounds.{valueOf, recordCount, searchValue, textSearch, asked, total}
 
 -- ---- how many records a text has
 pub count-refused : (t : List ℕ) (n p : ℕ) → readText t ≡ refused n p → 0 ≡ valueOf (onRecords (readText t) (λ N. accepted (recordCount N)))
@@ -47,9 +47,9 @@ module _ (kind : ℕ) (t a b : List ℕ) where
   unfolding asked
   asked-reading e = ap (λ k. asked k t a b) (sym e)
 
-  pub asked-nothing : (kind ≡ 0 → ⊥) → (kind ≡ 1 → ⊥) → (kind ≡ 2 → ⊥) → (kind ≡ 3 → ⊥) → (kind ≡ 4 → ⊥) → refused 0 0 ≡ asked kind t a b
+  pub asked-nothing : (kind ≡ 0 → ⊥) → (kind ≡ 1 → ⊥) → (kind ≡ 2 → ⊥) → (kind ≡ 3 → ⊥) → refused 0 0 ≡ asked kind t a b
   unfolding asked
-  asked-nothing n₀ n₁ n₂ n₃ n₄ = rw (ne-eqb kind 0 n₀, ne-eqb kind 1 n₁, ne-eqb kind 2 n₂, ne-eqb kind 3 n₃, ne-eqb kind 4 n₄)
+  asked-nothing n₀ n₁ n₂ n₃ = rw (ne-eqb kind 0 n₀, ne-eqb kind 1 n₁, ne-eqb kind 2 n₂, ne-eqb kind 3 n₃)
 
   module _ (N : Network) where
     pub asked-radiality : kind ≡ 1 → readText t ≡ accepted N
@@ -65,10 +65,6 @@ module _ (kind : ℕ) (t a b : List ℕ) where
     pub asked-pairs : kind ≡ 3 → readText t ≡ accepted N → planned N a b (replicate 2805 0) .answer ≡ asked kind t a b
     unfolding asked
     asked-pairs e so = ap (λ (p : Call ℕ). p .answer) (plan-answered t N so a b (replicate 2805 0)) ∙ ap (λ k. asked k t a b) (sym e)
-
-    pub asked-search : kind ≡ 4 → readText t ≡ accepted N → searchValue N ≡ asked kind t a b
-    unfolding asked onRecords
-    asked-search e so = ap (λ x. onRecords x searchValue) (sym so) ∙ ap (λ k. asked k t a b) (sym e)
 
 -- ---- a best loss has bits
 abbrev pub lossOf : Answer Result → Answer Float
@@ -123,18 +119,30 @@ value-refused kind t a b n p so =
     either-nothing (eqb kind 0) _ _ (sym (count-refused t n p so))
     (either-nothing (eqb kind 1) _ _ (ap valueOf (sym (radiality-refused t n p so a)))
     (either-nothing (eqb kind 2) _ _ (ap valueOf (sym (loss-refused t n p so a)))
-    (either-nothing (eqb kind 3) _ _ (ap (λ (q : Call ℕ). valueOf (q .answer)) (sym (plan-refused t n p so a b (replicate 2805 0))))
-    (either-nothing (eqb kind 4) _ _ (ap (λ x. valueOf (onRecords x searchValue)) so) refl))))
+    (either-nothing (eqb kind 3) _ _ (ap (λ (q : Call ℕ). valueOf (q .answer)) (sym (plan-refused t n p so a b (replicate 2805 0)))) refl)))
 
-same-either-way : (b : Bool) → _≡_ {A = ℕ} (cond b 0 0) 0
-same-either-way true = refl
-same-either-way false = refl
+same-either-way : (b : Bool) (v : ℕ) → cond b v v ≡ v
+same-either-way true v = refl
+same-either-way false v = refl
 
 total-of-nothing : (n : ℕ) → 0 ≡ total 0 0 n
 unfolding total upTo
 total-of-nothing zero = refl
-total-of-nothing (suc n) = rw (← total-of-nothing n, same-either-way (eqb (n % 2) 0))
+total-of-nothing (suc n) = rw (← total-of-nothing n, same-either-way (eqb (n % 2) 0) 0)
 
 pub total-refused : (kind : ℕ) (t a b : List ℕ) (n p times : ℕ) → readText t ≡ refused n p
     → 0 ≡ total (valueOf (asked kind t a b)) (valueOf (asked kind t b a)) times
 total-refused kind t a b n p times so = rw (value-refused kind t a b n p so, value-refused kind t b a n p so) (total-of-nothing times)
+
+-- ---- the searches, every round the same
+pub once-more : (i v w : ℕ) → w ≡ v → w ≡ cond (eqb (i % 2) 0) v v
+once-more i v w e = e ∙ sym (same-either-way (eqb (i % 2) 0) v)
+
+pub searches-refused : (t : List ℕ) (n p times : ℕ) → readText t ≡ refused n p → 0 ≡ total (valueOf (textSearch t)) (valueOf (textSearch t)) times
+unfolding textSearch onRecords
+searches-refused t n p times so = rw so (total-of-nothing times)
+
+pub searches-accepted : (t : List ℕ) (N : Network) (times r : ℕ) → readText t ≡ accepted N → r ≡ total (valueOf (searchValue N)) (valueOf (searchValue N)) times
+    → r ≡ total (valueOf (textSearch t)) (valueOf (textSearch t)) times
+unfolding textSearch onRecords
+searches-accepted t N times r so e = rw so e

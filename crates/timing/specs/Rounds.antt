@@ -26,16 +26,19 @@ recordCount N = length (N .buses) + length (N .branches) + length (N .switches)
 unfoldable pub searchValue : Network → Answer ℕ
 searchValue N = numbered (λ (r : Result). toBits binary64 (r .best-loss)) (solved N (replicate 512 0) .answer)
 
+-- the search that a text asks for
+unfoldable pub textSearch : List ℕ → Answer ℕ
+textSearch text = onRecords (readText text) searchValue
+
 -- the calls by their kind: the records of the text, radiality and loss of the first state, the plan from the first state to the second, with room
--- for 255 pairs, and the search that the text asks for
+-- for 255 pairs
 unfoldable pub asked : ℕ → List ℕ → List ℕ → List ℕ → Answer ℕ
 asked kind text first second =
     cond (eqb kind 0) (onRecords (readText text) (λ N. accepted (recordCount N)))
     (cond (eqb kind 1) (textRadiality text first)
     (cond (eqb kind 2) (textLoss text first)
     (cond (eqb kind 3) (textPlan text first second (replicate 2805 0) .answer)
-    (cond (eqb kind 4) (onRecords (readText text) searchValue)
-    (refused 0 0)))))
+    (refused 0 0))))
 
 -- the sum of n rounds, even ones and odd ones in turn, in 64 bits
 unfoldable pub total : ℕ → ℕ → ℕ → ℕ

@@ -11,14 +11,12 @@ use crate::values::loss;
 use crate::values::pairs;
 use crate::values::radiality;
 use crate::values::reading;
-use crate::values::search;
 use frames::reader::read_text;
 use network::error::Verdict;
 use network::topology::PowerNetwork;
 use std::num::wrapping_add_u64;
 
-// A call of a kind: 0 reads the text, 1 is radiality and 2 the loss of the first state, 3 the plan from the first state to the second, 4 the search that
-// the text asks for.
+// A call of a kind: 0 reads the text, 1 is radiality and 2 the loss of the first state, 3 the plan from the first state to the second.
 fn call(kind: u8, text: &[u8], network: PowerNetwork, first: &[u8], second: &[u8]) -> u64
     requires { ⌜ readText (now text) ≡ accepted (recordsOf network) ⌝ }
     ensures { λ r. ⌜ r ≡ valueOf (asked kind (now (text .entry)) (now (first .entry)) (now (second .entry))) ⌝ }
@@ -28,7 +26,6 @@ fn call(kind: u8, text: &[u8], network: PowerNetwork, first: &[u8], second: &[u8
         1 => radiality(network, first),
         2 => loss(network, first),
         3 => pairs(network, first, second),
-        4 => search(network),
         _ => 0,
     }
 }

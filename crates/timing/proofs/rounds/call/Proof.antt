@@ -1,7 +1,7 @@
 -- `call` meets its contract: each kind of call, on the records of the text.
 use mathlib.Core.Path.{ap, _∙_}
 use Rattle.timing.specs.Rounds.{valueOf}
-use Rattle.timing.specs.RoundLaws.{asked-reading, asked-radiality, asked-loss, asked-pairs, asked-search, asked-nothing}
+use Rattle.timing.specs.RoundLaws.{asked-reading, asked-radiality, asked-loss, asked-pairs, asked-nothing}
 use borrow.Author.Needs.{needs}
 use Rattle.timing.proofs.rounds.call.Statement.{statement}
 use Rattle.timing.proofs.rounds.call.Tie as tie
@@ -18,9 +18,6 @@ loss-requires c κs = search needs
 pairs-requires : tie.Need-pairs-requires
 pairs-requires c κs = search needs
 
-search-requires : tie.Need-search-requires
-search-requires c κs = search needs
-
 returns : tie.Need-returns
 returns c = c .reading .ensures ∙ ap valueOf (asked-reading _ _ _ _ (c .before .match .keys1))
 
@@ -34,10 +31,7 @@ returns-4 : tie.Need-returns-4
 returns-4 c = c .pairs .ensures ∙ ap valueOf (asked-pairs _ _ _ _ _ (c .before .match .keys4) (c .before .before .before .before .before .pre))
 
 returns-5 : tie.Need-returns-5
-returns-5 c = c .search .ensures ∙ ap valueOf (asked-search _ _ _ _ _ (c .before .match .keys5) (c .before .before .before .before .before .pre))
-
-returns-6 : tie.Need-returns-6
-returns-6 c = let r = c .match .rest in ap valueOf (asked-nothing _ _ _ _ (r .0 .0 .0 .0 .1) (r .0 .0 .0 .1) (r .0 .0 .1) (r .0 .1) (r .1))
+returns-5 c = let r = c .match .rest in ap valueOf (asked-nothing _ _ _ _ (r .0 .0 .0 .1) (r .0 .0 .1) (r .0 .1) (r .1))
 
 pub call-spec : {M : Type 1} → statement M
 call-spec =
@@ -47,10 +41,8 @@ call-spec =
     radiality-requires
     loss-requires
     pairs-requires
-    search-requires
     returns
     returns-2
     returns-3
     returns-4
-    returns-5
-    returns-6)
+    returns-5)
