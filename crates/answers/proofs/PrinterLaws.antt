@@ -11,15 +11,15 @@ use borrow.Author.Tests.{le-leb}
 use borrow.Rule.Slice.PartMut.{putMid}
 use Rattle.numbers.specs.Parts.{part-rest}
 use Rattle.network.specs.declared.error.Verdict.the-variants.{Accepted, Refused}
-use Rattle.network.specs.declared.configuration.NetworkConfiguration.{NetworkConfiguration}
+use Rattle.states.specs.declared.configuration.NetworkConfiguration.{NetworkConfiguration}
 use Rattle.network.specs.declared.topology.PowerNetwork.{PowerNetwork}
-use Rattle.network.specs.Configuration.{configurationOf}
+use Rattle.states.specs.Configuration.{configurationOf}
 use Rattle.network.specs.Records.{Network, recordsOf}
 use Rattle.network.specs.Answers.{Answer, accepted, refused, _andThen_, judge}
 use Rattle.network.specs.AnswerLaws.{same-value, then-iff, no-refusal}
 use Rattle.network.specs.Check.{checkRecords}
-use Rattle.network.specs.Live.{baseState, checkState}
-use Rattle.network.specs.Listed.{state-accepted, switches-listed, few-switches}
+use Rattle.states.specs.Live.{baseState, checkState}
+use Rattle.states.specs.Listed.{state-accepted, switches-listed, few-switches}
 use Rattle.frames.specs.declared.reader.Reading.{Reading}
 use Rattle.frames.specs.Text.{readText}
 use Rattle.frames.specs.Reading.{readingOf}

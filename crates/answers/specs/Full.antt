@@ -12,7 +12,7 @@ use Rattle.network.specs.AnswerLaws.{then-iff}
 use Rattle.network.specs.Check.{checkRecords}
 use Rattle.network.specs.Inside.{Inside}
 use Rattle.network.specs.InsideLaws.{check-inside}
-use Rattle.network.specs.Live.{checkState}
+use Rattle.states.specs.Live.{checkState}
 use Rattle.frames.specs.Acceptable.{Acceptable}
 use Rattle.frames.specs.Claim.{claim}
 use Rattle.slices.specs.Written.{written}
@@ -23,9 +23,9 @@ use Rattle.radiality.specs.Feeder.{feeder, LiveIn, radialIn}
 use Rattle.radiality.specs.FeederLaws.{radial-in-tree}
 use Rattle.losses.specs.Loss.{lossIn}
 use Rattle.plan.specs.Plan.{plan, planText, planned}
-use Rattle.network.specs.Switches.{State, GoodState}
+use Rattle.states.specs.Switches.{State, GoodState}
 use Rattle.plan.specs.Plannable.{Free}
-use Rattle.network.specs.Listed.{state-accepted}
+use Rattle.states.specs.Listed.{state-accepted}
 use Rattle.plan.specs.Accepted.{plan-accepted}
 use Rattle.plan.specs.Length as PlanLength
 use Rattle.searches.specs.Results.{solvedBy}

@@ -6,7 +6,7 @@ use lib.Ieee.{binary64, toBits}
 use lib.ListN.{length}
 use Rattle.network.specs.Records.{Network}
 use Rattle.network.specs.Answers.{Answer, accepted, refused}
-use Rattle.network.specs.Live.{baseState}
+use Rattle.states.specs.Live.{baseState}
 use Rattle.frames.specs.Text.{readText}
 use Rattle.printing.specs.Printed.{answerText, refusalText}
 use Rattle.printing.specs.Calls.{Call, called}

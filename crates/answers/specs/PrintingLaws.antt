@@ -16,7 +16,7 @@ use Rattle.network.specs.Answers.{Answer, accepted, refused}
 use Rattle.network.specs.AnswerLaws.{same-value, no-refusal}
 use Rattle.network.specs.Check.{checkRecords}
 use Rattle.network.specs.InsideLaws.{check-inside}
-use Rattle.network.specs.Live.{baseState}
+use Rattle.states.specs.Live.{baseState}
 use Rattle.frames.specs.Text.{readText}
 use Rattle.frames.specs.Claim.{claim}
 use Rattle.frames.specs.Early.{read-early}

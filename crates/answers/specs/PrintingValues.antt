@@ -9,7 +9,7 @@ use lib.ListN.{take}
 use Rattle.network.specs.declared.topology.PowerNetwork.{PowerNetwork}
 use Rattle.network.specs.Answers.{accepted}
 use Rattle.network.specs.Check.{checkRecords}
-use Rattle.network.specs.Live.{baseState}
+use Rattle.states.specs.Live.{baseState}
 use Rattle.network.specs.Records.{recordsOf}
 use Rattle.searches.specs.declared.answer.ReconfigResult.{ReconfigResult}
 use Rattle.reconfiguration.specs.Solve.{best}

@@ -11,7 +11,6 @@ ghost use Rattle.searches.specs.Results.{resultOf};
 ghost use Rattle.answers.specs.Printing.{resultText, operationLines, planLines, moveLines, networkText, printed, answeredText, textAnswerOf};
 ghost use Rattle.answers.specs.PrintingValues.{Searched, HasBits};
 use frames::reader::read_text;
-use network::configuration::build_base_configuration;
 use network::error::Verdict;
 use network::topology::PowerNetwork;
 use numbers::wide16;
@@ -29,6 +28,7 @@ use reconfiguration::solve::solve;
 use searches::answer::ReconfigResult;
 use searches::answer::SolveAnswer;
 use slices::writer::write_bytes;
+use states::configuration::build_base_configuration;
 
 // The longest answer: an 81 line, an 82 line for each of 512 switches, an 83 line for each of 255 pairs.
 pub const MAX_LENGTH: usize = 7472;

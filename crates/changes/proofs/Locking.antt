@@ -10,8 +10,8 @@ use Rattle.network.specs.declared.switch.Switch.{Switch}
 use Rattle.network.specs.declared.topology.PowerNetwork.{PowerNetwork}
 use Rattle.network.specs.Records.{noSwitch, recordsOf}
 use Rattle.network.specs.Answers.{accepted, refused}
-use Rattle.network.specs.Listed.{switches-listed, switch-at}
-use Rattle.network.specs.Switches.{State, byte, branchOf, operable}
+use Rattle.states.specs.Listed.{switches-listed, switch-at}
+use Rattle.states.specs.Switches.{State, byte, branchOf, operable}
 use Rattle.graph.specs.Rows.{flag}
 use Rattle.radiality.specs.FeederRows.{liveFlags}
 use Rattle.changes.specs.Change.{differing, lockedDifferences, refuseLocked, checkLocked}

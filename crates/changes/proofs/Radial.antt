@@ -8,7 +8,7 @@ use Rattle.network.specs.declared.topology.PowerNetwork.{PowerNetwork}
 use Rattle.network.specs.Records.{recordsOf}
 use Rattle.network.specs.Answers.{accepted, refused, judge}
 use Rattle.network.specs.Check.{checkRecords}
-use Rattle.network.specs.Switches.{State}
+use Rattle.states.specs.Switches.{State}
 use Rattle.graph.specs.declared.rows.Graph.{Graph}
 use Rattle.graph.specs.Rows.{rowRadial}
 use Rattle.radiality.specs.Feeder.{radialIn}

@@ -7,11 +7,11 @@ use lib.ListN.{length, getD}
 use Rattle.numbers.specs.Choose.{those}
 use Rattle.network.specs.declared.topology.PowerNetwork.{PowerNetwork}
 use Rattle.network.specs.Records.{Network, noSwitch, recordsOf}
-use Rattle.network.specs.Switches.{State, byte, branchOf, operable}
+use Rattle.states.specs.Switches.{State, byte, branchOf, operable}
 use Rattle.network.specs.Answers.{Answer, accepted, refused, answerOf, _andThen_, _if_, judge}
 use Rattle.network.specs.Check.{checkRecords}
-use Rattle.network.specs.Live.{live, checkState}
-use Rattle.network.specs.Configuration.{configurationOf}
+use Rattle.states.specs.Live.{live, checkState}
+use Rattle.states.specs.Configuration.{configurationOf}
 use Rattle.graph.specs.declared.rows.Graph.{Graph}
 use Rattle.radiality.specs.Feeder.{radialIn}
 use Rattle.radiality.specs.FeederRows.{feederGraph, liveFlags}

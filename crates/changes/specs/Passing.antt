@@ -9,12 +9,12 @@ use Rattle.network.specs.Records.{recordsOf}
 use Rattle.network.specs.Answers.{accepted, answerOf}
 use Rattle.network.specs.AnswerLaws.{then-iff, accepted-so}
 use Rattle.network.specs.Check.{checkRecords}
-use Rattle.network.specs.Configuration.{configurationOf}
+use Rattle.states.specs.Configuration.{configurationOf}
 use Rattle.network.specs.Inside.{Inside}
 use Rattle.network.specs.InsideLaws.{check-inside}
-use Rattle.network.specs.Listed.{switches-listed, few-switches, state-accepted}
-use Rattle.network.specs.Live.{live, checkState}
-use Rattle.network.specs.Switches.{State}
+use Rattle.states.specs.Listed.{switches-listed, few-switches, state-accepted}
+use Rattle.states.specs.Live.{live, checkState}
+use Rattle.states.specs.Switches.{State}
 use Rattle.graph.specs.Rows.{flag}
 use Rattle.radiality.specs.FeederRows.{feederGraph, liveFlags}
 use Rattle.radiality.specs.FeederRowLaws.{flags-live, state-flags}

@@ -7,17 +7,17 @@ ghost use Rattle.radiality.specs.FeederRows.{feederGraph, liveFlags};
 ghost use Rattle.changes.specs.Change.{checkRadial, checkLocked, checkPlan, flagsIn, judgedIn, judged};
 ghost use Rattle.changes.specs.Passing.{Checked};
 use crate::flags::flagged;
+use bfs::radial::is_radial;
 use checks::check::check;
-use graph::radial::is_radial;
 use graph::rows::Graph;
-use network::configuration::NetworkConfiguration;
-use network::configuration::check_state;
-use network::configuration::live_branches;
 use network::error::Verdict;
 use network::switch::Switch;
 use network::topology::PowerNetwork;
 use numbers::wide16;
 use radiality::feeder::graph_of;
+use states::configuration::NetworkConfiguration;
+use states::configuration::check_state;
+use states::configuration::live_branches;
 
 // A change from the present state to the wanted one: its refusal or none, the feeder's graph, and a flag for each branch live in the one and in the
 // other.

@@ -7,7 +7,7 @@ use lib.Dec.{T}
 use lib.Ieee.{Float, binary64, isNan, toBits}
 use Rattle.network.specs.Answers.{Answer, accepted, refused, _andThen_}
 use Rattle.network.specs.Check.{checkRecords}
-use Rattle.network.specs.Live.{checkState}
+use Rattle.states.specs.Live.{checkState}
 use Rattle.network.specs.Records.{Network}
 use Rattle.frames.specs.Claim.{claim}
 use Rattle.printing.specs.Calls.{Call}

@@ -3,7 +3,7 @@ use mathlib.Core.List.{List}
 use Prim.Native.Nat.{ℕ}
 use lib.Ieee.{binary64, toBits}
 use Rattle.network.specs.Answers.{Answer, accepted, refused, _andThen_}
-use Rattle.network.specs.Live.{checkState}
+use Rattle.states.specs.Live.{checkState}
 use Rattle.network.specs.Records.{Network}
 use Rattle.printing.specs.Calls.{Call}
 use Rattle.printing.specs.Printed.{truthByte}

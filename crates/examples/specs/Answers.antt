@@ -1,15 +1,15 @@
 -- Document 01's worked example: what is printed for the triangle's text. And the reduction where the best loss is above the base's, and of a base loss that is not above 1e-12.
 use mathlib.Core.Bool.{true}
-use mathlib.Core.List.{List, [], _∷_, _++_, flatMap}
+use mathlib.Core.List.{_++_, flatMap}
 use mathlib.Core.Path.{_≡_, refl}
 use lib.Ieee.{binary64, ofBits, toBits, le, lt, neg, add, sub, mul, div}
 use Rattle.numbers.specs.Constants.{zero64, trillionth}
 use Rattle.numbers.specs.UpTo.{upTo, table}
 use Rattle.numbers.specs.Counts.{count}
 use Rattle.numbers.specs.Choose.{those, least, firstSome, firstOf, indexOf, _orElse_}
-use Rattle.network.specs.Live.{live, openOn, baseState}
+use Rattle.states.specs.Live.{live, openOn, baseState}
 use Rattle.lines.specs.Hex.{digit, digits, writeFields}
-use Rattle.frames.specs.Acceptable.{frameText}
+use Rattle.lines.specs.Frames.{frameText}
 use Rattle.frames.specs.Claim.{claim}
 use Rattle.examples.specs.Texts.{row, triangleText, triangle, triangle-read}
 use Rattle.printing.specs.Printed.{answerText, operationText, pairText}
@@ -19,7 +19,7 @@ use Rattle.radiality.specs.Feeder.{feeder, position, radialIn}
 use Rattle.losses.specs.Loss.{walkLoad, downstream, termOf, totalOf, loss, lossIn}
 use Rattle.plan.specs.Plan.{closings, pathBefore, opening, exchanged, pairsFrom, pairs, switchOn, plan, planText}
 use Rattle.plan.specs.Claim.{SwitchingPlan}
-use Rattle.network.specs.Switches.{swapped}
+use Rattle.states.specs.Switches.{swapped}
 use Rattle.exchange.specs.Exchange.{loopOf, sectionOf, swapWith, trial, improves, kept, roundOf, afterRound, exchangeRounds, exchange, exchangeBest}
 use Rattle.searches.specs.Results.{reduction, resultBy}
 use Rattle.reconfiguration.specs.Solve.{bestBy, best, result}

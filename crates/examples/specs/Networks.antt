@@ -16,7 +16,7 @@ use Rattle.network.specs.Records.{Network}
 use Rattle.network.specs.Answers.{accepted, refused, _andThen_, judge}
 use Rattle.network.specs.Faults.{okBase, okLoad, okR, among, ties, headFaults, busFaults, branchFaults, switchFaults}
 use Rattle.network.specs.Check.{headOf, checkRun, checkRecords}
-use Rattle.network.specs.Live.{each, checkState, openOn, live, baseState}
+use Rattle.states.specs.Live.{each, checkState, openOn, live, baseState}
 use Rattle.network.specs.Lookups.{busIndex}
 
 -- ---- the triangle

@@ -17,10 +17,10 @@ use Rattle.network.specs.Records.{Network}
 use Rattle.network.specs.Answers.{accepted, refused, _andThen_, judge}
 use Rattle.network.specs.Faults.{okBase, okLoad, okR, among, ties, headFaults, busFaults, branchFaults, switchFaults}
 use Rattle.network.specs.Check.{headOf, checkRun, checkRecords}
-use Rattle.network.specs.Live.{live, openOn, each, checkState, baseState}
-use Rattle.network.specs.Switches.{State, byte}
+use Rattle.states.specs.Live.{live, openOn, each, checkState, baseState}
+use Rattle.states.specs.Switches.{State, byte}
 use Rattle.lines.specs.Hex.{digit, digits, writeFields}
-use Rattle.frames.specs.Acceptable.{frameText}
+use Rattle.lines.specs.Frames.{frameText}
 use Rattle.slices.specs.Written.{written}
 use Rattle.printing.specs.Printed.{pairText}
 use Rattle.printing.specs.Calls.{checkRoom, called}

@@ -14,8 +14,8 @@ use Rattle.numbers.specs.Counts.{count}
 use Rattle.numbers.specs.Choose.{those, least, firstSome, firstOf, indexOf, _orElse_}
 use Rattle.network.specs.Records.{Network}
 use Rattle.network.specs.Faults.{among, ties}
-use Rattle.network.specs.Live.{live, openOn, baseState}
-use Rattle.network.specs.Switches.{State, swapped, toggled}
+use Rattle.states.specs.Live.{live, openOn, baseState}
+use Rattle.states.specs.Switches.{State, swapped, toggled}
 use Rattle.graph.specs.Walk.{far, neighbours, reached, enter, enterAll, turn, walkBy, walk, byOf, across, back, bfsPath}
 use Rattle.graph.specs.Radial.{radial}
 use Rattle.radiality.specs.Feeder.{feeder, position, radialIn}

@@ -11,9 +11,10 @@ use Rattle.network.specs.Faults.{okBase, okLoad, okR, among, ties, headFaults, 
 use Rattle.network.specs.Check as check
 use Rattle.lines.specs.Hex.{isDigit, value, digit, number, digits, readFields, writeFields}
 use Rattle.lines.specs.Lines.{put, cut, every, lineFaults}
+use Rattle.lines.specs.Frames.{frameText}
 use Rattle.record_lines.specs.Kinds.{looks, fieldsOf, methodOf, readOne, without}
 use Rattle.frames.specs.Text.{follow, pure, readRun, readEnd, readLines, readText}
-use Rattle.frames.specs.Acceptable.{frameText, textOf}
+use Rattle.frames.specs.Acceptable.{textOf}
 use Rattle.frames.specs.Conditions.{verdictOf}
 
 -- a line of w digits, written as one number, and its line feed

@@ -9,8 +9,8 @@ use Rattle.numbers.specs.Constants.{billionth}
 use Rattle.numbers.specs.UpTo.{upTo}
 use Rattle.numbers.specs.Choose.{least, firstSome}
 use Rattle.network.specs.Records.{Network}
-use Rattle.network.specs.Live.{live, baseState}
-use Rattle.network.specs.Switches.{State, byte, branchOf, operable, size, isTie, swapped}
+use Rattle.states.specs.Live.{live, baseState}
+use Rattle.states.specs.Switches.{State, byte, branchOf, operable, size, isTie, swapped}
 use Rattle.graph.specs.Walk.{bfsPath}
 use Rattle.radiality.specs.Feeder.{feeder, radialIn}
 use Rattle.losses.specs.Loss.{lossIn}

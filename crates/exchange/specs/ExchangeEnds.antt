@@ -13,8 +13,8 @@ use borrow.Author.Tests.{eqb-true}
 use Rattle.numbers.specs.Counts.{count, count-drop}
 use Rattle.numbers.specs.Tests.{both, clash, not-so}
 use Rattle.network.specs.Records.{Network}
-use Rattle.network.specs.Live.{baseState}
-use Rattle.network.specs.Switches.{State, byte, operable, size, isTie, swapped}
+use Rattle.states.specs.Live.{baseState}
+use Rattle.states.specs.Switches.{State, byte, operable, size, isTie, swapped}
 use Rattle.exchange.specs.Exchange.{seen, roundOf, Exchange, afterRound, exchange}
 use Rattle.searches.specs.Found.{IfSome}
 use Rattle.exchange.specs.ExchangeLaws.{Swap, round-swaps, rounds-keep}

@@ -9,8 +9,8 @@ use borrow.Author.Tests.{not-true}
 use Rattle.numbers.specs.Tests.{both}
 use Rattle.numbers.specs.UpTo.{upTo-keeps}
 use Rattle.network.specs.Records.{Network}
-use Rattle.network.specs.Live.{baseState}
-use Rattle.network.specs.Switches.{State, byte, branchOf, operable, size, isTie, swapped}
+use Rattle.states.specs.Live.{baseState}
+use Rattle.states.specs.Switches.{State, byte, branchOf, operable, size, isTie, swapped}
 use Rattle.radiality.specs.Feeder.{radialIn}
 use Rattle.losses.specs.Loss.{lossIn}
 use Rattle.exchange.specs.Exchange.{seen, loopOf, sectionOf, swapWith, trial, improves, kept, roundOf, Exchange, afterRound, exchangeRounds, exchange, exchangeBest}

@@ -8,19 +8,19 @@ use native.Mathlib.Omega.{arith}
 use lib.Ieee.{Float}
 use lib.ListN.{length, set, length-set}
 use Rattle.numbers.specs.Tests.{clash}
-use Rattle.network.specs.declared.configuration.NetworkConfiguration.{NetworkConfiguration}
+use Rattle.states.specs.declared.configuration.NetworkConfiguration.{NetworkConfiguration}
 use Rattle.network.specs.declared.topology.PowerNetwork.{PowerNetwork}
 use Rattle.network.specs.Records.{Network, recordsOf}
 use Rattle.network.specs.Answers.{accepted}
 use Rattle.network.specs.Check.{checkRecords}
-use Rattle.network.specs.Live.{baseState}
+use Rattle.states.specs.Live.{baseState}
 use Rattle.losses.specs.Loss.{lossIn}
 use Rattle.exchange.specs.declared.exchange.Trial.{Trial}
 use Rattle.exchange.specs.declared.exchange.BranchExchange.{BranchExchange}
 use Rattle.searches.specs.States.{stateOf}
 use Rattle.searches.specs.Given.{Held, Base}
-use Rattle.network.specs.Listed.{switches-listed, few-switches}
-use Rattle.network.specs.Switches.{State, swapped}
+use Rattle.states.specs.Listed.{switches-listed, few-switches}
+use Rattle.states.specs.Switches.{State, swapped}
 use Rattle.searches.specs.StateLaws.{held, state-held}
 use Rattle.exchange.specs.Exchange.{roundOf, Exchange, afterRound, exchangeRounds, exchange}
 use Rattle.searches.specs.Found.{IfSome}

@@ -13,7 +13,7 @@ use Rattle.numbers.specs.Choose.{least}
 use Rattle.numbers.specs.Tests.{both}
 use Rattle.numbers.specs.TableLaws.{length-table, getD-table, table-cong}
 use Rattle.numbers.specs.UpTo.{table}
-use Rattle.network.specs.declared.configuration.NetworkConfiguration.{NetworkConfiguration}
+use Rattle.states.specs.declared.configuration.NetworkConfiguration.{NetworkConfiguration}
 use Rattle.network.specs.declared.topology.PowerNetwork.{PowerNetwork}
 use Rattle.network.specs.Records.{Network, recordsOf}
 use Rattle.network.specs.Answers.{accepted}
@@ -25,10 +25,10 @@ use Rattle.graph.specs.declared.rows.Graph.{Graph}
 use Rattle.radiality.specs.Feeder.{radialIn}
 use Rattle.radiality.specs.FeederRows.{feederGraph, liveFlags}
 use Rattle.graph.specs.Rows.{rowRadial}
-use Rattle.network.specs.Switches.{State, byte, branchOf, operable, size, isTie, swapped, inService}
+use Rattle.states.specs.Switches.{State, byte, branchOf, operable, size, isTie, swapped, inService}
 use Rattle.searches.specs.States.{stateOf}
 use Rattle.searches.specs.Given.{Held}
-use Rattle.network.specs.Listed.{switches-listed, few-switches}
+use Rattle.states.specs.Listed.{switches-listed, few-switches}
 use Rattle.searches.specs.StateLaws.{byte-at, held-long}
 use Rattle.searches.specs.StateRows.{flags-radial}
 use Rattle.searches.specs.TableSets.{table-set}

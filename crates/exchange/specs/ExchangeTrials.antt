@@ -14,13 +14,13 @@ use borrow.Author.Tests.{lt-ltb, le-ltb, ltb-true, eq-eqb, ne-eqb}
 use Rattle.numbers.specs.Constants.{billionth}
 use Rattle.numbers.specs.Tests.{both}
 use Rattle.numbers.specs.Choose.{firstSome, _orElse_}
-use Rattle.network.specs.declared.configuration.NetworkConfiguration.{NetworkConfiguration}
+use Rattle.states.specs.declared.configuration.NetworkConfiguration.{NetworkConfiguration}
 use Rattle.network.specs.declared.switch.Switch.{Switch}
 use Rattle.network.specs.declared.topology.PowerNetwork.{PowerNetwork}
 use Rattle.network.specs.Records.{Network, noSwitch, recordsOf}
 use Rattle.network.specs.Answers.{accepted}
 use Rattle.network.specs.Check.{checkRecords}
-use Rattle.network.specs.Configuration.{configurationOf}
+use Rattle.states.specs.Configuration.{configurationOf}
 use Rattle.network.specs.InsideLaws.{check-inside}
 use Rattle.network.specs.Positions.{on-a-branch}
 use Rattle.graph.specs.declared.rows.Graph.{Graph}
@@ -31,11 +31,11 @@ use Rattle.radiality.specs.FeederLaws.{feeder-sound, feeder-small}
 use Rattle.radiality.specs.FeederRows.{feederGraph, liveFlags}
 use Rattle.radiality.specs.FeederRowLaws.{feeder-row-ends, live-row-path}
 use Rattle.losses.specs.Loss.{lossIn}
-use Rattle.network.specs.Switches.{State, byte, branchOf, swapped, inService}
+use Rattle.states.specs.Switches.{State, byte, branchOf, swapped, inService}
 use Rattle.exchange.specs.declared.exchange.Trial.{Trial}
 use Rattle.searches.specs.States.{stateOf}
 use Rattle.searches.specs.Given.{Held}
-use Rattle.network.specs.Listed.{switches-listed, few-switches, switch-at}
+use Rattle.states.specs.Listed.{switches-listed, few-switches, switch-at}
 use Rattle.searches.specs.StateLaws.{byte-at}
 use Rattle.searches.specs.SwitchReads.{SwitchAt, own-switch, own-status}
 use Rattle.exchange.specs.Exchange.{seen, loopOf, sectionOf, swapWith, trial, improves, kept}

@@ -9,13 +9,13 @@ use lib.ListN.{getD, set}
 use Rattle.numbers.specs.Choose.{firstSome}
 use Rattle.numbers.specs.Constants.{zero64}
 use Rattle.numbers.specs.UpTo.{table}
-use Rattle.network.specs.declared.configuration.NetworkConfiguration.{NetworkConfiguration}
-use Rattle.network.specs.Configuration.{configurationOf}
+use Rattle.states.specs.declared.configuration.NetworkConfiguration.{NetworkConfiguration}
+use Rattle.states.specs.Configuration.{configurationOf}
 use Rattle.network.specs.Records.{Network}
 use Rattle.graph.specs.declared.rows.Graph.{Graph}
 use Rattle.graph.specs.Rows.{rowNet, rowPath, rowRadial}
 use Rattle.losses.specs.Loss.{lossIn}
-use Rattle.network.specs.Switches.{State, swapped}
+use Rattle.states.specs.Switches.{State, swapped}
 use Rattle.exchange.specs.declared.exchange.Trial.{Trial}
 use Rattle.exchange.specs.declared.exchange.BranchExchange.{BranchExchange}
 use Rattle.exchange.specs.Exchange.{seen, sectionOf, trial, kept, Exchange}

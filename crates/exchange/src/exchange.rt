@@ -10,7 +10,7 @@ ghost use lib.ListN.{length, getD, take, set};
 ghost use Rattle.network.specs.Answers.{accepted};
 ghost use Rattle.network.specs.Check.{checkRecords};
 ghost use Rattle.network.specs.Records.{Network, recordsOf};
-ghost use Rattle.network.specs.Switches.{State};
+ghost use Rattle.states.specs.Switches.{State};
 ghost use Rattle.graph.specs.Rows.{rowNet, rowPath, pathOf};
 ghost use Rattle.numbers.specs.Choose.{firstSome};
 ghost use Rattle.numbers.specs.Constants.{billionth};
@@ -20,13 +20,11 @@ ghost use Rattle.searches.specs.States.{stateOf};
 ghost use Rattle.searches.specs.Given.{Given, Held, Base};
 ghost use Rattle.exchange.specs.Exchange.{Exchange, roundOf, afterRound, exchange, exchangeBest};
 ghost use Rattle.exchange.specs.ExchangeValues.{sectionAt, sectionsOf, rowSwap, rowTrial, trialOf, exchangeOf};
-use graph::radial::is_radial;
+use bfs::radial::is_radial;
 use graph::rows::Graph;
 use graph::walks::Path;
 use losses::reconfiguration::compute_losses_estimate;
 use network::bus::Power;
-use network::configuration::NetworkConfiguration;
-use network::configuration::live_branches;
 use network::error::Verdict;
 use network::switch::Switch;
 use network::topology::PowerNetwork;
@@ -38,6 +36,8 @@ use searches::answer::answer_with;
 use searches::answer::check_search;
 use searches::start::Start;
 use searches::start::start_of;
+use states::configuration::NetworkConfiguration;
+use states::configuration::live_branches;
 
 // A state that was tried, with its loss. Where none was found, the state that it started from.
 struct Trial {

@@ -9,8 +9,8 @@ use Rattle.numbers.specs.Counts.{count}
 use Rattle.network.specs.declared.switch.ReconfigAlgorithm.{ReconfigAlgorithm}
 use Rattle.network.specs.Records.{Network}
 use Rattle.network.specs.Faults.{ties}
-use Rattle.network.specs.Live.{baseState}
-use Rattle.network.specs.Switches.{State, size, isTie}
+use Rattle.states.specs.Live.{baseState}
+use Rattle.states.specs.Switches.{State, size, isTie}
 use Rattle.radiality.specs.Feeder.{radialIn}
 use Rattle.losses.specs.Loss.{lossIn}
 use Rattle.searches.specs.Results.{Best}

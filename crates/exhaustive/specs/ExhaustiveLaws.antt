@@ -10,8 +10,8 @@ use Rattle.numbers.specs.TableLaws.{length-table, getD-table}
 use Rattle.numbers.specs.UpTo.{upTo-keeps}
 use Rattle.network.specs.Records.{Network}
 use Rattle.network.specs.Faults.{ties}
-use Rattle.network.specs.Live.{stateByte, live, baseState}
-use Rattle.network.specs.Switches.{byte, size, isTie, GoodState}
+use Rattle.states.specs.Live.{stateByte, live, baseState}
+use Rattle.states.specs.Switches.{byte, size, isTie, GoodState}
 use Rattle.radiality.specs.Feeder.{radialIn}
 use Rattle.losses.specs.Loss.{lossIn}
 use Rattle.plan.specs.LiveLaws.{live-less}

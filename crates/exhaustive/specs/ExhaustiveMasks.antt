@@ -16,8 +16,8 @@ use Rattle.network.specs.Answers.{accepted}
 use Rattle.network.specs.Check.{checkRecords}
 use Rattle.network.specs.Faults.{ties, methodByte}
 use Rattle.network.specs.InsideLaws.{check-inside}
-use Rattle.network.specs.Listed.{switches-listed, switch-at}
-use Rattle.network.specs.Switches.{isTie}
+use Rattle.states.specs.Listed.{switches-listed, switch-at}
+use Rattle.states.specs.Switches.{isTie}
 use Rattle.exhaustive.specs.Exhaustive.{masked}
 use Rattle.exhaustive.specs.ExhaustiveLaws.{masked-byte, masked-good}
 

@@ -14,8 +14,8 @@ use Rattle.numbers.specs.UpTo.{upTo-keeps}
 use Rattle.network.specs.Records.{Network}
 use Rattle.network.specs.Faults.{ties}
 use Rattle.network.specs.Inside.{Inside}
-use Rattle.network.specs.Live.{stateByte, baseState}
-use Rattle.network.specs.Switches.{isTie, size}
+use Rattle.states.specs.Live.{stateByte, baseState}
+use Rattle.states.specs.Switches.{isTie, size}
 use Rattle.radiality.specs.Feeder.{radialIn}
 use Rattle.losses.specs.Loss.{lossIn}
 use Rattle.exhaustive.specs.Exhaustive.{bit, masked, lesser, withLoss, Exhaustive, tryMask, exhaustive, leastOrBase}

@@ -21,9 +21,9 @@ use Rattle.network.specs.Records.{Network}
 use Rattle.network.specs.Faults.{ties}
 use Rattle.network.specs.TieLaws.{ties-next}
 use Rattle.network.specs.Inside.{Inside}
-use Rattle.network.specs.Live.{baseState}
+use Rattle.states.specs.Live.{baseState}
 use Rattle.radiality.specs.FeederRows.{liveFlags}
-use Rattle.network.specs.Switches.{State, byte, branchOf, size, switch, isTie, inService}
+use Rattle.states.specs.Switches.{State, byte, branchOf, size, switch, isTie, inService}
 use Rattle.exhaustive.specs.declared.exhaustive.Ties.{Ties}
 use Rattle.searches.specs.TableSets.{table-set}
 use Rattle.searches.specs.LiveFlags.{on-flagged, flags-closed}

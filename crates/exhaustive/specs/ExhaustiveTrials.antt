@@ -8,11 +8,11 @@ use native.Mathlib.Omega.{arith}
 use lib.Ieee.{Float, lt}
 use Rattle.numbers.specs.Tests.{clash}
 use Rattle.numbers.specs.UpTo.{upTo, upTo-keeps}
-use Rattle.network.specs.declared.configuration.NetworkConfiguration.{NetworkConfiguration}
+use Rattle.states.specs.declared.configuration.NetworkConfiguration.{NetworkConfiguration}
 use Rattle.network.specs.declared.topology.PowerNetwork.{PowerNetwork}
 use Rattle.network.specs.Records.{Network, recordsOf}
-use Rattle.network.specs.Configuration.{configurationOf}
-use Rattle.network.specs.Live.{baseState}
+use Rattle.states.specs.Configuration.{configurationOf}
+use Rattle.states.specs.Live.{baseState}
 use Rattle.radiality.specs.Feeder.{radialIn}
 use Rattle.losses.specs.Loss.{lossIn}
 use Rattle.exhaustive.specs.declared.exhaustive.ExhaustiveSearch.{ExhaustiveSearch}

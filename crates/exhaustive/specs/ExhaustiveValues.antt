@@ -9,9 +9,9 @@ use Rattle.numbers.specs.TableLaws.{filled}
 use Rattle.numbers.specs.UpTo.{upTo}
 use Rattle.network.specs.declared.switch.ReconfigAlgorithm.{ReconfigAlgorithm}
 use Rattle.network.specs.declared.topology.PowerNetwork.{PowerNetwork}
-use Rattle.network.specs.Configuration.{configurationOf}
+use Rattle.states.specs.Configuration.{configurationOf}
 use Rattle.network.specs.Records.{Network}
-use Rattle.network.specs.Switches.{branchOf, size, isTie, inService}
+use Rattle.states.specs.Switches.{branchOf, size, isTie, inService}
 use Rattle.exhaustive.specs.declared.exhaustive.ExhaustiveSearch.{ExhaustiveSearch}
 use Rattle.exhaustive.specs.declared.exhaustive.Ties.{Ties}
 use Rattle.exhaustive.specs.Exhaustive.{bit, Least, lesser, Exhaustive, leastOrBase}

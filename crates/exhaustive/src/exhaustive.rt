@@ -9,24 +9,23 @@ ghost use lib.Ieee.{lt};
 ghost use lib.ListN.{getD, set};
 ghost use Rattle.network.specs.Answers.{accepted};
 ghost use Rattle.network.specs.Check.{checkRecords};
-ghost use Rattle.network.specs.Configuration.{configurationOf};
+ghost use Rattle.states.specs.Configuration.{configurationOf};
 ghost use Rattle.network.specs.Faults.{ties};
-ghost use Rattle.network.specs.Live.{baseState};
+ghost use Rattle.states.specs.Live.{baseState};
 ghost use Rattle.network.specs.Records.{Network, recordsOf};
 ghost use Rattle.radiality.specs.Feeder.{radialIn};
 ghost use Rattle.radiality.specs.FeederRows.{liveFlags};
-ghost use Rattle.network.specs.Switches.{State};
+ghost use Rattle.states.specs.Switches.{State};
 ghost use Rattle.searches.specs.Results.{solvedBy, solveAnswerOf};
 ghost use Rattle.searches.specs.SearchValues.{startOf, foundOf};
 ghost use Rattle.searches.specs.Given.{Given, Base};
 ghost use Rattle.exhaustive.specs.Exhaustive.{masked, Exhaustive, tryMask, exhaustive, exhaustiveBest, asking};
 ghost use Rattle.exhaustive.specs.ExhaustiveTrials.{noMask};
 ghost use Rattle.exhaustive.specs.ExhaustiveValues.{tiesOf, closedBy, exhaustiveOf, withRadial, askedFor};
-use graph::radial::is_radial;
+use bfs::radial::is_radial;
 use graph::rows::Graph;
 use losses::reconfiguration::compute_losses_estimate;
 use network::bus::Power;
-use network::configuration::NetworkConfiguration;
 use network::error::Verdict;
 use network::switch::ReconfigAlgorithm;
 use network::switch::Switch;
@@ -38,6 +37,7 @@ use searches::answer::answer_with;
 use searches::answer::check_search;
 use searches::start::Start;
 use searches::start::start_of;
+use states::configuration::NetworkConfiguration;
 
 // The least radial state so far with its loss, the base with its loss where none was found yet, and how many radial states there were.
 struct ExhaustiveSearch {

@@ -10,7 +10,8 @@ use Rattle.network.specs.declared.topology.PowerNetwork.{PowerNetwork}
 use Rattle.network.specs.Answers.{accepted, refused, Fault}
 use Rattle.lines.specs.Hex.{Fields}
 use Rattle.lines.specs.Lines.{cut}
-use Rattle.record_lines.specs.Kinds.{Frame, readOne, without}
+use Rattle.lines.specs.Frames.{Frame}
+use Rattle.record_lines.specs.Kinds.{readOne, without}
 use Rattle.frames.specs.Passes.{passRun, going}
 use Rattle.frames.specs.Steps.{pass-start, pass-more, pass-stops}
 use Rattle.record_lines.specs.FramedLaws.{size, one-made, without-refused}

@@ -1,7 +1,7 @@
 -- The text of a network, and which texts are acceptable, in document 01's words. No refusal number occurs here.
 use mathlib.Core.Path.{_≡_}
 use mathlib.Core.Bool.{Bool, cond}
-use mathlib.Core.List.{List, [], _∷_, _++_, flatMap}
+use mathlib.Core.List.{List, _++_, flatMap}
 use Prim.Native.Nat.{ℕ, _+_, _<_}
 use lib.Dec.{T}
 use lib.Ieee.{Float, binary64, fits, toBits}
@@ -13,8 +13,9 @@ use Rattle.network.specs.Records.{Network}
 use Rattle.network.specs.Faults.{Head, methodByte}
 use Rattle.network.specs.Check as check
 use Rattle.network.specs.Inside.{Each, Inside}
-use Rattle.lines.specs.Hex.{Fields, writeFields}
-use Rattle.record_lines.specs.Kinds.{Frame, layout, head, bus, branch, switch}
+use Rattle.lines.specs.Hex.{Fields}
+use Rattle.lines.specs.Frames.{frameText}
+use Rattle.record_lines.specs.Kinds.{head, bus, branch, switch}
 
 -- ---- the fields of a record
 -- "f64 bits"
@@ -46,10 +47,6 @@ abbrev pub switchFields : Switch → Fields (switch .widths)
 switchFields s = (s .id, (s .«branch_idx», (flagsByte (s .«normally_open») (s .«can_operate»), tt)))
 
 -- ---- the text of a network
--- "Upper-case hexadecimal, one frame a line, ended by a line feed": the kind byte, the fields, and 10
-unfoldable pub frameText : (F : Frame) → Fields (F .widths) → List ℕ
-frameText F f = writeFields (layout F) (F .kind, f) ++ (10 ∷ [])
-
 -- "Lines come in this order, as many as the head says"
 unfoldable pub textOf : Network → List ℕ
 textOf N =

@@ -10,7 +10,8 @@ use borrow.Author.Tests.{lt-ltb}
 use Rattle.network.specs.Answers.{Answer, accepted, refused, _andThen_, Fault, judge}
 use Rattle.lines.specs.Hex.{Fields, total}
 use Rattle.lines.specs.Lines.{Line, put, cut, lineFaults}
-use Rattle.record_lines.specs.Kinds.{Frame, head, bus, branch, switch, layout, looks, fieldsOf, headOf, busOf, branchOf, switchOf, headLineFaults, busLineFaults, branchLineFaults, switchLineFaults, Reader, readOne, without}
+use Rattle.lines.specs.Frames.{Frame, layout}
+use Rattle.record_lines.specs.Kinds.{head, bus, branch, switch, looks, fieldsOf, headOf, busOf, branchOf, switchOf, headLineFaults, busLineFaults, branchLineFaults, switchLineFaults, Reader, readOne, without}
 use Rattle.frames.specs.Text.{follow, pure, readRun, readEnd, readLines, readText}
 use Rattle.lines.specs.JudgeLaws.{Verdict}
 use Rattle.frames.specs.LineLaws.{Sound, head-sound, bus-sound, branch-sound, switch-sound, line-kept, line-long}

@@ -13,7 +13,8 @@ use Rattle.network.specs.Records.{Network}
 use Rattle.network.specs.Faults.{Head}
 use Rattle.lines.specs.Hex.{Fields}
 use Rattle.lines.specs.Lines.{Line, cut, lineFaults}
-use Rattle.record_lines.specs.Kinds.{Frame, head, bus, branch, switch, looks, fieldsOf, headOf, busOf, branchOf, switchOf, headLineFaults, busLineFaults, branchLineFaults, switchLineFaults, readOne, without}
+use Rattle.lines.specs.Frames.{Frame}
+use Rattle.record_lines.specs.Kinds.{head, bus, branch, switch, looks, fieldsOf, headOf, busOf, branchOf, switchOf, headLineFaults, busLineFaults, branchLineFaults, switchLineFaults, readOne, without}
 use Rattle.frames.specs.Text.{follow, _>>=_, pure, readRun, readEnd, readLines, readText}
 use Rattle.lines.specs.JudgeLaws.{Verdict}
 use Rattle.record_lines.specs.VerdictLaws.{without-then}

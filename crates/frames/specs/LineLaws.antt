@@ -12,7 +12,8 @@ use Rattle.lines.specs.HexLaws.{length-fields, every-fields, fields-kept, chars
 use Rattle.lines.specs.Lines.{Line, every, lineFaults}
 use Rattle.lines.specs.CutLaws.{Plain}
 use Rattle.lines.specs.JudgeLaws.{both, neither, judge-past, judge-passed}
-use Rattle.record_lines.specs.Kinds.{Frame, head, bus, branch, switch, layout, looks, fieldsOf}
+use Rattle.lines.specs.Frames.{Frame, layout}
+use Rattle.record_lines.specs.Kinds.{head, bus, branch, switch, looks, fieldsOf}
 
 -- ---- lines of a kind
 pub record Sound (F : Frame) : Type 0 where

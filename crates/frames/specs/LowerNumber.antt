@@ -14,7 +14,8 @@ use Rattle.network.specs.Faults.{Head, headFaults, busFaults, branchFaults, swi
 use Rattle.network.specs.Inside.{Each}
 use Rattle.lines.specs.Hex.{Fields}
 use Rattle.lines.specs.Lines.{Line, cut, lineFaults}
-use Rattle.record_lines.specs.Kinds.{Frame, head, bus, branch, switch, looks, fieldsOf, headOf, busOf, branchOf, switchOf, headLineFaults, busLineFaults, branchLineFaults, switchLineFaults}
+use Rattle.lines.specs.Frames.{Frame}
+use Rattle.record_lines.specs.Kinds.{head, bus, branch, switch, looks, fieldsOf, headOf, busOf, branchOf, switchOf, headLineFaults, busLineFaults, branchLineFaults, switchLineFaults}
 use Rattle.frames.specs.Conditions.{kindConditions, surplusConditions, busesOf, bodyConditions, conditions, met, LowestWins}
 use Rattle.lines.specs.JudgeLaws.{no-refusal}
 

@@ -14,7 +14,8 @@ use Rattle.network.specs.Faults.{Head}
 use Rattle.network.specs.Check.{checkRecords}
 use Rattle.lines.specs.Hex.{Fields}
 use Rattle.lines.specs.Lines.{Line, cut}
-use Rattle.record_lines.specs.Kinds.{Frame, head, bus, branch, switch, headOf, busOf, branchOf, switchOf, headLineFaults, busBytes, branchBytes, switchBytes, readOne, without}
+use Rattle.lines.specs.Frames.{Frame}
+use Rattle.record_lines.specs.Kinds.{head, bus, branch, switch, headOf, busOf, branchOf, switchOf, headLineFaults, busBytes, branchBytes, switchBytes, readOne, without}
 use Rattle.frames.specs.Text.{readEnd}
 
 -- ---- the pass over the lines of one kind

@@ -19,9 +19,10 @@ use Rattle.network.specs.Check.{checkRun, checkRecords}
 use Rattle.network.specs.Inside.{Each}
 use Rattle.lines.specs.Hex.{Fields}
 use Rattle.lines.specs.Lines.{Line, cut, lineFaults}
+use Rattle.lines.specs.Frames.{frameText}
 use Rattle.record_lines.specs.Kinds.{looks, fieldsOf, head, switch, headOf, switchOf, headLineFaults, switchLineFaults, readOne, without}
 use Rattle.frames.specs.Text.{follow, _>>=_, pure, readRun, readEnd, readLines, readText}
-use Rattle.frames.specs.Acceptable.{frameText, textOf, Writable}
+use Rattle.frames.specs.Acceptable.{textOf, Writable}
 use Rattle.lines.specs.JudgeLaws.{Verdict, no-refusal, judge-passed, judge-append}
 use Rattle.record_lines.specs.VerdictLaws.{then-accepted, without-then}
 use Rattle.frames.specs.ReaderLaws.{same-value, then-then, go-on, follow-accepted, without-accepted, network, behindSwitches, behindBranches, behindBuses, behindHead, lines-read}

@@ -18,7 +18,8 @@ use Rattle.network.specs.Answers.{accepted, Fault, _if_, judge}
 use Rattle.numbers.specs.Constants.{thousandth, thousand, million}
 use Rattle.network.specs.Faults.{Head, methodByte, inRange, okBase, okLoad, okR}
 use Rattle.lines.specs.Hex.{Fields, Fit}
-use Rattle.record_lines.specs.Kinds.{Frame, head, bus, branch, switch, methodOf, headOf, busOf, branchOf, switchOf, busBytes, branchBytes, switchBytes}
+use Rattle.lines.specs.Frames.{Frame}
+use Rattle.record_lines.specs.Kinds.{head, bus, branch, switch, methodOf, headOf, busOf, branchOf, switchOf, busBytes, branchBytes, switchBytes}
 use Rattle.frames.specs.Acceptable.{bitsOf, statusByte, flagsByte, headFields, busFields, branchFields, switchFields, HeadRoom, BusRoom, BranchRoom, SwitchRoom}
 use Rattle.lines.specs.JudgeLaws.{both, judge-passed}
 use Rattle.frames.specs.LineLaws.{Sound, head-sound, bus-sound, branch-sound, switch-sound}

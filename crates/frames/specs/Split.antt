@@ -20,7 +20,8 @@ use Rattle.network.specs.Check as check
 use Rattle.network.specs.Check.{checkRun, checkRecords}
 use Rattle.lines.specs.Hex.{Fields}
 use Rattle.lines.specs.Lines.{Line, cut, lineFaults}
-use Rattle.record_lines.specs.Kinds.{Frame, head, bus, branch, switch, looks, fieldsOf, headOf, busOf, branchOf, switchOf, headLineFaults, busLineFaults, branchLineFaults, switchLineFaults, Reader, readOne, without, busBytes, branchBytes, switchBytes}
+use Rattle.lines.specs.Frames.{Frame}
+use Rattle.record_lines.specs.Kinds.{head, bus, branch, switch, looks, fieldsOf, headOf, busOf, branchOf, switchOf, headLineFaults, busLineFaults, branchLineFaults, switchLineFaults, Reader, readOne, without, busBytes, branchBytes, switchBytes}
 use Rattle.frames.specs.Text.{follow, _>>=_, pure, readRun, readEnd, readText}
 use Rattle.lines.specs.JudgeLaws.{Verdict, no-refusal, judge-append}
 use Rattle.frames.specs.ReaderLaws.{then-then, go-on, network, behindSwitches, behindBranches, behindBuses, behindHead, lines-read}

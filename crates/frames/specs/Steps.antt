@@ -9,7 +9,8 @@ use Rattle.numbers.specs.UpTo.{upTo, upTo-more}
 use Rattle.network.specs.Answers.{accepted, refused, Fault}
 use Rattle.lines.specs.Hex.{Fields}
 use Rattle.lines.specs.Lines.{Line}
-use Rattle.record_lines.specs.Kinds.{Frame, readOne}
+use Rattle.lines.specs.Frames.{Frame}
+use Rattle.record_lines.specs.Kinds.{readOne}
 use Rattle.frames.specs.Passes.{going, halted, passOne, passOn, passStep, passRun}
 
 module _ {A : Type 0} (F : Frame) (make : Fields (F .widths) → A) (bytes : Fields (F .widths) → List Fault) (place : ℕ) (ls : List Line) where

@@ -6,7 +6,8 @@ use Rattle.network.specs.Answers.{Answer, accepted, refused, _andThen_, Fault, 
 use Rattle.network.specs.Records.{Network}
 use Rattle.lines.specs.Hex.{Fields}
 use Rattle.lines.specs.Lines.{Line, cut, lineFaults}
-use Rattle.record_lines.specs.Kinds.{Frame, head, bus, branch, switch, headOf, busOf, branchOf, switchOf, headLineFaults, busLineFaults, branchLineFaults, switchLineFaults, Reader, readOne, without}
+use Rattle.lines.specs.Frames.{Frame}
+use Rattle.record_lines.specs.Kinds.{head, bus, branch, switch, headOf, busOf, branchOf, switchOf, headLineFaults, busLineFaults, branchLineFaults, switchLineFaults, Reader, readOne, without}
 
 -- after what was read, go on with the lines left; a refusal stays
 unfoldable pub follow : {A B : Type 0} → Answer (A × List Line) → (A → Reader B) → Answer (B × List Line)

@@ -1,6 +1,1 @@
-pub mod Along
 pub mod Building
-pub mod Counting
-pub mod Entering
-pub mod Expanding
-pub mod Turning

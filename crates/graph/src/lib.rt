@@ -1,5 +1,3 @@
-// Feeders as graphs.
-pub mod radial;
+// Feeders as graphs: their branches by their buses.
 pub mod rows;
-pub mod walk;
 pub mod walks;

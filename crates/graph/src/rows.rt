@@ -60,7 +60,7 @@ fn far_ends(from: &[u8; 512], to: &[u8; 512]) -> [u8; 1024]
 }
 
 // How many branches are listed: branch_count, but 512 at most.
-pub(crate) fn listed(branch_count: u16) -> u16
+fn listed(branch_count: u16) -> u16
     ensures { λ r. ⌜ r ≡ min «branch_count» 512 ⌝ }
 {
     if branch_count < 512 {

@@ -1,4 +1,5 @@
 pub mod Hex
+pub mod Frames
 pub mod Lines
 pub mod HexLaws
 pub mod JudgeLaws

@@ -15,8 +15,8 @@ use Rattle.numbers.specs.TableLaws.{length-table, getD-table, table-more, as-ta
 use Rattle.graph.specs.Walk.{Visit, startAt, enter, enterAll}
 use Rattle.graph.specs.Visits.{visit, busesOf}
 use Rattle.graph.specs.Rows.{rowFrom, leads, rowLeads}
-use Rattle.graph.proofs.Along.{along, Along, one-along}
-use Rattle.graph.proofs.Along as Along
+use Rattle.bfs.proofs.Along.{along, Along, one-along}
+use Rattle.bfs.proofs.Along as Along
 use Rattle.lists.specs.declared.lists.LiveLists.{LiveLists}
 use Rattle.lists.specs.Lists.{listsTo, arrayOf, startOf, listsOf, liveLists, forget, listFrom, listedOr, listLive, Listing, Reaching}
 use Rattle.lists.specs.ListLaws.{lists-more}

@@ -14,9 +14,9 @@ use Rattle.graph.specs.Walk.{Visit, startAt, reached, enter, enterAll, walkBy}
 use Rattle.graph.specs.Visits.{visit, busesOf}
 use Rattle.graph.specs.Rows.{filled, walked}
 use Rattle.graph.specs.Walking.{Walking, enterLive}
-use Rattle.graph.proofs.Entering.{filled-read, marked-stays, enters}
-use Rattle.graph.proofs.Turning.{Turning, visits, none-turned, one-turned, all-turned}
-use Rattle.graph.proofs.Turning as Turning
+use Rattle.bfs.proofs.Entering.{filled-read, marked-stays, enters}
+use Rattle.bfs.proofs.Turning.{Turning, visits, none-turned, one-turned, all-turned}
+use Rattle.bfs.proofs.Turning as Turning
 use Rattle.lists.specs.Lists.{Reaching, busLoad}
 
 -- the loads at the first n buses of an array, added in its order

@@ -1,3 +1,4 @@
+// Translated and changed from src/network/reconfiguration.rs of oxigrid. Copyright 2024-2026 COOLJAPAN OU (Team Kitasan), Apache License 2.0.
 // The neighbours of each bus by live branches, one list behind the other in one array: for callers that walk often over the same live branches.
 ghost use mathlib.Core.Path.{_≡_};
 ghost use mathlib.Core.List.{List, _++_};

@@ -13,7 +13,7 @@ use Rattle.network.specs.Answers.{accepted}
 use Rattle.network.specs.Check.{checkRecords}
 use Rattle.network.specs.Inside.{Inside}
 use Rattle.network.specs.InsideLaws.{check-inside}
-use Rattle.network.specs.Live.{live}
+use Rattle.states.specs.Live.{live}
 use Rattle.network.specs.Positions.{each-at}
 use Rattle.network.specs.Records.{Network, noBus, noBranch}
 use Rattle.radiality.specs.Feeder.{feeder}

@@ -12,7 +12,7 @@ use Rattle.network.specs.Answers.{accepted}
 use Rattle.network.specs.Check.{checkRecords}
 use Rattle.network.specs.Inside.{Inside}
 use Rattle.network.specs.InsideLaws.{check-inside}
-use Rattle.network.specs.Live.{live}
+use Rattle.states.specs.Live.{live}
 use Rattle.network.specs.Records.{noBus, noBranch, recordsOf}
 use Rattle.graph.specs.declared.rows.Graph.{Graph}
 use Rattle.radiality.specs.Feeder.{feeder}

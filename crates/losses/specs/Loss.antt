@@ -12,7 +12,7 @@ use Rattle.graph.specs.Graph.{Net}
 use Rattle.graph.specs.Walk.{Visit, startAt, walk}
 use Rattle.radiality.specs.Feeder.{feeder}
 use Rattle.network.specs.Records.{Network, noBus, noBranch}
-use Rattle.network.specs.Live.{live}
+use Rattle.states.specs.Live.{live}
 
 -- "The load starts at 0.0 and adds pd in breadth-first order": the load of the buses of a walk
 unfoldable pub walkLoad : (ℕ → Float) → List Visit → Float

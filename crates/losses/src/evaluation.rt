@@ -2,7 +2,7 @@
 ghost use mathlib.Core.Path.{_≡_};
 ghost use Rattle.network.specs.Answers.{accepted, _andThen_};
 ghost use Rattle.network.specs.Check.{checkRecords};
-ghost use Rattle.network.specs.Live.{checkState};
+ghost use Rattle.states.specs.Live.{checkState};
 ghost use Rattle.network.specs.Records.{recordsOf};
 ghost use Rattle.losses.specs.Answers.{lossAnswerOf};
 ghost use Rattle.losses.specs.Loss.{lossIn};
@@ -11,12 +11,12 @@ use crate::reconfiguration::compute_losses_estimate;
 use checks::check::check;
 use network::bus::Bus;
 use network::bus::Power;
-use network::configuration::NetworkConfiguration;
-use network::configuration::check_state;
-use network::configuration::live_branches;
 use network::error::Verdict;
 use network::topology::PowerNetwork;
 use radiality::feeder::graph_of;
+use states::configuration::NetworkConfiguration;
+use states::configuration::check_state;
+use states::configuration::live_branches;
 
 // The loss of a state in MW, or document 01's refusal number and place.
 pub enum LossAnswer {

@@ -3,8 +3,6 @@ pub mod Answers
 pub mod Faults
 pub mod Check
 pub mod Inside
-pub mod Live
-pub mod Configuration
 pub mod Lookups
 pub mod AnswerLaws
 pub mod TieLaws
@@ -12,7 +10,4 @@ pub mod InsideLaws
 pub mod Positions
 pub mod LookupLaws
 pub mod RecordLaws
-pub mod LiveLaws
 pub mod ReadLaws
-pub mod Switches
-pub mod Listed

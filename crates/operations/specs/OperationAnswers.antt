@@ -12,11 +12,11 @@ use Rattle.network.specs.Records.{Network, recordsOf}
 use Rattle.network.specs.Answers.{Answer, accepted, refused, answerOf, _andThen_}
 use Rattle.network.specs.AnswerLaws.{then-iff}
 use Rattle.network.specs.Check.{checkRecords}
-use Rattle.network.specs.Live.{checkState}
+use Rattle.states.specs.Live.{checkState}
 use Rattle.slices.specs.Written.{written}
 use Rattle.printing.specs.CallLaws.{call-refused, call-short, call-done}
-use Rattle.network.specs.Switches.{State}
-use Rattle.network.specs.Listed.{state-accepted, switches-listed, few-switches}
+use Rattle.states.specs.Switches.{State}
+use Rattle.states.specs.Listed.{state-accepted, switches-listed, few-switches}
 use Rattle.operations.specs.Operations.{operations, operationsText, listed}
 use Rattle.operations.specs.OperationValues.{Stated, differs}
 use Rattle.operations.specs.OperationLines.{length-text, length-operations}

@@ -15,7 +15,7 @@ use Rattle.numbers.specs.UpTo.{upTo, upTo-more}
 use Rattle.numbers.specs.Counts.{count, count-yes, count-no}
 use Rattle.network.specs.declared.switch.Switch.{Switch}
 use Rattle.network.specs.Records.{Network}
-use Rattle.network.specs.Switches.{State, byte, size, switch}
+use Rattle.states.specs.Switches.{State, byte, size, switch}
 use Rattle.printing.specs.declared.writer.SwitchOperation.{SwitchOperation}
 use Rattle.slices.specs.Written.{written}
 use Rattle.printing.specs.Printed.{operation, operationText}

@@ -7,7 +7,7 @@ use lib.Dec.{eqb}
 use lib.ListN.{length}
 use Rattle.network.specs.declared.switch.Switch.{Switch}
 use Rattle.network.specs.declared.topology.PowerNetwork.{PowerNetwork}
-use Rattle.network.specs.Switches.{State, byte}
+use Rattle.states.specs.Switches.{State, byte}
 use Rattle.printing.specs.Printed.{operationText}
 use Rattle.operations.specs.Operations.{operationTo}
 

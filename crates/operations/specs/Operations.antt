@@ -8,9 +8,9 @@ use Rattle.numbers.specs.UpTo.{upTo}
 use Rattle.network.specs.Records.{Network}
 use Rattle.network.specs.Answers.{Answer, accepted, refused, _andThen_}
 use Rattle.network.specs.Check.{checkRecords}
-use Rattle.network.specs.Live.{checkState}
+use Rattle.states.specs.Live.{checkState}
 use Rattle.network.specs.declared.switch.Switch.{Switch}
-use Rattle.network.specs.Switches.{State, byte, size, switch}
+use Rattle.states.specs.Switches.{State, byte, size, switch}
 use Rattle.printing.specs.declared.writer.SwitchOperation.{SwitchOperation}
 use Rattle.printing.specs.declared.writer.SwitchAction.the-variants.{Open, Close}
 use Rattle.printing.specs.Printed.{operationText}

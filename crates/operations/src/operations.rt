@@ -8,13 +8,11 @@ ghost use Rattle.numbers.specs.Counts.{count};
 ghost use Rattle.slices.specs.Written.{written};
 ghost use Rattle.network.specs.Answers.{answerOf, _andThen_};
 ghost use Rattle.network.specs.Check.{checkRecords};
-ghost use Rattle.network.specs.Live.{checkState};
+ghost use Rattle.states.specs.Live.{checkState};
 ghost use Rattle.network.specs.Records.{recordsOf};
 ghost use Rattle.operations.specs.Operations.{operationTo, operations, operationsText, listed, operationsAnswerOf};
 ghost use Rattle.operations.specs.OperationValues.{Stated, differs, lineOf};
 use checks::check::check;
-use network::configuration::NetworkConfiguration;
-use network::configuration::check_state;
 use network::error::Verdict;
 use network::switch::Switch;
 use network::topology::PowerNetwork;
@@ -23,6 +21,8 @@ use printing::writer::OPERATION_LENGTH;
 use printing::writer::SwitchAction;
 use printing::writer::SwitchOperation;
 use printing::writer::write_operation;
+use states::configuration::NetworkConfiguration;
+use states::configuration::check_state;
 
 // How many operations the list has, or document 01's refusal number and place.
 pub enum OperationsAnswer {

@@ -15,7 +15,7 @@ use Rattle.graph.specs.Graph.{Net}
 use Rattle.graph.specs.Walk.{Visit, reached, walkBy, byOf, across, back}
 use Rattle.graph.specs.Rows.{filled, rowNeighbours, farNet, rowNet, acrossFar, rowPath, pathOf}
 use Rattle.graph.specs.Walking.{WayOf}
-use Rattle.graph.proofs.Entering.{filled-more, filled-first}
+use Rattle.bfs.proofs.Entering.{filled-more, filled-first}
 
 -- the other end
 module _ (far : List ℕ) (k u : ℕ) where

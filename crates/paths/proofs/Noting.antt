@@ -13,7 +13,7 @@ use Rattle.graph.specs.declared.walks.Walk.{Walk}
 use Rattle.graph.specs.Walk.{Visit, startAt, reached, byOf}
 use Rattle.graph.specs.Rows.{walked}
 use Rattle.graph.specs.Walking.{WayOf}
-use Rattle.graph.proofs.Entering.{filled-read}
+use Rattle.bfs.proofs.Entering.{filled-read}
 
 -- one visit in front
 one-way : (v : Visit) (o : List Visit) (reach : List Bool) (by : List ℕ) → length reach ≡ 256 → length by ≡ 256 → v .bus < 256

@@ -17,7 +17,7 @@ use Rattle.network.specs.declared.topology.PowerNetwork.{PowerNetwork}
 use Rattle.network.specs.Records.{Network, noSwitch, recordsOf}
 use Rattle.network.specs.Answers.{accepted}
 use Rattle.network.specs.Check.{checkRecords}
-use Rattle.network.specs.Live.{live}
+use Rattle.states.specs.Live.{live}
 use Rattle.graph.specs.declared.rows.Graph.{Graph}
 use Rattle.graph.specs.Walk.{bfsPath}
 use Rattle.radiality.specs.Feeder.{feeder}
@@ -26,8 +26,8 @@ use Rattle.graph.specs.Rows.{flag, rowNet, rowPath}
 use Rattle.radiality.specs.FeederRows.{feederGraph, liveFlags}
 use Rattle.radiality.specs.FeederRowLaws.{flags-live, feeder-row-ends, feeder-row-path}
 use Rattle.plan.specs.declared.pairs.PairList.{PairList}
-use Rattle.network.specs.Switches.{State, branchOf}
-use Rattle.network.specs.Listed.{switches-listed, few-switches, switch-at}
+use Rattle.states.specs.Switches.{State, branchOf}
+use Rattle.states.specs.Listed.{switches-listed, few-switches, switch-at}
 use Rattle.changes.specs.declared.refusals.Change.{Change}
 use Rattle.openings.specs.Opening.{rowOpening}
 use Rattle.plan.specs.Plan.{Pair, closings, pathBefore, opening, exchanged, pairsFrom, pairs, switchOn, movesOf, plan}

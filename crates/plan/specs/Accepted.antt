@@ -20,9 +20,9 @@ use Rattle.network.specs.AnswerLaws.{judge-accepted, then-iff}
 use Rattle.network.specs.InsideLaws.{check-inside}
 use Rattle.network.specs.Positions.{each-at, index-own}
 use Rattle.network.specs.Inside.{Inside}
-use Rattle.network.specs.Live.{live}
-use Rattle.network.specs.Listed.{state-accepted}
-use Rattle.network.specs.Switches.{State, byte, branchOf, operable, GoodState}
+use Rattle.states.specs.Live.{live}
+use Rattle.states.specs.Listed.{state-accepted}
+use Rattle.states.specs.Switches.{State, byte, branchOf, operable, GoodState}
 use Rattle.radiality.specs.Feeder.{feeder, radialIn}
 use Rattle.radiality.specs.FeederLaws.{feeder-sound, feeder-small, radial-in-tree}
 use Rattle.changes.specs.Change.{checkRadial, differing, lockedDifferences, checkLocked, refuseLocked, checkPlan}

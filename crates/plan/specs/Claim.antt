@@ -5,7 +5,7 @@ use mathlib.Core.Logic.{_↔_, _≢_}
 use mathlib.Core.Bool.{Bool, true, false, cond, _&&_}
 use mathlib.Core.List.{List, [], _∷_, _++_, map, List·Memᴰ}
 use mathlib.Core.Option.{Option, none, some}
-use Prim.Native.Nat.{ℕ, zero, suc, pred, _≤_, _<_}
+use Prim.Native.Nat.{ℕ, zero, suc, pred, _≤_}
 use lib.Dec.{eqb}
 use lib.ListN.{length, set, getD, getElem?}
 use Rattle.numbers.specs.UpTo.{table}
@@ -13,8 +13,8 @@ use Rattle.numbers.specs.Choose.{indexOf}
 use Rattle.network.specs.Records.{Network, noBranch}
 use Rattle.network.specs.Answers.{accepted}
 use Rattle.network.specs.Faults.{switchId}
-use Rattle.network.specs.Live.{live}
-use Rattle.network.specs.Switches.{State, byte, branchOf, operable, GoodState}
+use Rattle.states.specs.Live.{live}
+use Rattle.states.specs.Switches.{State, byte, branchOf, operable, GoodState}
 use Rattle.graph.specs.Graph.{Path, Loop, Tree}
 use Rattle.radiality.specs.Feeder.{feeder, LiveIn}
 use Rattle.changes.specs.Change.{checkPlan}

@@ -7,7 +7,7 @@ use native.Mathlib.Omega.{arith}
 use lib.ListN.{length}
 use Rattle.network.specs.Records.{Network}
 use Rattle.network.specs.Answers.{accepted}
-use Rattle.network.specs.Switches.{State}
+use Rattle.states.specs.Switches.{State}
 use Rattle.changes.specs.Change.{checkPlan}
 use Rattle.plan.specs.Plan.{Moves, plan}
 use Rattle.plan.specs.Claim.{run, after, SameLive, othersCarriedOut}

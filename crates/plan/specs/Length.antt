@@ -12,8 +12,8 @@ use Rattle.numbers.specs.CountLaws.{count-mono}
 use Rattle.numbers.specs.Tests.{both}
 use Rattle.network.specs.Records.{Network}
 use Rattle.network.specs.Answers.{accepted}
-use Rattle.network.specs.Live.{live}
-use Rattle.network.specs.Switches.{State}
+use Rattle.states.specs.Live.{live}
+use Rattle.states.specs.Switches.{State}
 use Rattle.graph.specs.Graph.{Net, Sound}
 use Rattle.graph.specs.Radial.{radial}
 use Rattle.graph.specs.Walk.{walk}

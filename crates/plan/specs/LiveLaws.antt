@@ -13,8 +13,8 @@ use borrow.Author.Tests.{eq-eqb, eqb-true, not-true}
 use Rattle.numbers.specs.Tests.{both, either, which, clash, not-so, same-test}
 use Rattle.network.specs.declared.switch.Switch.{Switch}
 use Rattle.network.specs.Records.{Network, noBranch, noSwitch}
-use Rattle.network.specs.Live.{live, openOn}
-use Rattle.network.specs.Switches.{State, byte, branchOf}
+use Rattle.states.specs.Live.{live, openOn}
+use Rattle.states.specs.Switches.{State, byte, branchOf}
 
 -- the status of branch k is 01
 abbrev pub InService : Network → ℕ → Type 0

@@ -15,8 +15,8 @@ use Rattle.numbers.specs.CountLaws.{count-but}
 use Rattle.numbers.specs.Tests.{both, clash, not-so}
 use Rattle.numbers.specs.TableLaws.{getD-table}
 use Rattle.network.specs.Records.{Network}
-use Rattle.network.specs.Live.{live}
-use Rattle.network.specs.Switches.{State, byte, branchOf}
+use Rattle.states.specs.Live.{live}
+use Rattle.states.specs.Switches.{State, byte, branchOf}
 use Rattle.graph.specs.Graph.{Net}
 use Rattle.radiality.specs.Feeder.{feeder}
 use Rattle.plan.specs.Plan.{Pair, exchanged}

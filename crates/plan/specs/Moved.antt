@@ -10,8 +10,8 @@ use lib.ListN.{length, set, length-set}
 use lib.Seq.{getD-set-same, getD-set-other, set-set, set-comm, set-getD}
 use Rattle.numbers.specs.Tests.{clash}
 use Rattle.network.specs.Records.{Network}
-use Rattle.network.specs.Live.{live}
-use Rattle.network.specs.Switches.{State, byte, branchOf, operable, GoodState}
+use Rattle.states.specs.Live.{live}
+use Rattle.states.specs.Switches.{State, byte, branchOf, operable, GoodState}
 use Rattle.graph.specs.Graph.{Net, Branches, Live, Plus, Path, Loop, Tree}
 use Rattle.radiality.specs.Feeder.{feeder, LiveIn}
 use Rattle.graph.specs.Chains.{_⊆_}

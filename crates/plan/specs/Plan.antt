@@ -6,10 +6,10 @@ use lib.Dec.{eqb}
 use lib.ListN.{length, getD}
 use Rattle.numbers.specs.Choose.{those, firstOf, indexOf}
 use Rattle.network.specs.Records.{Network, noSwitch}
-use Rattle.network.specs.Switches.{State, branchOf}
+use Rattle.states.specs.Switches.{State, branchOf}
 use Rattle.network.specs.Answers.{Answer, accepted, refused}
 use Rattle.network.specs.Faults.{on}
-use Rattle.network.specs.Live.{live}
+use Rattle.states.specs.Live.{live}
 use Rattle.printing.specs.Printed.{pairText}
 use Rattle.printing.specs.Calls.{Call, called}
 use Rattle.graph.specs.Walk.{bfsPath}

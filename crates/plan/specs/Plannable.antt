@@ -5,8 +5,8 @@ use mathlib.Core.Bool.{true}
 use Prim.Native.Nat.{ℕ, _≤_, _<_}
 use lib.ListN.{length}
 use Rattle.network.specs.Records.{Network}
-use Rattle.network.specs.Live.{live}
-use Rattle.network.specs.Switches.{State, byte, branchOf, operable, GoodState}
+use Rattle.states.specs.Live.{live}
+use Rattle.states.specs.Switches.{State, byte, branchOf, operable, GoodState}
 use Rattle.graph.specs.Graph.{Sound, Tree}
 use Rattle.radiality.specs.Feeder.{feeder, LiveIn}
 use Rattle.plan.specs.Plan.{switchOn}

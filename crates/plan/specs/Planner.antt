@@ -13,8 +13,8 @@ use Rattle.numbers.specs.ChooseLaws.{in-those, of-those, first-cases}
 use Rattle.numbers.specs.Tests.{both, which, clash, same-test}
 use Rattle.numbers.specs.Distinct.{Distinct, distinct-those, distinct-map}
 use Rattle.network.specs.Records.{Network}
-use Rattle.network.specs.Live.{live}
-use Rattle.network.specs.Switches.{State, branchOf}
+use Rattle.states.specs.Live.{live}
+use Rattle.states.specs.Switches.{State, branchOf}
 use Rattle.graph.specs.Graph.{Net, Branches, Live, Chain, stay, step, Path, Connected, Tree}
 use Rattle.radiality.specs.Feeder.{feeder}
 use Rattle.graph.specs.Chains.{_⊆_}

@@ -10,8 +10,8 @@ use lib.ListN.{length, getD, drop, getElem?, length-drop, length-map}
 use lib.Seq.{drop-length}
 use Rattle.numbers.specs.Tests.{clash, not-so, same-test}
 use Rattle.network.specs.Records.{Network, noBranch}
-use Rattle.network.specs.Live.{live}
-use Rattle.network.specs.Switches.{State, byte, branchOf}
+use Rattle.states.specs.Live.{live}
+use Rattle.states.specs.Switches.{State, byte, branchOf}
 use Rattle.radiality.specs.Feeder.{feeder}
 use Rattle.plan.specs.Plan.{Pair, pairs, Moves, movesOf, plan}
 use Rattle.plan.specs.Claim.{turnedIf, Step, back, found, Point, taken, run, after, SameLive, SwitchingPlan, Demand3}

@@ -10,7 +10,7 @@ use native.Mathlib.Omega.{arith}
 use lib.ListN.{length, drop, getElem?}
 use Rattle.numbers.specs.Tests.{clash}
 use Rattle.network.specs.Records.{Network}
-use Rattle.network.specs.Switches.{State, byte, branchOf}
+use Rattle.states.specs.Switches.{State, byte, branchOf}
 use Rattle.graph.specs.Graph.{Live, Tree}
 use Rattle.radiality.specs.Feeder.{feeder}
 use Rattle.plan.specs.Plan.{Pair, exchanged, Moves, movesOf}

@@ -8,7 +8,7 @@ ghost use Rattle.numbers.specs.UpTo.{table};
 ghost use Rattle.network.specs.Answers.{accepted};
 ghost use Rattle.network.specs.Check.{checkRecords};
 ghost use Rattle.network.specs.Records.{recordsOf};
-ghost use Rattle.network.specs.Switches.{State};
+ghost use Rattle.states.specs.Switches.{State};
 ghost use Rattle.graph.specs.Rows.{flag};
 ghost use Rattle.changes.specs.Passing.{Passed};
 ghost use Rattle.openings.specs.Opening.{rowOpening};

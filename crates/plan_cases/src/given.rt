@@ -20,13 +20,13 @@ use cases::line_behind;
 use cases::part_of;
 use cases::state_bytes;
 use libc::STDOUT_FILENO;
-use network::configuration::NetworkConfiguration;
 use network::error::Verdict;
 use network::switch::ReconfigAlgorithm;
 use network::topology::PowerNetwork;
 use numbers::at_most;
 use plan::planner::PlanAnswer;
 use plan::planner::plan;
+use states::configuration::NetworkConfiguration;
 
 // The planner's answer, and the bytes of which the first were lent.
 struct Planned {

@@ -7,10 +7,10 @@ use crate::labels::ends_of;
 use crate::labels::is_radial;
 use crate::moves::Moved;
 use crate::moves::carried_out;
-use network::configuration::NetworkConfiguration;
-use network::configuration::live_branches;
 use network::topology::PowerNetwork;
 use numbers::wide16;
+use states::configuration::NetworkConfiguration;
+use states::configuration::live_branches;
 use std::num::wrapping_add_u64;
 
 // What the points are held to: the wanted branches, and what the labels need.

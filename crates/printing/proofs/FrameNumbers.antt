@@ -10,8 +10,7 @@ use lib.ListN.{length, take, drop, length-append}
 use lib.Pow.{pow-add}
 use borrow.Rule.Slice.PartMut.{putMid}
 use Rattle.lines.specs.Hex.{digits, Fields, writeFields, Fit, total}
-use Rattle.record_lines.specs.Kinds.{Frame, layout}
-use Rattle.frames.specs.Acceptable.{frameText}
+use Rattle.lines.specs.Frames.{Frame, layout, frameText}
 use Rattle.lines.specs.HexLaws.{length-digits}
 use Rattle.slices.specs.Written.{written, lastDigits}
 use Rattle.slices.specs.WrittenLaws.{written-short, written-append}

@@ -8,7 +8,7 @@ use lib.ListN.{length}
 use borrow.Author.Tests.{lt-ltb, le-ltb}
 use Rattle.network.specs.Answers.{Answer, accepted, refused, _andThen_, _if_, judge}
 use Rattle.slices.specs.Written.{written}
-use Rattle.printing.specs.Calls.{checkRoom, Call, answered, called}
+use Rattle.printing.specs.Calls.{checkRoom, answered, called}
 
 module _ {A : Type 0} {tests : Answer (Unit {0})} (answer : A) (bytes out : List ℕ) where
   pub call-refused : {number place : ℕ} → tests ≡ refused number place

@@ -6,8 +6,7 @@ use native.Mathlib.Omega.{arith}
 use native.Mathlib.Nat.{mul-suc, mul-zero}
 use lib.ListN.{length, length-append}
 use Rattle.lines.specs.Hex.{Fields, total}
-use Rattle.record_lines.specs.Kinds.{Frame, layout}
-use Rattle.frames.specs.Acceptable.{frameText}
+use Rattle.lines.specs.Frames.{Frame, layout, frameText}
 use Rattle.lines.specs.HexLaws.{length-fields}
 
 -- its line feed included

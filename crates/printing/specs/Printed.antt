@@ -5,8 +5,7 @@ use Prim.Native.Nat.{ℕ}
 use Rattle.printing.specs.declared.writer.SwitchAction.{SwitchAction}
 use Rattle.printing.specs.declared.writer.SwitchOperation.{SwitchOperation}
 use Rattle.printing.specs.declared.writer.SwitchAction.the-variants.{Open, Close}
-use Rattle.record_lines.specs.Kinds.{Frame}
-use Rattle.frames.specs.Acceptable.{frameText}
+use Rattle.lines.specs.Frames.{Frame, frameText}
 
 -- ---- 81
 -- "radial byte of the best state, base loss, best loss, reduction percent, iterations (u16), converged"

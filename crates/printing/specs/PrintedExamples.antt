@@ -5,7 +5,7 @@ use mathlib.Core.Path.{_≡_, refl}
 use Prim.Native.Nat.{ℕ}
 use Rattle.printing.specs.declared.writer.SwitchAction.the-variants.{Open, Close}
 use Rattle.lines.specs.Hex.{digit, digits, writeFields}
-use Rattle.frames.specs.Acceptable.{frameText}
+use Rattle.lines.specs.Frames.{frameText}
 use Rattle.slices.specs.Written.{written}
 use Rattle.printing.specs.Printed.{answerText, operationText, pairText, refusalText}
 

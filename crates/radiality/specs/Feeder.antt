@@ -6,7 +6,7 @@ use lib.ListN.{length, getD}
 use Rattle.numbers.specs.Choose.{indexOf}
 use Rattle.network.specs.Records.{Network, noBranch}
 use Rattle.network.specs.Faults.{busId}
-use Rattle.network.specs.Live.{live}
+use Rattle.states.specs.Live.{live}
 use Rattle.graph.specs.Graph.{Net, Branches, Live}
 use Rattle.graph.specs.Radial.{radial}
 

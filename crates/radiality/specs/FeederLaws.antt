@@ -15,7 +15,7 @@ use Rattle.network.specs.Check.{checkRecords}
 use Rattle.network.specs.Inside.{Listed, Inside}
 use Rattle.network.specs.InsideLaws.{check-inside}
 use Rattle.network.specs.Positions.{each-at}
-use Rattle.network.specs.Live.{live}
+use Rattle.states.specs.Live.{live}
 use Rattle.graph.specs.Graph.{Sound, Tree}
 use Rattle.radiality.specs.Feeder.{position, feeder, LiveIn, radialIn}
 use Rattle.graph.specs.RadialLaws.{radial-tree}

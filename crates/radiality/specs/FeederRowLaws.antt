@@ -13,7 +13,7 @@ use Rattle.numbers.specs.TableLaws.{length-table, getD-table, table-cong}
 use Rattle.numbers.specs.Choose.{indexOf}
 use Rattle.numbers.specs.ChooseLaws.{index-found}
 use Rattle.network.specs.declared.branch.Branch.{Branch}
-use Rattle.network.specs.declared.configuration.NetworkConfiguration.{NetworkConfiguration}
+use Rattle.states.specs.declared.configuration.NetworkConfiguration.{NetworkConfiguration}
 use Rattle.network.specs.declared.topology.PowerNetwork.{PowerNetwork}
 use Rattle.network.specs.Records.{Network, noBranch, recordsOf}
 use Rattle.network.specs.Answers.{accepted}
@@ -22,11 +22,11 @@ use Rattle.network.specs.Check.{checkRecords}
 use Rattle.network.specs.Inside.{Inside}
 use Rattle.network.specs.InsideLaws.{check-inside, among-mem, mem-among}
 use Rattle.network.specs.Positions.{from-listed, to-listed}
-use Rattle.network.specs.Listed.{buses-listed, branches-listed, branch-at, state-accepted}
+use Rattle.states.specs.Listed.{buses-listed, branches-listed, branch-at, state-accepted}
 use Rattle.network.specs.LookupLaws.{listed-buses}
-use Rattle.network.specs.Live.{checkState, live}
-use Rattle.network.specs.LiveLaws.{live-configuration}
-use Rattle.network.specs.Configuration.{configurationOf}
+use Rattle.states.specs.Live.{checkState, live}
+use Rattle.states.specs.LiveLaws.{live-configuration}
+use Rattle.states.specs.Configuration.{configurationOf}
 use Rattle.graph.specs.Graph.{Net}
 use Rattle.graph.specs.Walk.{bfsPath}
 use Rattle.graph.specs.Radial.{radial}

@@ -1,7 +1,7 @@
 // A feeder's records as a graph: ids are resolved to positions once.
 ghost use mathlib.Core.Path.{_≡_};
 ghost use mathlib.Core.List.{List};
-ghost use Prim.Native.Nat.{ℕ, _≤_, min};
+ghost use Prim.Native.Nat.{ℕ, _≤_};
 ghost use lib.ListN.{length};
 ghost use Rattle.ids.specs.Ids.{rows, idRows};
 ghost use Rattle.radiality.specs.FeederRows.{endAt, endsOf, feederGraph};

@@ -2,18 +2,18 @@
 ghost use mathlib.Core.Path.{_≡_};
 ghost use Rattle.network.specs.Answers.{accepted, _andThen_};
 ghost use Rattle.network.specs.Check.{checkRecords};
-ghost use Rattle.network.specs.Live.{checkState};
+ghost use Rattle.states.specs.Live.{checkState};
 ghost use Rattle.network.specs.Records.{recordsOf};
 ghost use Rattle.radiality.specs.Answers.{radialityOf};
 ghost use Rattle.radiality.specs.Feeder.{radialIn};
 use crate::feeder::graph_of;
+use bfs::radial::is_radial;
 use checks::check::check;
-use graph::radial::is_radial;
-use network::configuration::NetworkConfiguration;
-use network::configuration::check_state;
-use network::configuration::live_branches;
 use network::error::Verdict;
 use network::topology::PowerNetwork;
+use states::configuration::NetworkConfiguration;
+use states::configuration::check_state;
+use states::configuration::live_branches;
 
 // Whether a state is radial, or document 01's refusal number and place.
 pub enum Radiality {

@@ -13,8 +13,8 @@ use Rattle.network.specs.Answers.{accepted, refused}
 use Rattle.network.specs.Check.{checkRecords}
 use Rattle.network.specs.Inside.{Inside}
 use Rattle.network.specs.InsideLaws.{check-inside}
-use Rattle.network.specs.Live.{baseState}
-use Rattle.network.specs.Switches.{branchOf, GoodState}
+use Rattle.states.specs.Live.{baseState}
+use Rattle.states.specs.Switches.{branchOf, GoodState}
 use Rattle.slices.specs.Written.{written}
 use Rattle.printing.specs.CallLaws.{call-passed}
 use Rattle.radiality.specs.Feeder.{radialIn}

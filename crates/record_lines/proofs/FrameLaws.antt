@@ -8,7 +8,8 @@ use lib.Seq.{length-take-le}
 use Rattle.network.specs.Answers.{accepted, refused, _andThen_, Fault, judge}
 use Rattle.lines.specs.Hex.{Fields, readFields}
 use Rattle.lines.specs.Lines.{cut}
-use Rattle.record_lines.specs.Kinds.{Frame, readOne, without}
+use Rattle.lines.specs.Frames.{Frame}
+use Rattle.record_lines.specs.Kinds.{readOne, without}
 use Rattle.record_lines.specs.VerdictLaws.{without-then}
 use Rattle.lines.specs.FirstLine.{judgeFrame}
 use Rattle.record_lines.specs.FramedLaws.{Framed, framed, size, fieldsAt, one-refused, one-framed}

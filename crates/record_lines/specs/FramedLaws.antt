@@ -10,7 +10,8 @@ use borrow.Author.Tests.{eqb-true, not-false}
 use Rattle.network.specs.Answers.{Answer, accepted, refused, _andThen_, Fault, judge}
 use Rattle.lines.specs.Hex.{isDigit, number, Fields, readFields, total}
 use Rattle.lines.specs.Lines.{Line, put, cut, every, lineFaults}
-use Rattle.record_lines.specs.Kinds.{Frame, layout, looks, fieldsOf, readOne, without}
+use Rattle.lines.specs.Frames.{Frame, layout}
+use Rattle.record_lines.specs.Kinds.{looks, fieldsOf, readOne, without}
 use Rattle.lines.specs.JudgeLaws.{Verdict, both, neither, no-refusal, judge-append, judge-passed}
 use Rattle.record_lines.specs.VerdictLaws.{then-accepted, without-then}
 use Rattle.network.specs.AnswerLaws.{same-value}

@@ -13,13 +13,10 @@ use Rattle.network.specs.declared.switch.ReconfigAlgorithm.the-variants.{Branch
 use Rattle.network.specs.Answers.{Answer, accepted, refused, _andThen_, Fault, _if_, judge}
 use Rattle.network.specs.Faults.{Head, headFaults, busFaults, branchFaults, switchFaults}
 use Rattle.lines.specs.Hex.{Fields, readFields, total}
+use Rattle.lines.specs.Frames.{Frame, layout}
 use Rattle.lines.specs.Lines.{Line, lineFaults}
 
--- ---- the four kinds of frame: the kind byte, and the digits of each field after it
-pub record Frame : Type 0 where
-  pub kind : ℕ
-  pub widths : List ℕ
-
+-- ---- the four kinds of frame
 -- buses, branches, switches (u16), base_mva (f64), method byte, max_iterations (u16)
 abbrev pub head : Frame
 head = record { kind = 1; widths = 4 ∷ 4 ∷ 4 ∷ 16 ∷ 2 ∷ 4 ∷ [] }
@@ -36,14 +33,11 @@ branch = record { kind = 3; widths = 4 ∷ 4 ∷ 16 ∷ 2 ∷ [] }
 abbrev pub switch : Frame
 switch = record { kind = 4; widths = 4 ∷ 4 ∷ 2 ∷ [] }
 
--- what the characters of a line say as a frame of a kind: its kind byte, then its fields
-abbrev pub layout : Frame → List ℕ
-layout F = 2 ∷ F .widths
-
 -- has a line this kind's length and kind byte?
 unfoldable pub looks : Frame → Line → Bool
 looks F l = eqb (length (l .chars)) (total (layout F)) && eqb (readFields (layout F) (l .chars) .0) (F .kind)
 
+-- what the characters of a line say behind the kind byte
 unfoldable pub fieldsOf : (F : Frame) → Line → Fields (F .widths)
 fieldsOf F l = readFields (layout F) (l .chars) .1
 

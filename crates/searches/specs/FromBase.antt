@@ -10,8 +10,8 @@ use lib.Dec.{eqb}
 use lib.ListN.{length, set, length-set, length-map, List·getD-map}
 use lib.Seq.{getD-set-same, getD-set-other}
 use Rattle.network.specs.Records.{Network, noSwitch}
-use Rattle.network.specs.Live.{stateByte, baseState}
-use Rattle.network.specs.Switches.{State, byte, operable, size, isTie, swapped, toggled, GoodState}
+use Rattle.states.specs.Live.{stateByte, baseState}
+use Rattle.states.specs.Switches.{State, byte, operable, size, isTie, swapped, toggled, GoodState}
 
 pub record FromBase (N : Network) (s : State) : Type 0 where
   pub good : GoodState N s

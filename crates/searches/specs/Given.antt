@@ -3,12 +3,12 @@ use mathlib.Core.Path.{_≡_}
 use mathlib.Core.List.{List}
 use lib.Ieee.{Float}
 use Rattle.network.specs.declared.bus.Power.{Power}
-use Rattle.network.specs.declared.configuration.NetworkConfiguration.{NetworkConfiguration}
+use Rattle.states.specs.declared.configuration.NetworkConfiguration.{NetworkConfiguration}
 use Rattle.network.specs.declared.topology.PowerNetwork.{PowerNetwork}
 use Rattle.network.specs.Answers.{accepted}
 use Rattle.network.specs.Check.{checkRecords}
-use Rattle.network.specs.Configuration.{configurationOf}
-use Rattle.network.specs.Live.{baseState}
+use Rattle.states.specs.Configuration.{configurationOf}
+use Rattle.states.specs.Live.{baseState}
 use Rattle.network.specs.Records.{recordsOf}
 use Rattle.graph.specs.declared.rows.Graph.{Graph}
 use Rattle.radiality.specs.FeederRows.{feederGraph}

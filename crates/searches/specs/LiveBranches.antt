@@ -6,8 +6,8 @@ use native.Mathlib.Decide.{decLt}
 use Rattle.numbers.specs.Tests.{clash, same-test}
 use Rattle.network.specs.Records.{Network}
 use Rattle.network.specs.Inside.{Inside}
-use Rattle.network.specs.Live.{live}
-use Rattle.network.specs.Switches.{State}
+use Rattle.states.specs.Live.{live}
+use Rattle.states.specs.Switches.{State}
 use Rattle.graph.specs.Graph.{Tree}
 use Rattle.graph.specs.Trees.{part-is-whole}
 use Rattle.graph.specs.RadialLaws.{radial-tree}

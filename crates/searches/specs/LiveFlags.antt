@@ -10,9 +10,9 @@ use Rattle.numbers.specs.Tests.{clash, not-so}
 use Rattle.network.specs.Records.{Network, noSwitch}
 use Rattle.network.specs.Inside.{Inside}
 use Rattle.network.specs.Positions.{on-a-branch}
-use Rattle.network.specs.Live.{live}
+use Rattle.states.specs.Live.{live}
 use Rattle.radiality.specs.FeederRows.{liveFlags}
-use Rattle.network.specs.Switches.{State, byte, branchOf, size, toggled, inService}
+use Rattle.states.specs.Switches.{State, byte, branchOf, size, toggled, inService}
 use Rattle.plan.specs.LiveLaws.{On, live-so, moved-other, opened-dead, closed-live}
 use Rattle.plan.specs.Accepted.{inside-regular}
 use Rattle.searches.specs.TableSets.{table-set}

@@ -7,8 +7,8 @@ use Rattle.numbers.specs.Constants.{zero64, trillionth, hundred}
 use Rattle.network.specs.Records.{Network}
 use Rattle.network.specs.Answers.{Answer, accepted, refused}
 use Rattle.network.specs.Check.{checkRecords}
-use Rattle.network.specs.Live.{baseState}
-use Rattle.network.specs.Switches.{State}
+use Rattle.states.specs.Live.{baseState}
+use Rattle.states.specs.Switches.{State}
 use Rattle.printing.specs.Calls.{Call, called}
 use Rattle.radiality.specs.Feeder.{radialIn}
 use Rattle.losses.specs.Loss.{lossIn}

@@ -15,9 +15,9 @@ use Rattle.network.specs.Records.{Network, recordsOf}
 use Rattle.network.specs.Answers.{Answer, accepted, refused, answerOf, _andThen_, judge}
 use Rattle.network.specs.AnswerLaws.{accepted-so, then-iff}
 use Rattle.network.specs.Check.{checkRecords}
-use Rattle.network.specs.Listed.{switches-listed, few-switches}
-use Rattle.network.specs.Live.{baseState}
-use Rattle.network.specs.Switches.{GoodState}
+use Rattle.states.specs.Listed.{switches-listed, few-switches}
+use Rattle.states.specs.Live.{baseState}
+use Rattle.states.specs.Switches.{GoodState}
 use Rattle.graph.specs.Rows.{rowRadial}
 use Rattle.printing.specs.Calls.{checkRoom, answered, called}
 use Rattle.slices.specs.Written.{written}

@@ -4,8 +4,8 @@ use mathlib.Core.List.{List}
 use Prim.Native.Nat.{ℕ}
 use Rattle.network.specs.declared.topology.PowerNetwork.{PowerNetwork}
 use Rattle.network.specs.Answers.{accepted}
-use Rattle.network.specs.Configuration.{configurationOf}
-use Rattle.network.specs.Live.{baseState}
+use Rattle.states.specs.Configuration.{configurationOf}
+use Rattle.states.specs.Live.{baseState}
 use Rattle.network.specs.Records.{recordsOf}
 use Rattle.graph.specs.Rows.{rowRadial}
 use Rattle.printing.specs.Calls.{Call}

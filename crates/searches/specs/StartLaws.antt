@@ -5,8 +5,8 @@ use Rattle.network.specs.declared.topology.PowerNetwork.{PowerNetwork}
 use Rattle.network.specs.Records.{Network, recordsOf}
 use Rattle.network.specs.Answers.{accepted}
 use Rattle.network.specs.Check.{checkRecords}
-use Rattle.network.specs.Listed.{switches-listed, few-switches}
-use Rattle.network.specs.Live.{baseState}
+use Rattle.states.specs.Listed.{switches-listed, few-switches}
+use Rattle.states.specs.Live.{baseState}
 use Rattle.radiality.specs.Feeder.{radialIn}
 use Rattle.radiality.specs.FeederRows.{liveFlags}
 use Rattle.searches.specs.declared.start.Start.{Start}

@@ -10,15 +10,15 @@ use lib.ListN.{length, getD, take, set, length-take}
 use lib.Seq.{take-all, take-set-lt, getD-take, getD-set-same, getD-set-other}
 use Rattle.numbers.specs.UpTo.{table}
 use Rattle.numbers.specs.TableLaws.{length-table, as-table, take-table, table-cong}
-use Rattle.network.specs.declared.configuration.NetworkConfiguration.{NetworkConfiguration}
+use Rattle.states.specs.declared.configuration.NetworkConfiguration.{NetworkConfiguration}
 use Rattle.network.specs.declared.topology.PowerNetwork.{PowerNetwork}
 use Rattle.network.specs.Records.{noBranch, recordsOf}
-use Rattle.network.specs.Configuration.{configurationOf}
-use Rattle.network.specs.Live.{openOn, live}
-use Rattle.network.specs.LiveLaws.{open-take}
+use Rattle.states.specs.Configuration.{configurationOf}
+use Rattle.states.specs.Live.{openOn, live}
+use Rattle.states.specs.LiveLaws.{open-take}
 use Rattle.radiality.specs.FeederRows.{liveFlags}
-use Rattle.network.specs.Switches.{byte, swapped, toggled}
-use Rattle.network.specs.Listed.{switches-listed}
+use Rattle.states.specs.Switches.{byte, swapped, toggled}
+use Rattle.states.specs.Listed.{switches-listed}
 use Rattle.searches.specs.States.{stateOf}
 use Rattle.searches.specs.Given.{Held}
 use Rattle.searches.specs.TableSets.{table-set}

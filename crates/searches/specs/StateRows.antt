@@ -17,7 +17,7 @@ use Rattle.radiality.specs.FeederRowLaws.{live-row-radial}
 use Rattle.losses.specs.Loss.{lossIn}
 use Rattle.losses.specs.RowLoss.{rowLoss, loadsOf}
 use Rattle.losses.specs.FeederLoss.{feeder-loss}
-use Rattle.network.specs.Switches.{State}
+use Rattle.states.specs.Switches.{State}
 
 module _ (n : PowerNetwork) (sized : length (n .buses) ≡ 256) (ok : checkRecords (recordsOf n) ≡ accepted tt) (s : State) (g : Graph) (flags : List Bool) (a : g ≡ feederGraph n)
     (b : flags ≡ liveFlags (recordsOf n) s) where

@@ -9,8 +9,8 @@ use Rattle.network.specs.Records.{noBranch, noSwitch, recordsOf}
 use Rattle.network.specs.Answers.{accepted}
 use Rattle.network.specs.Check.{checkRecords}
 use Rattle.network.specs.ReadLaws.{pastBranch, branch-read}
-use Rattle.network.specs.Switches.{branchOf, switch, inService}
-use Rattle.network.specs.Listed.{branch-at, switch-at, switch-listed, switch-small}
+use Rattle.states.specs.Switches.{branchOf, switch, inService}
+use Rattle.states.specs.Listed.{branch-at, switch-at, switch-listed, switch-small}
 
 -- w is switch i of the feeder, and served the status of its branch
 pub record SwitchAt (n : PowerNetwork) (i : ℕ) (w : Switch) (served : Bool) : Type 0 where

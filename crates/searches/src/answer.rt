@@ -9,15 +9,15 @@ ghost use Rattle.slices.specs.Written.{written};
 ghost use Rattle.searches.specs.Results.{reduction, solveAnswerOf};
 ghost use Rattle.searches.specs.SearchValues.{answerWith};
 use crate::start::Start;
+use bfs::radial::is_radial;
 use checks::check::check;
-use graph::radial::is_radial;
-use network::configuration::NetworkConfiguration;
-use network::configuration::live_branches;
 use network::error::Verdict;
 use network::topology::PowerNetwork;
 use numbers::at_most;
 use numbers::wide16;
 use slices::writer::write_bytes;
+use states::configuration::NetworkConfiguration;
+use states::configuration::live_branches;
 
 // What is answered beside the best state.
 pub struct ReconfigResult {

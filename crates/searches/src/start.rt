@@ -1,16 +1,16 @@
 // Translated and changed from src/network/reconfiguration.rs of oxigrid. Copyright 2024-2026 COOLJAPAN OU (Team Kitasan), Apache License 2.0.
 ghost use mathlib.Core.Path.{_≡_};
 ghost use Rattle.searches.specs.SearchValues.{startOf};
-use graph::radial::is_radial;
+use bfs::radial::is_radial;
 use graph::rows::Graph;
 use losses::evaluation::loads_of;
 use losses::reconfiguration::compute_losses_estimate;
 use network::bus::Power;
-use network::configuration::NetworkConfiguration;
-use network::configuration::build_base_configuration;
-use network::configuration::live_branches;
 use network::topology::PowerNetwork;
 use radiality::feeder::graph_of;
+use states::configuration::NetworkConfiguration;
+use states::configuration::build_base_configuration;
+use states::configuration::live_branches;
 
 // Where every search starts: the feeder's rows and loads, and its base with the live branches, the radiality and the loss.
 pub struct Start {

@@ -8,8 +8,8 @@ use lib.ListN.{length, drop}
 use Rattle.numbers.specs.UpTo.{upTo}
 use Rattle.network.specs.Records.{Network}
 use Rattle.network.specs.Faults.{among}
-use Rattle.network.specs.Live.{baseState}
-use Rattle.network.specs.Switches.{State, operable, size, switch, toggled}
+use Rattle.states.specs.Live.{baseState}
+use Rattle.states.specs.Switches.{State, operable, size, switch, toggled}
 use Rattle.radiality.specs.Feeder.{radialIn}
 use Rattle.losses.specs.Loss.{lossIn}
 use Rattle.searches.specs.Results.{Best}

@@ -8,8 +8,8 @@ use lib.Ieee.{lt}
 use Rattle.numbers.specs.Tests.{both}
 use Rattle.numbers.specs.UpTo.{upTo-keeps}
 use Rattle.network.specs.Records.{Network}
-use Rattle.network.specs.Live.{baseState}
-use Rattle.network.specs.Switches.{State, operable, size, toggled}
+use Rattle.states.specs.Live.{baseState}
+use Rattle.states.specs.Switches.{State, operable, size, toggled}
 use Rattle.radiality.specs.Feeder.{radialIn}
 use Rattle.losses.specs.Loss.{lossIn}
 use Rattle.tabu.specs.Tabu.{Move, Tabu, moveOf, allowed, lesser, bestMove, afterMove, tabuRounds, tabu, tabuBest}

@@ -9,7 +9,7 @@ use lib.Dec.{eqb}
 use lib.Ieee.{Float, lt}
 use lib.ListN.{length, getD, set}
 use borrow.Author.Tests.{not-true, not-false}
-use Rattle.network.specs.declared.configuration.NetworkConfiguration.{NetworkConfiguration}
+use Rattle.states.specs.declared.configuration.NetworkConfiguration.{NetworkConfiguration}
 use Rattle.network.specs.declared.topology.PowerNetwork.{PowerNetwork}
 use Rattle.network.specs.declared.switch.Switch.{Switch}
 use Rattle.network.specs.Inside.{Inside}
@@ -18,19 +18,19 @@ use Rattle.network.specs.Answers.{accepted}
 use Rattle.network.specs.Check.{checkRecords}
 use Rattle.network.specs.Faults.{among}
 use Rattle.network.specs.InsideLaws.{check-inside}
-use Rattle.network.specs.Configuration.{configurationOf}
-use Rattle.network.specs.Live.{live}
+use Rattle.states.specs.Configuration.{configurationOf}
+use Rattle.states.specs.Live.{live}
 use Rattle.numbers.specs.Tests.{both}
 use Rattle.numbers.specs.UpTo.{upTo, upTo-more, table}
 use Rattle.radiality.specs.Feeder.{radialIn}
 use Rattle.radiality.specs.FeederRows.{liveFlags}
 use Rattle.losses.specs.Loss.{lossIn}
-use Rattle.network.specs.Switches.{State, branchOf, operable, size, switch, toggled, inService}
+use Rattle.states.specs.Switches.{State, branchOf, operable, size, switch, toggled, inService}
 use Rattle.plan.specs.Claim.{SameLive}
 use Rattle.tabu.specs.declared.tabu.Candidate.{Candidate}
 use Rattle.tabu.specs.declared.tabu.TabuSearch.{TabuSearch}
 use Rattle.searches.specs.States.{stateOf}
-use Rattle.network.specs.Listed.{switches-listed, few-switches}
+use Rattle.states.specs.Listed.{switches-listed, few-switches}
 use Rattle.searches.specs.StateLaws.{byte-at, flags-listed, state-held, held, toggled-held}
 use Rattle.searches.specs.SwitchReads.{SwitchAt, own-switch, own-status}
 use Rattle.searches.specs.LiveBranches.{same-radial, same-loss}

@@ -8,13 +8,13 @@ use native.Mathlib.Omega.{arith}
 use lib.Ieee.{Float, lt}
 use lib.ListN.{length, length-drop}
 use Rattle.numbers.specs.Tests.{clash}
-use Rattle.network.specs.declared.configuration.NetworkConfiguration.{NetworkConfiguration}
+use Rattle.states.specs.declared.configuration.NetworkConfiguration.{NetworkConfiguration}
 use Rattle.network.specs.declared.topology.PowerNetwork.{PowerNetwork}
 use Rattle.network.specs.Records.{Network, recordsOf}
-use Rattle.network.specs.Configuration.{configurationOf}
-use Rattle.network.specs.Live.{baseState}
+use Rattle.states.specs.Configuration.{configurationOf}
+use Rattle.states.specs.Live.{baseState}
 use Rattle.radiality.specs.Feeder.{radialIn}
-use Rattle.network.specs.Switches.{State}
+use Rattle.states.specs.Switches.{State}
 use Rattle.tabu.specs.declared.tabu_list.TabuList.{TabuList}
 use Rattle.tabu.specs.declared.tabu.Candidate.{Candidate}
 use Rattle.tabu.specs.declared.tabu.TabuSearch.{TabuSearch}

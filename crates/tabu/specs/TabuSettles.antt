@@ -11,8 +11,8 @@ use lib.Ieee.{lt}
 use Rattle.numbers.specs.Tests.{clash}
 use Rattle.network.specs.Records.{Network}
 use Rattle.network.specs.Inside.{Inside}
-use Rattle.network.specs.Live.{baseState}
-use Rattle.network.specs.Switches.{toggled}
+use Rattle.states.specs.Live.{baseState}
+use Rattle.states.specs.Switches.{toggled}
 use Rattle.radiality.specs.Feeder.{radialIn}
 use Rattle.losses.specs.Loss.{lossIn}
 use Rattle.tabu.specs.Tabu.{Move, Tabu, bestMove, afterMove, tabuRounds, tabu}

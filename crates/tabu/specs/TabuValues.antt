@@ -7,16 +7,16 @@ use Prim.Native.Nat.{ℕ, _≤_}
 use lib.ListN.{length, getD, take}
 use Rattle.numbers.specs.Constants.{zero64}
 use Rattle.numbers.specs.UpTo.{table}
-use Rattle.network.specs.declared.configuration.NetworkConfiguration.{NetworkConfiguration}
+use Rattle.states.specs.declared.configuration.NetworkConfiguration.{NetworkConfiguration}
 use Rattle.network.specs.declared.topology.PowerNetwork.{PowerNetwork}
-use Rattle.network.specs.Configuration.{configurationOf}
+use Rattle.states.specs.Configuration.{configurationOf}
 use Rattle.network.specs.Records.{Network, recordsOf}
 use Rattle.radiality.specs.Feeder.{radialIn}
 use Rattle.losses.specs.Loss.{lossIn}
 use Rattle.tabu.specs.declared.tabu_list.TabuList.{TabuList}
 use Rattle.tabu.specs.declared.tabu.Candidate.{Candidate}
 use Rattle.tabu.specs.declared.tabu.TabuSearch.{TabuSearch}
-use Rattle.network.specs.Switches.{toggled}
+use Rattle.states.specs.Switches.{toggled}
 use Rattle.tabu.specs.Tabu.{Move, Tabu, moveOf, allowed, lesser}
 use Rattle.searches.specs.FromBase.{FromBase}
 

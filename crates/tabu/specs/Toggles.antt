@@ -11,8 +11,8 @@ use borrow.Author.Tests.{eq-eqb, eqb-true}
 use Rattle.numbers.specs.Tests.{clash, not-so}
 use Rattle.network.specs.Records.{Network, noBranch}
 use Rattle.network.specs.Inside.{Inside}
-use Rattle.network.specs.Live.{live}
-use Rattle.network.specs.Switches.{State, byte, branchOf, size, toggled, GoodState}
+use Rattle.states.specs.Live.{live}
+use Rattle.states.specs.Switches.{State, byte, branchOf, size, toggled, GoodState}
 use Rattle.radiality.specs.Feeder.{radialIn}
 use Rattle.plan.specs.Claim.{SameLive}
 use Rattle.plan.specs.LiveLaws.{InService, On, live-so, live-if, live-less, moved-other, opened-dead, closed-live}

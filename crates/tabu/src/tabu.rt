@@ -10,7 +10,7 @@ ghost use lib.ListN.{set};
 ghost use Rattle.network.specs.Answers.{accepted};
 ghost use Rattle.network.specs.Check.{checkRecords};
 ghost use Rattle.network.specs.Faults.{among};
-ghost use Rattle.network.specs.Live.{baseState};
+ghost use Rattle.states.specs.Live.{baseState};
 ghost use Rattle.network.specs.Records.{Network, recordsOf};
 ghost use Rattle.radiality.specs.Feeder.{radialIn};
 ghost use Rattle.searches.specs.Results.{solvedBy, solveAnswerOf};
@@ -22,12 +22,10 @@ ghost use Rattle.tabu.specs.TabuValues.{HeldList, idsOf, candidateOf, to
 ghost use Rattle.tabu.specs.TabuLaws.{MoveFrom};
 ghost use Rattle.tabu.specs.TabuSettles.{tabuStart};
 use crate::tabu_list::TabuList;
-use graph::radial::is_radial;
+use bfs::radial::is_radial;
 use graph::rows::Graph;
 use losses::reconfiguration::compute_losses_estimate;
 use network::bus::Power;
-use network::configuration::NetworkConfiguration;
-use network::configuration::live_branches;
 use network::error::Verdict;
 use network::switch::Switch;
 use network::topology::PowerNetwork;
@@ -38,6 +36,8 @@ use searches::answer::answer_with;
 use searches::answer::check_search;
 use searches::start::Start;
 use searches::start::start_of;
+use states::configuration::NetworkConfiguration;
+use states::configuration::live_branches;
 
 // A move that can be made: the state after it, its loss, and the id of the switch that it moves. Where none was found, the state before.
 struct Candidate {

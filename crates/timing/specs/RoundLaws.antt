@@ -8,11 +8,11 @@ use lib.Ieee.{Float, binary64, isNan, toBits}
 use lib.ListN.{length, replicate}
 use borrow.Author.Tests.{eq-eqb, ne-eqb}
 use Rattle.numbers.specs.UpTo.{upTo, upTo-more}
-use Rattle.network.specs.Listed.{buses-listed, branches-listed, switches-listed}
+use Rattle.states.specs.Listed.{buses-listed, branches-listed, switches-listed}
 use Rattle.network.specs.Answers.{Answer, accepted, refused, _andThen_}
 use Rattle.network.specs.AnswerLaws.{then-iff}
 use Rattle.network.specs.Check.{checkRecords}
-use Rattle.network.specs.Live.{checkState}
+use Rattle.states.specs.Live.{checkState}
 use Rattle.network.specs.Records.{Network, recordsOf}
 use Rattle.network.specs.declared.topology.PowerNetwork.{PowerNetwork}
 use Rattle.printing.specs.Printed.{truthByte}

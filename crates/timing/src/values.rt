@@ -4,7 +4,7 @@ ghost use lib.Ieee.{binary64, toBits};
 ghost use lib.ListN.{replicate};
 ghost use Rattle.network.specs.Answers.{accepted, _andThen_};
 ghost use Rattle.network.specs.Check.{checkRecords};
-ghost use Rattle.network.specs.Live.{checkState};
+ghost use Rattle.states.specs.Live.{checkState};
 ghost use Rattle.network.specs.Records.{recordsOf};
 ghost use Rattle.printing.specs.Printed.{truthByte};
 ghost use Rattle.frames.specs.Text.{readText};

@@ -4,7 +4,7 @@ use Prim.Native.Nat.{ℕ, _*_}
 use native.Mathlib.Omega.{arith}
 use native.Mathlib.Numerals.{unary-clauses}
 use lib.ListN.{length}
-use Rattle.network.specs.Listed.{few-switches}
+use Rattle.states.specs.Listed.{few-switches}
 use Rattle.answers.proofs.PrinterLaws.{operationBytes, operations-printed}
 use borrow.Author.Needs.{needs}
 use Rattle.answers.proofs.printer.write_operations.Statement.{statement}

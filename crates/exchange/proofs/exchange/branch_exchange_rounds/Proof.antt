@@ -1,7 +1,7 @@
 -- `branch_exchange_rounds` meets its contract: the rounds that are left lead from where it stands to the definition's answer. The measure is the rounds that are left.
 use Prim.Native.Nat.{_-_}
 use native.Mathlib.Omega.{arith}
-use Rattle.network.specs.Listed.{rounds-few}
+use Rattle.states.specs.Listed.{rounds-few}
 use Rattle.exchange.specs.ExchangeRounds.{Standing, standing-base, standing-held, standing-ended, standing-done, standing-next, rounds-rise}
 use Rattle.exchange.proofs.exchange.branch_exchange_rounds.Statement.{statement}
 use Rattle.exchange.proofs.exchange.branch_exchange_rounds.Tie as tie

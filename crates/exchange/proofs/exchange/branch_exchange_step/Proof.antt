@@ -15,10 +15,10 @@ use Rattle.network.proofs.bus.Bus as bus
 use Rattle.radiality.specs.FeederRows.{liveFlags}
 use Rattle.losses.specs.Loss.{lossIn}
 use Rattle.searches.specs.States.{stateOf}
-use Rattle.network.specs.Listed.{few-switches, switches-listed}
+use Rattle.states.specs.Listed.{few-switches, switches-listed}
 use Rattle.searches.specs.StateLaws.{flags-listed, held-bytes, swapped-held}
 use Rattle.searches.specs.StateRows.{flags-loss}
-use Rattle.network.specs.Switches.{size, swapped}
+use Rattle.states.specs.Switches.{size, swapped}
 use Rattle.searches.specs.SwitchReads.{SwitchAt, on-branch, switch-read}
 use Rattle.exchange.specs.Exchange.{roundOf}
 use Rattle.exchange.specs.ExchangeSwaps.{sections-long}

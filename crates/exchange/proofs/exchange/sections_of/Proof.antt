@@ -9,8 +9,8 @@ use borrow.Author.Needs.{needs}
 use Rattle.numbers.specs.TableLaws.{replicate-table}
 use Rattle.network.specs.InsideLaws.{check-inside}
 use Rattle.network.specs.Records.{noSwitch, recordsOf}
-use Rattle.network.specs.Switches.{branchOf, operable, size, switch, isTie}
-use Rattle.network.specs.Listed.{few-switches, switches-listed}
+use Rattle.states.specs.Switches.{branchOf, operable, size, switch, isTie}
+use Rattle.states.specs.Listed.{few-switches, switches-listed}
 use Rattle.searches.specs.SwitchReads.{on-branch, switch-is}
 use Rattle.exchange.specs.ExchangeSwaps.{sectionsAmong, sections-none, sections-all, section-skipped, section-listed}
 use Rattle.exchange.proofs.exchange.sections_of.Statement.{statement}

@@ -9,8 +9,8 @@ use Rattle.numbers.specs.Counts.{count}
 use Rattle.network.specs.ReadLaws.{pastBranch, length-of}
 use Rattle.network.specs.Records.{noSwitch, recordsOf}
 use Rattle.network.proofs.branch.Branch.{the-type}
-use Rattle.network.specs.Listed.{few-switches, switches-listed}
-use Rattle.network.specs.Switches.{size, isTie}
+use Rattle.states.specs.Listed.{few-switches, switches-listed}
+use Rattle.states.specs.Switches.{size, isTie}
 use Rattle.exhaustive.specs.ExhaustiveValues.{tiesOf}
 use Rattle.exhaustive.specs.ExhaustiveTies.{all-ties, tie-room, tie-listed, section-skipped}
 use Rattle.searches.specs.SwitchReads.{SwitchAt, on-branch, switch-read, own-switch, own-status}

@@ -1,7 +1,7 @@
 -- `with_base` meets its contract: the base is the state of mask 0, and counts where it is radial.
 use mathlib.Core.Path.{sym, ap, _∙_}
 use borrow.Author.Needs.{needs}
-use Rattle.network.specs.Live.{baseState}
+use Rattle.states.specs.Live.{baseState}
 use Rattle.network.specs.Records.{recordsOf}
 use Rattle.exhaustive.specs.ExhaustiveTrials.{noMask, none-tried, base-passed, base-radial}
 use Rattle.exhaustive.specs.ExhaustiveValues.{exhaustiveOf}

@@ -4,7 +4,7 @@ use borrow.Author.Needs.{needs}
 use Rattle.network.specs.ReadLaws.{length-of}
 use Rattle.network.specs.Records.{recordsOf}
 use Rattle.network.proofs.bus.Bus.{the-type}
-use Rattle.network.specs.Listed.{few-switches}
+use Rattle.states.specs.Listed.{few-switches}
 use Rattle.searches.specs.StateRows.{flags-loss}
 use Rattle.exhaustive.specs.Exhaustive.{masked}
 use Rattle.exhaustive.specs.ExhaustiveTrials.{mask-radial}

@@ -1,6 +1,5 @@
 -- `value` meets its contract: a digit up to '9' counts from '0', the others from 'A', and no other byte counts.
 use mathlib.Core.Path.{sym}
-use native.Mathlib.Omega.{arith}
 use borrow.Author.Needs.{needs}
 use Rattle.lines.specs.HexLaws.{value-other}
 use Rattle.lines.proofs.DigitLaws.{digit-under, digit-between, digit-over, value-low, value-high}

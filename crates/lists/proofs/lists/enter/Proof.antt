@@ -2,7 +2,7 @@
 use Prim.Native.Nat.{_<_}
 use native.Mathlib.Omega.{arith}
 use borrow.Author.Needs.{needs}
-use Rattle.graph.proofs.Entering.{one-fits}
+use Rattle.bfs.proofs.Entering.{one-fits}
 use Rattle.lists.proofs.Reaches.{marked-left, entered}
 use Rattle.lists.proofs.lists.enter.Statement.{statement}
 use Rattle.lists.proofs.lists.enter.Tie as tie

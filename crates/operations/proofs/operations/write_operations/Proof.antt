@@ -4,8 +4,8 @@ use Prim.Native.Nat.{_-_, _<_}
 use native.Mathlib.Omega.{arith}
 use borrow.Author.Needs.{needs}
 use Rattle.network.specs.Records.{recordsOf}
-use Rattle.network.specs.Switches.{size}
-use Rattle.network.specs.Listed.{switches-listed, switch-at}
+use Rattle.states.specs.Switches.{size}
+use Rattle.states.specs.Listed.{switches-listed, switch-at}
 use Rattle.operations.specs.OperationLines.{Lines, lines-none, lines-length, lines-room, lines-more, lines-all}
 use Rattle.operations.proofs.operations.write_operations.Statement.{statement}
 use Rattle.operations.proofs.operations.write_operations.Tie as tie

@@ -5,9 +5,9 @@ use mathlib.Core.Logic.{⊎-elim}
 use Prim.Native.Nat.{_-_}
 use lib.ListN.{length}
 use borrow.Author.Needs.{needs}
-use Rattle.network.specs.Listed.{few-switches}
+use Rattle.states.specs.Listed.{few-switches}
 use Rattle.network.specs.ReadLaws.{length-of}
-use Rattle.network.specs.Switches.{State}
+use Rattle.states.specs.Switches.{State}
 use Rattle.network.proofs.bus.Bus.{the-type}
 use Rattle.changes.specs.Passing.{Passed}
 use Rattle.plan.proofs.Pairing.{Made, passed, none-made, not-closed, pair-room, one-made, few-made, all-made}

@@ -3,7 +3,7 @@ use mathlib.Core.Path.{_≡_, _∙_}
 use Prim.Native.Nat.{_-_, _≤_}
 use native.Mathlib.Omega.{arith}
 use borrow.Author.Needs.{needs}
-use Rattle.network.specs.Listed.{few-switches, switch-small}
+use Rattle.states.specs.Listed.{few-switches, switch-small}
 use Rattle.plan.proofs.Identified.{idsOfLast, no-ids, id-noted, all-ids}
 use Rattle.plan.proofs.pairs.switch_ids.Statement.{statement}
 use Rattle.plan.proofs.pairs.switch_ids.Tie as tie

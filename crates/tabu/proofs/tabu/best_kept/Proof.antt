@@ -11,8 +11,8 @@ use Rattle.numbers.specs.UpTo.{upTo}
 use Rattle.network.specs.ReadLaws.{pastBranch, length-of}
 use Rattle.network.specs.Records.{noSwitch, recordsOf}
 use Rattle.network.proofs.branch.Branch.{the-type}
-use Rattle.network.specs.Listed.{few-switches, switches-listed}
-use Rattle.network.specs.Switches.{size}
+use Rattle.states.specs.Listed.{few-switches, switches-listed}
+use Rattle.states.specs.Switches.{size}
 use Rattle.searches.specs.SwitchReads.{SwitchAt, on-branch, switch-read}
 use Rattle.tabu.specs.Tabu.{Tabu, bestMove}
 use Rattle.tabu.specs.TabuMoves.{seen-more, see-unmoved, see-kept}

@@ -12,9 +12,9 @@ use Rattle.network.specs.ReadLaws.{pastBranch, length-of}
 use Rattle.network.specs.Records.{noSwitch, recordsOf}
 use Rattle.network.proofs.branch.Branch as branch
 use Rattle.network.proofs.bus.Bus as bus
-use Rattle.network.specs.Listed.{few-switches, switches-listed}
+use Rattle.states.specs.Listed.{few-switches, switches-listed}
 use Rattle.searches.specs.StateRows.{flags-radial, flags-loss}
-use Rattle.network.specs.Switches.{size, toggled}
+use Rattle.states.specs.Switches.{size, toggled}
 use Rattle.searches.specs.SwitchReads.{SwitchAt, on-branch, switch-read}
 use Rattle.tabu.specs.Tabu.{Tabu, bestMove}
 use Rattle.tabu.specs.TabuMoves.{seen-more, see-loops, see-unconnected, see-walked, toggled-flags}

@@ -3,7 +3,7 @@ use mathlib.Core.Logic.{⊎-elim}
 use Prim.Native.Nat.{_-_}
 use native.Mathlib.Omega.{arith}
 use borrow.Author.Needs.{needs}
-use Rattle.network.specs.Listed.{rounds-few}
+use Rattle.states.specs.Listed.{rounds-few}
 use Rattle.tabu.specs.TabuMoves.{barred-held}
 use Rattle.tabu.specs.TabuRounds.{Standing, standing-base, standing-ended, standing-done, standing-next}
 use Rattle.tabu.proofs.tabu.tabu_rounds.Statement.{statement}

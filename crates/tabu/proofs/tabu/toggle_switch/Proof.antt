@@ -1,7 +1,7 @@
 -- `toggle_switch` meets its contract: an open switch is closed, and another opened.
 use borrow.Author.Needs.{needs}
 use borrow.Author.Tests.{eq-eqb, ne-eqb}
-use Rattle.network.specs.Switches.{toggled}
+use Rattle.states.specs.Switches.{toggled}
 use Rattle.tabu.proofs.tabu.toggle_switch.Statement.{statement}
 use Rattle.tabu.proofs.tabu.toggle_switch.Tie as tie
 

@@ -1,5 +1,5 @@
 -- `bus_index` meets its contract: none of the first i listed buses has the id.
-use mathlib.Core.Path.{_≡_, sym, ap, _∙_}
+use mathlib.Core.Path.{_≡_, sym, _∙_}
 use mathlib.Core.List.{map}
 use Prim.Native.Nat.{_≤_, _<_, _-_}
 use native.Mathlib.Omega.{arith}
@@ -7,7 +7,7 @@ use lib.ListN.{length, getD, take, length-take, length-map}
 use borrow.Author.Needs.{needs}
 use Rattle.network.specs.Faults.{busId}
 use Rattle.network.specs.LookupLaws.{Unseen, unseen-none, unseen-more, seen-here, seen-nowhere, found-at, not-found, key-at}
-use Rattle.network.specs.ReadLaws.{pastBus, length-of, bus-read}
+use Rattle.network.specs.ReadLaws.{pastBus, length-of}
 use Rattle.network.proofs.bus.Bus.{the-type}
 use Rattle.network.proofs.topology.PowerNetwork.bus_index.Statement.{statement}
 use Rattle.network.proofs.topology.PowerNetwork.bus_index.Tie as tie

@@ -1,0 +1,101 @@
+-- One bus more of a walk, in the arrays of the code: from the flags and the entries to the definition's list of visits.
+use mathlib.Core.Path.{_≡_, refl, sym, ap, _∙_}
+use mathlib.Core.Bool.{Bool, true, false, cond, _||_, or-true, or-false, or-assoc}
+use mathlib.Core.List.{List, [], _∷_, _++_, map, map-append}
+use Prim.Native.Nat.{ℕ, suc, _+_, _-_, _<_, _≤_}
+use native.Mathlib.Omega.{arith}
+use lib.Dec.{eqb}
+use lib.ListN.{length, getD, set, replicate, length-append, length-set, length-map, List·getD-append, List·getD-map}
+use lib.Seq.{getD-set-same, getD-set-other, set-append-seam, append-snoc}
+use borrow.Author.Tests.{eqb-true, eqb-false}
+use Rattle.numbers.specs.Counts.{count, count-le, count-drop}
+use Rattle.graph.specs.Walk.{Visit, startAt, reached, enter}
+use Rattle.graph.specs.Rows.{flag, filled}
+use Rattle.graph.specs.Walking.{Walking, enterLive}
+
+-- an entry behind a list that fills an array
+pub filled-more : (l : List ℕ) (x i : ℕ) → i ≡ length l → i < 256 → set (filled l) i x ≡ filled (l ++ (x ∷ []))
+unfolding filled
+filled-more l x i e h =
+    let d : 256 - length l ≡ suc (256 - (length l + 1)) = omega arith in
+    rw (d, length-append, e, set-append-seam l 0 (replicate (256 - (length l + 1)) 0) x) (sym (append-snoc l x _))
+
+-- an entry of the list
+pub filled-first : (l : List ℕ) (i : ℕ) → i < length l → getD (filled l) i 0 ≡ getD l i 0
+unfolding filled
+filled-first l i h = List·getD-append l _ 0 i h
+
+-- a visit's entry in an array
+pub filled-read : (f : Visit → ℕ) (o : List Visit) (i : ℕ) → f (startAt 0) ≡ 0 → i < length o → getD (filled (map f o)) i 0 ≡ f (getD o i (startAt 0))
+filled-read f o i z l =
+    filled-first (map f o) i (rw length-map l) ∙ ap (λ (d : ℕ). getD (map f o) i d) (sym z) ∙ List·getD-map f o i (startAt 0)
+
+reached-snoc : (x : ℕ) (o : List Visit) (v : Visit) → reached x (o ++ (v ∷ [])) ≡ (reached x o || eqb x (v .bus))
+unfolding reached
+reached-snoc x [] v = or-false (eqb x (v .bus))
+reached-snoc x (w ∷ o) v = rw (reached-snoc x o v) (sym (or-assoc (eqb x (w .bus)) (reached x o) (eqb x (v .bus))))
+
+-- a walk in the arrays
+module _ {barred : ℕ} {o : List Visit} {seen : List Bool} {bus by : List ℕ} {n : ℕ} (w : Walking barred o seen bus by n) where
+  pub few : n ≤ 256
+  few = omega (arith, w .counted, w .room, count-le (flag seen) 256)
+
+  module _ (x : ℕ) (small : x < 256) (fresh : getD seen x false ≡ false) where
+    more-flags : count (flag (set seen x true)) 256 ≡ suc (count (flag seen) 256)
+    more-flags =
+        let h : x < length seen = omega (arith, w .flags) in
+        count-drop (flag (set seen x true)) (flag seen) 256 x small (getD-set-same seen x true false h) fresh
+        (λ y l ne. getD-set-other seen x y true false ne)
+
+    pub one-fits : n < 256
+    one-fits = omega (arith, w .counted, w .room, more-flags, count-le (flag (set seen x true)) 256)
+
+    pub one-more : (k : ℕ) → Walking barred (o ++ (record { bus = x; by = k } ∷ [])) (set seen x true) (set bus n x) (set by n k) (n + 1)
+    one-more k =
+        let v : Visit = record { bus = x; by = k } in
+        record {
+          counted = rw length-append (omega (arith, w .counted));
+          buses = rw (map-append, w .buses) (column (λ (v : Visit). v .bus) v);
+          branches = rw (map-append, w .branches) (column (λ (v : Visit). v .by) v);
+          flags = simp length-set (w .flags);
+          marks = λ y h. rw (reached-snoc y o v) (mark y h (eqb y x) refl);
+          room = rw (length-append, more-flags) (omega (arith, w .room));
+        }
+      where
+        column : (f : Visit → ℕ) (v : Visit) → set (filled (map f o)) n (f v) ≡ filled (map f o ++ (f v ∷ []))
+        column f v = filled-more (map f o) (f v) n (w .counted ∙ sym (length-map o f)) one-fits
+
+        mark : (y : ℕ) → y < 256 → (b : Bool) → eqb y x ≡ b → getD (set seen x true) y false ≡ (eqb y barred || (reached y o || eqb y x))
+        mark y h true e =
+            let q : y ≡ x = eqb-true y x e in
+            let l : x < length seen = omega (arith, w .flags) in
+            rw (e, or-true (reached y o), or-true (eqb y barred), q) (getD-set-same seen x true false l)
+        mark y h false e = rw (e, or-false, getD-set-other seen x y true false (eqb-false y x e)) (w .marks y h)
+
+-- what becomes of a bus that a half-branch leads to
+module _ (live : Bool) (x k : ℕ) {seen : List Bool} {bus by : List ℕ} {n : ℕ} where
+  pub dead-stays : live ≡ false → (barred : ℕ) (o : List Visit) → Walking barred o seen bus by n
+      → Walking barred (enterLive live barred o (record { bus = x; by = k })) seen bus by n
+  unfolding enterLive
+  dead-stays e barred o w = rw e w
+
+  module _ (at : ℕ) (same : at ≡ x) (small : at < 256) where
+    pub marked-stays : getD seen at false ≡ true
+        → (barred : ℕ) (o : List Visit) → Walking barred o seen bus by n → Walking barred (enterLive live barred o (record { bus = x; by = k })) seen bus by n
+    unfolding enterLive enter
+    marked-stays t barred o w =
+        let r : (eqb x barred || reached x o) ≡ true = sym (w .marks x (omega arith)) ∙ rw same at t in
+        rw r (either live)
+      where
+        either : (b : Bool) → Walking barred (cond b o o) seen bus by n
+        either true = w
+        either false = w
+
+    pub enters : (end : ℕ) → end ≡ n → live ≡ true → getD seen at false ≡ false
+        → (barred : ℕ) (o : List Visit) → Walking barred o seen bus by n
+        → Walking barred (enterLive live barred o (record { bus = x; by = k })) (set seen at true) (set bus end x) (set by end k) (n + 1)
+    unfolding enterLive enter
+    enters end e l f barred o w =
+        let g : getD seen x false ≡ false = rw same at f in
+        let r : (eqb x barred || reached x o) ≡ false = sym (w .marks x (omega arith)) ∙ g in
+        rw (l, r, e, same) (one-more w x (omega arith) g k)

@@ -1,0 +1,3 @@
+// The breadth-first walk over a graph, and radiality by it.
+pub mod radial;
+pub mod walk;

@@ -1,0 +1,5 @@
+pub mod Live
+pub mod Configuration
+pub mod LiveLaws
+pub mod Switches
+pub mod Listed
