@@ -5,29 +5,31 @@ usage: tests/cases/plan_cases.py
 
 Each case of stdin is a line 'LENGTH NAME', a frame text, a line feed, and three lines: 'CHANGE PRESENT', WANTED and SLICE. CHANGE is a
 letter for a change of the records once they are read (see CHANGES), a hyphen for none; PRESENT and WANTED have a digit for each byte of
-the states, SLICE a dot for each byte of the lent slice. Each case of stdout is 'NAME PAIRS [SLICE]' or 'NAME refused NUMBER PLACE
-[SLICE]', with the slice as the call leaves it. The answers of the named cases are written by hand from document 01, and those of the drawn
-ones reckoned from its sections State, Refusals and Plan; both must agree on the named ones, and each planner of WRONG must fail on one.
-The last lines count the plans, there and back, and their stopping points, all pairs forward and all pairs back.
+the states, SLICE a dot for each byte of the lent slice. The cases of a feeder stand together, and only the first has the text. Each case
+of stdout is 'NAME PAIRS [SLICE]' or 'NAME refused NUMBER PLACE [SLICE]', with the slice as the call leaves it. The answers of the named
+cases are written by hand from document 01, and those of the drawn ones reckoned from its sections State, Refusals and Plan; both must
+agree on the named ones, and each planner of WRONG must fail on one. Where there is a plan, the one back is a case too. Every plan that
+stdout shows is judged: its pairs are carried out and undone, and each stopping point is held to demand 3 by labels.
 """
 import os
 import random
+import re
 
 ROOT = os.path.join(os.path.dirname(os.path.abspath(__file__)), '..', '..', 'crates', 'plan_cases')
-CHANGES = {'iterations 1001': 'A', 'exhaustive': 'F', '': '-'}
+CHANGES = {'iterations 1001': 'A', 'switch 10 a tie': 'F', '': '-'}
 cases, told_apart = [], set()
 
 
 class Feeder:
     """Ids of buses; branches (from, to, status); switches (id, branch position, flags)."""
 
-    def __init__(self, buses, branches, switches, resistances=None, loads=None):
-        self.buses, self.branches, self.switches = buses, branches, switches
+    def __init__(self, buses, branches, switches, resistances=None, loads=None, method=0):
+        self.buses, self.branches, self.switches, self.method = buses, branches, switches, method
         self.resistances = resistances or [0x3FF0000000000000] * len(branches)
         self.loads = loads or [0] * len(buses)
 
     def text(self):
-        lines = ['01%04X%04X%04X3FF0000000000000000064' % (len(self.buses), len(self.branches), len(self.switches))]
+        lines = ['01%04X%04X%04X3FF0000000000000%02X0064' % (len(self.buses), len(self.branches), len(self.switches), self.method)]
         lines += ['02%04X%016X' % bus for bus in zip(self.buses, self.loads)]
         lines += ['03%04X%04X%016X%02X' % (a, b, r, status) for (a, b, status), r in zip(self.branches, self.resistances)]
         lines += ['04%04X%04X%02X' % switch for switch in self.switches]
@@ -37,20 +39,20 @@ class Feeder:
         opened = {k for (_, k, _), byte in zip(self.switches, state) if byte == '1'}
         return {k for k, (_, _, status) in enumerate(self.branches) if status == 1 and k not in opened}
 
-    def joined(self, order):
-        """Those of these branches whose ends the ones before have not joined yet."""
-        taken, top = set(), {bus: bus for bus in self.buses}
-
-        def find(x):
-            while top[x] != x:
-                x = top[x]
-            return x
+    def labels(self, order):
+        """For each bus a label that it shares with the buses joined to it, and those of these branches whose ends the ones before have
+        not joined yet."""
+        label, same, taken = {bus: bus for bus in self.buses}, {bus: [bus] for bus in self.buses}, set()
         for k in order:
-            a, b = (find(end) for end in self.branches[k][:2])
+            a, b = (label[end] for end in self.branches[k][:2])
             if a != b:
-                top[a] = b
+                label.update((bus, a) for bus in same[b])
+                same[a] += same.pop(b)
                 taken.add(k)
-        return taken
+        return label, taken
+
+    def joined(self, order):
+        return self.labels(order)[1]
 
     def is_radial(self, live):
         return not self.buses or self.joined(live) == live and len(live) == len(self.buses) - 1
@@ -90,10 +92,10 @@ WRONG = {'by position': dict(order=lambda switch: switch[1]), 'by id': dict(orde
 
 def answer(feeder, change, present, wanted, room):
     """The pairs, or number and place of the refusal."""
-    ties = [i for i, (_, _, flags) in enumerate(feeder.switches) if flags & 1]
+    ties = [i for i, (_, _, flags) in enumerate(feeder.switches) if flags & 1 or change == 'switch 10 a tie' and i == 10]
     if change == 'iterations 1001':
         return 3, 1
-    if change == 'exhaustive' and len(ties) > 10:
+    if feeder.method == 2 and len(ties) > 10:
         return 9, 2 + len(feeder.buses) + len(feeder.branches) + ties[10]
     states = (0, present), (1, wanted)
     for place, state in states:
@@ -173,14 +175,17 @@ def orders():
 
 
 def network_refusals():
-    ties = Feeder([1, 2], [(1, 2, 1)] * 11, [(1 + i, i, 3) for i in range(11)])
+    ties, ten = (Feeder([1, 2], [(1, 2, 1)] * 11, [(1 + i, i, flags[i]) for i in range(11)], method=method)
+                 for flags, method in (([3] * 11, 0), ([3] * 10 + [2], 2)))
     present, wanted = '0' + '1' * 10, '1' * 10 + '0'
     case('eleven-ties', ties, present, wanted, 11, [(11, 1)])
-    case('eleven-ties-exhaustive', ties, present, wanted, 11, (9, 25), 'exhaustive')
-    case('eleven-ties-exhaustive-states-02', ties, '2', '2', 0, (9, 25), 'exhaustive')
+    case('ten-ties-exhaustive', ten, present, wanted, 11, [(11, 1)])
+    case('eleven-ties-exhaustive', ten, present, wanted, 11, (9, 25), 'switch 10 a tie')
+    case('eleven-ties-exhaustive-states-02', ten, '2', '2', 0, (9, 25), 'switch 10 a tie')
     case('iterations-1001', TRIANGLE, '01', '10', 11, (3, 1), 'iterations 1001')
     case('iterations-1001-state-02', TRIANGLE, '02', '10', 11, (3, 1), 'iterations 1001')
-    case('triangle-exhaustive', TRIANGLE, '01', '10', 11, [(11, 10)], 'exhaustive')
+    exhaustive = Feeder(TRIANGLE.buses, TRIANGLE.branches, TRIANGLE.switches, TRIANGLE.resistances, TRIANGLE.loads, 2)
+    case('triangle-exhaustive', exhaustive, '01', '10', 11, [(11, 10)])
 
 
 def refusals():
@@ -259,34 +264,120 @@ def full_size():
     case('255-pairs-one-byte-short', feeder, *states, 2804, (13, 0))
 
 
+def back():
+    """The plan back of every plan, where it is no case already."""
+    asked = {(feeder.text(), change, present, wanted) for _, feeder, change, present, wanted, _, _ in cases}
+    for name, feeder, change, present, wanted, _, found in list(cases):
+        question = feeder.text(), change, wanted, present
+        if isinstance(found, list) and question not in asked:
+            asked.add(question)
+            case(name + '-back', feeder, wanted, present, 11 * len(found), change=change)
+            assert isinstance(cases[-1][-1], list), name
+
+
+def moved(feeder, state, closes, opens):
+    """The state after a pair that closes a dead branch and opens a live one on the loop which that makes."""
+    operable = {number: k for number, k, flags in feeder.switches if flags & 2 and feeder.branches[k][2] == 1}
+    assert closes in operable and opens in operable, 'moves a switch that it may not move'
+    closed, opened, before = operable[closes], operable[opens], feeder.live(state)
+    assert closed not in before and opened in before, 'closes a live branch or opens a dead one'
+    label, _ = feeder.labels(before - {opened})
+    assert len({label[end] for end in feeder.branches[closed][:2]}) == 2, 'opens a branch that is not on the loop'
+    after = ''.join({closes: '0', opens: '1'}.get(number, byte) for (number, _, _), byte in zip(feeder.switches, state))
+    assert feeder.live(after) == before - {opened} | {closed}
+    return after
+
+
+def judge(feeder, present, wanted, pairs):
+    """How many stopping points a plan has, all pairs forward and all pairs back, each held to demand 3."""
+    aim, differing = feeder.live(wanted), feeder.live(present) ^ feeder.live(wanted)
+    state, points = present, 0
+    for i, (closes, opens) in enumerate([(None, None)] + pairs + [(closed, opened) for opened, closed in reversed(pairs)]):
+        state = moved(feeder, state, closes, opens) if i else state
+        live = feeder.live(state)
+        assert feeder.is_radial(live), 'stops at a state that is not radial'
+        assert len(aim - live) == abs(len(pairs) - i), 'has another number of pairs than of branches to close'
+        points += 1
+        if i == len(pairs):
+            assert live == aim, 'ends at other branches than the wanted ones'
+            assert all(byte == (aimed if k in differing else found) for (_, k, _), byte, found, aimed in zip(feeder.switches, state, present, wanted))
+    assert state == present, 'does not lead back'
+    return points
+
+
+def is_refused(judged, *plan):
+    try:
+        judged(*plan)
+    except AssertionError:
+        return True
+    return False
+
+
+def judge_the_judge(feeder, present, wanted, pairs):
+    """It refuses what the planners of WRONG make that break demand 3, and a first pair that opens a branch beside the path."""
+    for wrong in 'over the present path', 'a wanted branch':
+        spoilt = plan(feeder, present, wanted, **WRONG[wrong])
+        assert spoilt == pairs or is_refused(judge, feeder, present, wanted, spoilt)
+    for closes, opens in pairs[:1]:
+        assert is_refused(judge, feeder, present, wanted, [(opens, closes)] + pairs[1:])
+        live, closed = feeder.live(present), next(k for number, k, _ in feeder.switches if number == closes)
+        way = feeder.path(live, *feeder.branches[closed][:2])
+        for number, k, flags in feeder.switches:
+            assert is_refused(moved, feeder, present, closes, number) == (k not in way or not flags & 2)
+
+
+def judge_all(shown):
+    """How many plans stdout shows, and their stopping points; each is judged."""
+    read = re.findall(r'(\S+) (\d+|refused \d+ \d+) \[((?:83[0-9A-F]{8}\n)*)(\.*)\]\n', shown)
+    assert [name for name, *_ in read] == [case[0] for case in cases]
+    assert sum(len(''.join(parts)) + 5 for parts in read) == len(shown)
+    plans = points = 0
+    for (name, said, lines, _), (_, feeder, _, present, wanted, _, _) in zip(read, cases):
+        pairs = [(int(line[2:6], 16), int(line[6:], 16)) for line in lines.split()]
+        assert len(pairs) == (0 if said.startswith('refused') else int(said)), name
+        if not said.startswith('refused'):
+            plans, points = plans + 1, points + judge(feeder, present, wanted, pairs)
+            judge_the_judge(feeder, present, wanted, pairs)
+    return plans, points
+
+
 def main():
     for make in (slices, orders, network_refusals, refusals, locked_switches, full_size):
         make()
+    named = len(cases)
     assert told_apart == set(WRONG), set(WRONG) - told_apart
     draw = random.Random(4)
     for i in range(250):
         drawn('drawn-%d' % i, draw, min(draw.randint(2, 40) for _ in range(2)), draw.choice([0, 0, 0.3, 0.6]))
     for i in range(4):
         drawn('drawn-256-buses-%d' % i, draw, 256, [0, 0.1, 0.3, 0.6][i])
+    feeders = len(cases) - named
+    back()
+    texts = [case[1].text() for case in cases]
+    cases.sort(key=lambda case: texts.index(case[1].text()))
     names = [case[0] for case in cases]
     assert len(names) == len(set(names)), 'a name stands twice'
     os.makedirs(ROOT, exist_ok=True)
+    before = None
     with open(os.path.join(ROOT, 'stdin'), 'wb') as out:
         for name, feeder, change, present, wanted, room, _ in cases:
             text = feeder.text()
-            out.write(b'%d %s\n' % (len(text), name.encode()) + text + b'\n')
+            given = b'' if text == before else text
+            out.write(b'%d %s\n' % (len(given), name.encode()) + given + b'\n')
             out.write(('%s %s\n%s\n%s\n' % (CHANGES[change], present, wanted, '.' * room)).encode())
+            before = text
         assert out.tell() <= 524288, 'the program has no room for the cases'
-    plans = [found for *_, found in cases if isinstance(found, list)]
+    shown = ''
+    for name, _, _, _, _, room, found in cases:
+        is_plan = isinstance(found, list)
+        lines = ''.join('83%04X%04X\n' % pair for pair in found) if is_plan else ''
+        said = '%d' % len(found) if is_plan else 'refused %d %d' % found
+        shown += '%s %s [%s]\n' % (name, said, lines + '.' * (room - len(lines)))
+    plans, points = judge_all(shown)
     with open(os.path.join(ROOT, 'stdout'), 'w') as out:
-        for name, _, _, _, _, room, found in cases:
-            is_plan = isinstance(found, list)
-            lines = ''.join('83%04X%04X\n' % pair for pair in found) if is_plan else ''
-            said = '%d' % len(found) if is_plan else 'refused %d %d' % found
-            out.write('%s %s [%s]\n' % (name, said, lines + '.' * (room - len(lines))))
-        pairs = 2 * sum(map(len, plans))
-        out.write('cases %d\nplans judged %d\npairs %d\nstopping points %d\nfaults 0\n' % (len(cases), 2 * len(plans), pairs, 2 * pairs + 2 * len(plans)))
-    print('%d cases, %d plans' % (len(cases), len(plans)))
+        out.write(shown)
+    print('%d named cases, %d drawn feeders, %d cases with the plans back; %d plans with %d stopping points judged' % (
+        named, feeders, len(cases), plans, points))
 
 
 main()

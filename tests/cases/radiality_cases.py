@@ -4,23 +4,26 @@
 usage: tests/cases/radiality_cases.py
 
 Each case of stdin is a line 'LENGTH NAME', a frame text, a line feed, and a line 'CHANGE STATE': a letter for a change of the
-records once they are read (see CHANGES), a hyphen for none, and a digit for each byte of the state. Each line of stdout is
-'NAME radial', 'NAME not radial' or 'NAME NUMBER PLACE', written here by hand from document 01. The last three lines count the
-random feeders: the same ones are drawn here, and their branches are put together by union and find.
+records once they are read (see CHANGES), a hyphen for none, and a digit for each byte of the state. A text is left out where the case
+before has the same. Each line of stdout is 'NAME radial', 'NAME not radial' or 'NAME NUMBER PLACE'. The answers of the named cases are
+written by hand from document 01, those of the drawn ones reckoned by labels; both must agree on the named ones, and each way of WRONG
+must fail on one.
 """
+import itertools
 import os
+import random
 
 ROOT = os.path.join(os.path.dirname(os.path.abspath(__file__)), '..', '..', 'crates', 'radiality_cases')
-ROUNDS = 20000
 ONE, ZERO = 0x3FF0000000000000, 0
-CHANGES = {'max_iterations 1001': 'A', '257 buses': 'B', '513 branches': 'C', '513 switches': 'D', 'base_mva 0': 'E', 'exhaustive': 'F',
+CHANGES = {'max_iterations 1001': 'A', '257 buses': 'B', '513 branches': 'C', '513 switches': 'D', 'base_mva 0': 'E', 'switch 10 a tie': 'F',
            'id of bus 1 is 1': 'G', 'pd of bus 2 is 2000000': 'H', 'end of branch 0 is 9': 'I', 'r of branch 1 is -1': 'J',
-           'switch 0 on branch 3': 'K', 'id of switch 1 is 10': 'L', 'switch 1 on branch 1': 'M', '': '-'}
-cases = []
+           'switch 0 on branch 3': 'K', 'id of switch 1 is 10': 'L', 'switch 1 on branch 1': 'M', 'three unlisted': 'N', '': '-'}
+WRONG = 'counted only', 'joined only', 'loops only', 'out of service too', 'a byte a branch', 'unlisted too'
+cases, told_apart = [], set()
 
 
-def head(buses, branches, switches):
-    return '01%04X%04X%04X%016X000064' % (buses, branches, switches, ONE)
+def head(buses, branches, switches, method=0):
+    return '01%04X%04X%04X%016X%02X0064' % (buses, branches, switches, ONE, method)
 
 
 def bus(number, pd=ZERO):
@@ -35,12 +38,34 @@ def switch(number, position, flags=2):
     return '04%04X%04X%02X' % (number, position, flags)
 
 
+def is_radial(lines, state, change, wrong=''):
+    """Every bus has a label of its own at first, and a live branch makes the labels of its ends one. One whose ends have the same label
+    already is a loop."""
+    buses, branches, switches = ([line for line in lines if line.startswith(kind)] for kind in ('02', '03', '04'))
+    if change == 'three unlisted' and wrong != 'unlisted too':
+        buses, branches, switches = buses[:-3], branches[:-3], switches[:-3]
+    on = range(len(switches)) if wrong == 'a byte a branch' else [int(line[6:10], 16) for line in switches]
+    opened = {k for k, byte in zip(on, state) if byte == '1'}
+    label, live, loops = {line[2:6]: line[2:6] for line in buses}, 0, 0
+    for k, line in enumerate(branches):
+        if k in opened or line[26:] == '00' and wrong != 'out of service too':
+            continue
+        a, b = label[line[2:6]], label[line[6:10]]
+        live, loops = live + 1, loops + (a == b)
+        label = {bus: a if old == b else old for bus, old in label.items()}
+    if wrong == 'counted only':
+        return live == max(0, len(buses) - 1)
+    return (wrong == 'joined only' or loops == 0) and (wrong == 'loops only' or len(set(label.values())) <= 1)
+
+
 def case(name, lines, state, answer, change=''):
-    text = ''.join(line + '\n' for line in lines).encode()
-    cases.append((name, text, CHANGES[change], state, answer if isinstance(answer, str) else '%d %d' % answer))
+    if isinstance(answer, str):
+        assert answer == (RADIAL if is_radial(lines, state, change) else NOT), name
+        told_apart.update(wrong for wrong in WRONG if is_radial(lines, state, change, wrong) != (answer == RADIAL))
+    cases.append((name, lines, CHANGES[change], state, answer if isinstance(answer, str) else '%d %d' % answer))
 
 
-RADIAL, NOT = 'radial', 'not radial'
+RADIAL, NOT, FEEDERS = 'radial', 'not radial', 250
 ONE_BUS = [head(1, 0, 0), bus(1)]
 TWO = [bus(1), bus(2)]
 TRIANGLE = [head(3, 3, 2), bus(1), bus(2, ONE), bus(3, 0x4000000000000000), branch(1, 2), branch(2, 3), branch(1, 3),
@@ -94,61 +119,105 @@ def refusals():
         name = 'records-' + change.replace(' ', '-')
         case(name, TRIANGLE, '01', answer, change)
         case(name + '-state-02', TRIANGLE, '02', answer, change)
-    ties = [switch(1 + i, i, 3) for i in range(11)]
-    case('eleven-ties', [head(2, 11, 11)] + TWO + [branch(1, 2)] * 11 + ties, '0' + '1' * 10, RADIAL)
-    case('records-eleven-ties-exhaustive', [head(2, 11, 11)] + TWO + [branch(1, 2)] * 11 + ties, '0' + '1' * 10, (9, 25), 'exhaustive')
+    ties = [head(2, 11, 11)] + TWO + [branch(1, 2)] * 11 + [switch(1 + i, i, 3) for i in range(11)]
+    case('eleven-ties', ties, '0' + '1' * 10, RADIAL)
+    ten = [head(2, 11, 11, 2)] + ties[1:-1] + [switch(11, 10)]
+    case('ten-ties-exhaustive', ten, '0' + '1' * 10, RADIAL)
+    case('records-eleven-ties-exhaustive', ten, '0' + '1' * 10, (9, 25), 'switch 10 a tie')
 
 
-def draws(seed):
-    numbers = []
-    for _ in range(128):
-        seed = (seed * 1103515245 + 12345) % 2**31
-        numbers.append(seed >> 16)
-    return numbers
+def unlisted():
+    """Buses 1 and 2 with branch 0 are listed, and no switch."""
+    lines = [head(5, 4, 3)] + TWO + [bus(3), bus(4), bus(5), branch(1, 2), branch(3, 4), branch(1, 2), branch(4, 5)]
+    lines += [switch(1, 1), switch(2, 0), switch(3, 3)]
+    case('unlisted', lines, '', RADIAL, 'three unlisted')
+    case('unlisted-state-for-all', lines, '000', (10, 0), 'three unlisted')
+    case('all-listed', lines, '000', NOT)
 
 
-def is_radial(d):
-    """Whether the random feeder and state of these numbers are radial, on positions."""
-    n = 1 + d[0] % 12
-    m = n - 1 + d[3] % 10
-    count = m - min(d[5] % 4, m)
-    is_open = set()
-    for i in range(count):
-        on = (d[4] % 32 + i) % m
-        if d[88 + i] % 16 == 0 if on < n else d[88 + i] % 4 != 0:
-            is_open.add(on)
-    top = list(range(n))
+def joined(n, ends, order):
+    """Those of these branches whose ends the ones before have not joined yet."""
+    label, taken = list(range(n)), set()
+    for k in order:
+        a, b = (label[i] for i in ends[k])
+        if a != b:
+            label = [a if old == b else old for old in label]
+            taken.add(k)
+    return taken
 
-    def find(x):
-        while top[x] != x:
-            x = top[x]
-        return x
-    live = 0
-    for k in range(m):
-        if k in is_open or d[48 + k] % 16 == 0:
-            continue
-        live += 1
-        x = k + 1 if d[8 + k] % 16 != 0 and k + 1 < n else d[8 + k] // 16 % n
-        y = d[28 + k] % (k + 1) if k < n else d[28 + k] % n
-        top[find(x)] = find(y)
-    return live == n - 1 and len({find(x) for x in range(n)}) == 1
+
+def drawn_branches(draw, n):
+    """At most 20: mostly a tree over all buses, and others beside it, own loops and parallels among them. Each with its ends, whether it is
+    in service and whether it has a switch."""
+    ends = [(i, draw.randrange(i)) for i in range(1, n) if draw.random() < 0.99]
+    branches = [(pair, draw.random() < 0.99, draw.random() < 0.75) for pair in ends]
+    for _ in range(draw.randint(0, min(9, 20 - len(ends))) if n else 0):
+        i = draw.randrange(n)
+        pair = draw.choice([(i, i), (i, draw.randrange(n)), (i, draw.randrange(n)), draw.choice(ends or [(i, i)])])
+        branches.append((pair, draw.random() < 0.85, draw.random() < 0.97))
+    draw.shuffle(branches)
+    return [tuple(draw.sample(pair, 2)) for pair, _, _ in branches], [s for _, s, _ in branches], [k for k, b in enumerate(branches) if b[2]]
+
+
+def drawn_states(draw, n, ends, status, on):
+    """Every state of few switches. Of more: trees, what is one or two switches beside them, and any states."""
+    if len(on) <= 4:
+        return [''.join(digits) for digits in itertools.product('01', repeat=len(on))]
+    fixed = [k for k in range(len(ends)) if status[k] and k not in on]
+    moved = [k for k in on if status[k]]
+    states = set()
+    for _ in range(20):
+        tree = joined(n, ends, fixed + draw.sample(moved, len(moved)))
+        state = [draw.choice('01') if not status[k] else '01'[k not in tree] for k in on]
+        toggled = draw.sample(range(len(on)), draw.choice([1, 2, 2, 2]))
+        states |= {''.join(state), ''.join('10'[int(byte)] if i in toggled else byte for i, byte in enumerate(state))}
+    states |= {''.join(draw.choice('01') for _ in on) for _ in range(2)}
+    return sorted(states)
+
+
+def drawn(number, draw, beyond):
+    """A feeder of at most 12 buses and its states; so many records of each kind stand beyond those that the call is to list."""
+    n = draw.randint(0, 12)
+    ends, status, on = drawn_branches(draw, n)
+    draw.shuffle(on)
+    ids = draw.sample(range(65536), n + beyond)
+    all_ends = ends + [(draw.randrange(n + beyond), draw.randrange(n + beyond)) for _ in range(beyond)]
+    all_on = on + draw.sample([k for k in range(len(all_ends)) if k not in on], beyond)
+    lines = [head(n + beyond, len(all_ends), len(all_on))] + [bus(i) for i in ids]
+    lines += [branch(ids[a], ids[b], in_service) for (a, b), in_service in zip(all_ends, status + [True] * beyond)]
+    lines += [switch(i, k, draw.randrange(4)) for i, k in zip(draw.sample(range(65536), len(all_on)), all_on)]
+    change = 'three unlisted' if beyond else ''
+    for i, state in enumerate(drawn_states(draw, n, ends, status, on)):
+        case('d%d-%d' % (number, i), lines, state, RADIAL if is_radial(lines, state, change) else NOT, change)
+    malformed = ''.join(draw.choice('01') for _ in on)
+    malformed = draw.choice([malformed + '0', malformed + '010', malformed[:-1] + draw.choice('23F')])
+    case('d%d-malformed' % number, lines, malformed, (10, 0), change)
 
 
 def main():
-    for make in (marked, others, refusals):
+    for make in (marked, others, refusals, unlisted):
         make()
+    named = len(cases)
+    assert told_apart == set(WRONG), set(WRONG) - told_apart
+    draw = random.Random(5)
+    for number in range(FEEDERS):
+        drawn(number, draw, 3 if number % 4 == 0 else 0)
     names = [case[0] for case in cases]
     assert len(names) == len(set(names)), 'a name stands twice'
     os.makedirs(ROOT, exist_ok=True)
+    before = None
     with open(os.path.join(ROOT, 'stdin'), 'wb') as out:
-        for name, text, change, state, _ in cases:
+        for name, lines, change, state, _ in cases:
+            text = b'' if lines == before else ''.join(line + '\n' for line in lines).encode()
             out.write(b'%d %s\n' % (len(text), name.encode()) + text + b'\n' + ('%s %s\n' % (change, state)).encode())
-    radial = sum(is_radial(draws(i * 2654435761)) for i in range(ROUNDS))
+            before = lines
+        assert out.tell() <= 393216, 'the program has no room for the cases'
     with open(os.path.join(ROOT, 'stdout'), 'w') as out:
         for name, _, _, _, answer in cases:
             out.write('%s %s\n' % (name, answer))
-        out.write('compared %d\nradial %d\ndiffer 0\n' % (ROUNDS, radial))
-    print('%d cases' % len(cases))
+    answers = [answer for *_, answer in cases[named:]]
+    print('%d named cases; %d states of %d drawn feeders: %d radial, %d not, %d refused' % (
+        named, len(answers), FEEDERS, answers.count(RADIAL), answers.count(NOT), answers.count('10 0')))
 
 
 main()

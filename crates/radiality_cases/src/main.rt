@@ -1,10 +1,105 @@
-// Radiality: marked cases and refusals from standard input, then random feeders against labels.
-mod drawn;
-mod given;
-mod labels;
-mod rounds;
+// Radiality of the cases on standard input. A case is a line 'LENGTH NAME', a frame text, a line feed, and a line 'CHANGE STATE'. An empty text
+// stands for the feeder of the case before. CHANGE is a letter for a change of the records, a hyphen for none. STATE has a digit for each byte.
+mod changes;
+
+ghost use mathlib.Core.Path.{_≡_};
+ghost use Prim.Native.Nat.{_≤_};
+ghost use lib.ListN.{length};
+use cases::first_case;
+use cases::line_behind;
+use cases::part_of;
+use cases::state_bytes;
+use changes::changed;
+use libc::STDOUT_FILENO;
+use network::error::Verdict;
+use network::switch::ReconfigAlgorithm;
+use network::topology::PowerNetwork;
+use numbers::at_most;
+use radiality::radiality::Radiality;
+use radiality::radiality::verify_radiality;
+
+// The feeder of a case, and where the case ends.
+struct Done {
+    network: PowerNetwork,
+    to: usize,
+}
+
+fn print_radial(radial: bool) {
+    if !radial {
+        io::write_all(STDOUT_FILENO, b" not");
+    }
+    io::write_all(STDOUT_FILENO, b" radial\n");
+}
+
+fn print_refusal(number: u8, place: u16) {
+    io::write_all(STDOUT_FILENO, b" ");
+    io::print_decimal(STDOUT_FILENO, number as u64);
+    io::write_all(STDOUT_FILENO, b" ");
+    io::print_decimal(STDOUT_FILENO, place as u64);
+    io::write_all(STDOUT_FILENO, b"\n");
+}
+
+// The line has the change and the state.
+fn print_answer(network: PowerNetwork, line: &[u8]) {
+    if line.len() < 2 {
+        return;
+    }
+    let state = state_bytes(&line[2..]);
+    let n = at_most(line.len() - 2, 1024);
+    match verify_radiality(changed(network, line[0]), &state[0..n]) {
+        Radiality::Radial(radial) => print_radial(radial),
+        Radiality::Refused { number, place } => print_refusal(number, place),
+    }
+}
+
+// A text that the reader refuses is said to be no feeder: such a case is wrongly made.
+fn feeder(text: &[u8], before: PowerNetwork) -> PowerNetwork {
+    if text.len() == 0 {
+        return before;
+    }
+    let reading = frames::reader::read_text(text);
+    let verdict = reading.verdict;
+    let Verdict::Accepted = verdict else {
+        io::write_all(STDOUT_FILENO, b" no feeder");
+        return before;
+    };
+    reading.network
+}
+
+// Prints what comes of the first case.
+fn print_case(input: &[u8], before: PowerNetwork) -> Done
+    ensures { λ r. ⌜ r .to ≤ length (now (input .entry)) ⌝ }
+{
+    let case = first_case(input);
+    let line = line_behind(input, case.text.to);
+    io::write_all(STDOUT_FILENO, part_of(input, case.name));
+    let network = feeder(part_of(input, case.text), before);
+    print_answer(network, part_of(input, line));
+    Done {
+        network,
+        to: line.to,
+    }
+}
+
+fn print_cases(input: &[u8]) {
+    let mut network = PowerNetwork::new(1.0, ReconfigAlgorithm::BranchExchange, 100);
+    let mut at = 0usize;
+    while at < input.len() {
+        let done = print_case(&input[at..], network);
+        network = done.network;
+        at = at + done.to + 1;
+    }
+}
+
+// Room for all cases.
+fn buffer() -> [u8; 393216]
+    ensures { λ r. ⌜ 393216 ≡ length r ⌝ }
+{
+    [0; 393216]
+}
 
 fn main() {
-    given::print_input();
-    rounds::print_rounds();
+    let mut buffer = buffer();
+    let n = io::read_full(0, &mut buffer);
+    print_cases(&buffer[..n]);
 }

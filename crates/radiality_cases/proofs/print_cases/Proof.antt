@@ -2,32 +2,29 @@
 use Prim.Native.Nat.{_≤_, _+_, _-_}
 use lib.ListN.{length}
 use borrow.Author.Needs.{needs}
-use Rattle.plan_cases.proofs.given.print_cases.Statement.{statement}
-use Rattle.plan_cases.proofs.given.print_cases.Tie as tie
+use Rattle.radiality_cases.proofs.print_cases.Statement.{statement}
+use Rattle.radiality_cases.proofs.print_cases.Tie as tie
 
 abbrev Inv-loop : tie.InvT-loop
-Inv-loop input tally₀ at₀ tally at = at ≤ length input + 1
+Inv-loop input network₀ at₀ network at = at ≤ length input + 1
 
 abbrev μ-loop : tie.MeasureT-loop
-μ-loop input tally₀ at₀ tally at = length input + 1 - at
+μ-loop input network₀ at₀ network at = length input + 1 - at
 
-nothing-requires : tie.Need-nothing-requires Inv-loop μ-loop
-nothing-requires c κs = search needs
+new-requires : tie.Need-new-requires Inv-loop μ-loop
+new-requires c κs = search needs
 
 loop-holds : tie.Need-loop-holds Inv-loop μ-loop
 loop-holds c = search needs
 
-sub-rest : tie.Need-sub-rest Inv-loop μ-loop
-sub-rest c = search needs
+sub-print-case : tie.Need-sub-print-case Inv-loop μ-loop
+sub-print-case c = search needs
 
-part-rest-start : tie.Need-part-rest-start Inv-loop μ-loop
-part-rest-start c = search needs
+part-print-case-start : tie.Need-part-print-case-start Inv-loop μ-loop
+part-print-case-start c = search needs
 
-part-rest-end : tie.Need-part-rest-end Inv-loop μ-loop
-part-rest-end c = search needs
-
-parts-of-requires : tie.Need-parts-of-requires Inv-loop μ-loop
-parts-of-requires c κs = search needs
+part-print-case-end : tie.Need-part-print-case-end Inv-loop μ-loop
+part-print-case-end c = search needs
 
 print-case-requires : tie.Need-print-case-requires Inv-loop μ-loop
 print-case-requires c κs = search needs
@@ -53,12 +50,11 @@ print-cases-spec =
     (tie.spec
     Inv-loop
     μ-loop
-    nothing-requires
+    new-requires
     loop-holds
-    sub-rest
-    part-rest-start
-    part-rest-end
-    parts-of-requires
+    sub-print-case
+    part-print-case-start
+    part-print-case-end
     print-case-requires
     add-at
     add-at-2

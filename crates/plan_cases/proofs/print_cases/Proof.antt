@@ -2,14 +2,17 @@
 use Prim.Native.Nat.{_≤_, _+_, _-_}
 use lib.ListN.{length}
 use borrow.Author.Needs.{needs}
-use Rattle.radiality_cases.proofs.given.print_cases.Statement.{statement}
-use Rattle.radiality_cases.proofs.given.print_cases.Tie as tie
+use Rattle.plan_cases.proofs.print_cases.Statement.{statement}
+use Rattle.plan_cases.proofs.print_cases.Tie as tie
 
 abbrev Inv-loop : tie.InvT-loop
-Inv-loop input at₀ at = at ≤ length input + 1
+Inv-loop input network₀ at₀ network at = at ≤ length input + 1
 
 abbrev μ-loop : tie.MeasureT-loop
-μ-loop input at₀ at = length input + 1 - at
+μ-loop input network₀ at₀ network at = length input + 1 - at
+
+new-requires : tie.Need-new-requires Inv-loop μ-loop
+new-requires c κs = search needs
 
 loop-holds : tie.Need-loop-holds Inv-loop μ-loop
 loop-holds c = search needs
@@ -47,6 +50,7 @@ print-cases-spec =
     (tie.spec
     Inv-loop
     μ-loop
+    new-requires
     loop-holds
     sub-print-case
     part-print-case-start
