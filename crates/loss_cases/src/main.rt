@@ -11,14 +11,7 @@ use libc::STDOUT_FILENO;
 use losses::evaluation::LossAnswer;
 use losses::evaluation::evaluate_config;
 use network::error::Verdict;
-use network::topology::PowerNetwork;
-
-// The answer for a state of n bytes.
-fn answer(network: PowerNetwork, state: [u8; 1024], n: usize) -> LossAnswer
-    requires { ⌜ n ≤ 1024 ⌝ }
-{
-    evaluate_config(network, &state[0..n])
-}
+use numbers::at_most;
 
 // No loss is below zero or a NaN: such a one would print no bits.
 fn print_loss(loss: f64) {
@@ -53,10 +46,8 @@ fn print_text(text: &[u8], digits: &[u8]) {
         return;
     };
     let state = state_bytes(digits);
-    let network = reading.network;
-    if digits.len() <= 1024 {
-        print_answer(answer(network, state, digits.len()));
-    }
+    let n = at_most(digits.len(), 1024);
+    print_answer(evaluate_config(reading.network, &state[0..n]));
 }
 
 // Prints what comes of the first case, and answers where it ends.
