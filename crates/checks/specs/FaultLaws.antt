@@ -1,10 +1,10 @@
 -- A record's conditions where rows of ids and flags stand for the lists that they look at.
 use mathlib.Core.Path.{_≡_, refl, sym, ap, _∙_}
-use mathlib.Core.Bool.{Bool, true, false, cond, not, _&&_, _||_}
+use mathlib.Core.Bool.{Bool, true, false, cond, _&&_, _||_}
 use mathlib.Core.List.{List, [], _∷_, map}
 use Prim.Native.Nat.{ℕ, zero, suc, _+_, _≤_, _<_}
 use native.Mathlib.Omega.{arith}
-use lib.Dec.{eqb, leb, ltb, leb·suc-suc}
+use lib.Dec.{eqb, ltb, leb·suc-suc}
 use lib.ListN.{length, getD, take, set, length-map}
 use lib.Seq.{take-length}
 use borrow.Author.Tests.{lt-ltb, le-ltb, le-leb, leb-false, ltb-true, ltb-false}
@@ -17,11 +17,11 @@ use Rattle.network.specs.declared.switch.Switch.{Switch}
 use Rattle.network.specs.declared.switch.ReconfigAlgorithm.{ReconfigAlgorithm}
 use Rattle.network.specs.declared.error.Verdict.{Verdict}
 use Rattle.network.specs.declared.error.Verdict.the-variants.{Accepted}
-use Rattle.network.specs.Answers.{answerOf, Fault, _if_, judge}
+use Rattle.network.specs.Answers.{answerOf, Fault, judge}
 use Rattle.network.specs.AnswerLaws.{judge-iff, accepted-so}
 use Rattle.ids.specs.Ids.{rows, idRows, positionOf}
 use Rattle.ids.specs.IdLaws.{position-found}
-use Rattle.network.specs.Faults.{Head, okLoad, okR, among, busId, switchId, on, ties, methodByte, busFaults, branchFaults, switchFaults}
+use Rattle.network.specs.Faults.{Head, among, busId, switchId, on, ties, busRow, branchRow, switchRow, busFaults, branchFaults, switchFaults}
 use Rattle.checks.specs.Flags.{flags, flag-at, set-flag}
 
 -- an id stands before position i where its first position is below i
@@ -53,12 +53,12 @@ module _ {A : Type 0} (key : A → ℕ) (f : ℕ → A) (n : ℕ) (short : n ≤
       rw (r, ← keys-front i h) (among-front x (map key (table f n)) i (rw keys-long h))
 
 pub bus-faults : (before : List Bus) (b read : Bus) (twice : Bool) → read ≡ b → twice ≡ among (read .id) (map busId before)
-    → (5 if not (okLoad (read .pd .0))) ∷ (7 if twice) ∷ [] ≡ busFaults before b
+    → busRow read twice ≡ busFaults before b
 unfolding busFaults
 bus-faults before b read twice r e = rw (e, r)
 
 pub branch-faults : (buses : List Bus) (b read : Branch) (from to : Bool) → read ≡ b → from ≡ among (read .«from_bus») (map busId buses) → to ≡ among (read .«to_bus») (map busId buses)
-    → (5 if not (okR (read .r))) ∷ (6 if (not from || not to)) ∷ [] ≡ branchFaults buses b
+    → branchRow read from to ≡ branchFaults buses b
 unfolding branchFaults
 branch-faults buses b read from to r e g = rw (e, g, r)
 
@@ -73,20 +73,21 @@ flag-more key f i size seen x read r e h =
 pub switch-judged : (h : Head) (before : List Switch) (s : Switch) (branches : ℕ) (algorithm : ReconfigAlgorithm) (twice second : Bool) (taken : List Bool) (y t place : ℕ)
     → h .branches ≡ branches → h .algorithm ≡ algorithm → branches ≤ 512
     → twice ≡ among (s .id) (map switchId before) → second ≡ (ltb y 512 && getD taken y false) → taken ≡ flags 512 (map on before) → y ≡ s .«branch_idx» → t ≡ ties before
-    → judge ((6 if leb branches (s .«branch_idx»)) ∷ (7 if twice) ∷ (8 if second) ∷ (9 if (eqb (methodByte algorithm) 2 && (s .«normally_open» && leb 10 t))) ∷ []) place
-    ≡ judge (switchFaults h before s) place
+    → judge (switchRow s branches algorithm twice second t) place ≡ judge (switchFaults h before s) place
 unfolding switchFaults judge
 switch-judged h before s branches algorithm twice second taken y t place b m small e d f i q =
     rw (b, m, e, d, f, i, q) (go (ltb (s .«branch_idx») 512) refl)
   where
+    row : Bool → List Fault
+    row taken = switchRow s branches algorithm (among (s .id) (map switchId before)) taken (ties before)
+
     go : (k : Bool) → ltb (s .«branch_idx») 512 ≡ k
-        → judge ((6 if leb branches (s .«branch_idx»)) ∷ (7 if among (s .id) (map switchId before)) ∷ (8 if (ltb (s .«branch_idx») 512 && getD (flags 512 (map on before)) (s .«branch_idx») false))
-        ∷ (9 if (eqb (methodByte algorithm) 2 && (s .«normally_open» && leb 10 (ties before)))) ∷ []) place
-        ≡ judge ((6 if leb branches (s .«branch_idx»)) ∷ (7 if among (s .id) (map switchId before)) ∷ (8 if among (s .«branch_idx») (map on before))
-        ∷ (9 if (eqb (methodByte algorithm) 2 && (s .«normally_open» && leb 10 (ties before)))) ∷ []) place
+        → judge (row (ltb (s .«branch_idx») 512 && getD (flags 512 (map on before)) (s .«branch_idx») false)) place ≡ judge (row (among (s .«branch_idx») (map on before))) place
     go true k = rw (k, flag-at 512 (s .«branch_idx») (map on before) (ltb-true (s .«branch_idx») 512 k))
     go false k = rw (le-leb branches (s .«branch_idx») (let l = ltb-false (s .«branch_idx») 512 k in omega arith))
 
 -- a switch that passed is on a branch
-pub passed-below : (v : Verdict) (n x : ℕ) (rest : List Fault) (place : ℕ) → v ≡ Accepted → answerOf v ≡ judge ((6 if leb n x) ∷ rest) place → x < n
-passed-below v n x rest place a e = leb-false n x (judge-iff ((6 if leb n x) ∷ rest) place .0 (accepted-so a e) .0)
+pub passed-below : (v : Verdict) (s : Switch) (branches : ℕ) (algorithm : ReconfigAlgorithm) (twice second : Bool) (t place : ℕ)
+    → v ≡ Accepted → answerOf v ≡ judge (switchRow s branches algorithm twice second t) place → s .«branch_idx» < branches
+passed-below v s branches algorithm twice second t place a e =
+    leb-false branches (s .«branch_idx») (judge-iff (switchRow s branches algorithm twice second t) place .0 (accepted-so a e) .0)

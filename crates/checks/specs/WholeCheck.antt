@@ -1,27 +1,21 @@
 -- The check of a value that is handed over, part by part, in the numbers that the value has.
 use mathlib.Core.Path.{_≡_, ap, sym, _∙_}
-use mathlib.Core.Bool.{not, _||_}
-use mathlib.Core.List.{List, [], _∷_}
+use mathlib.Core.List.{List, []}
 use Prim.Native.Nat.{_+_, _≤_}
-use lib.Dec.{ltb}
 use Rattle.numbers.specs.TableLaws.{length-table}
 use Rattle.network.specs.declared.error.Verdict.{Verdict}
 use Rattle.network.specs.declared.error.Verdict.the-variants.{Accepted}
 use Rattle.network.specs.declared.topology.PowerNetwork.{PowerNetwork}
 use Rattle.network.specs.Records.{recordsOf}
-use Rattle.network.specs.Answers.{answerOf, _andThen_, Fault, _if_, judge}
+use Rattle.network.specs.Answers.{answerOf, _andThen_, Fault, judge}
 use Rattle.network.specs.AnswerLaws.{judge-iff, then-assoc}
-use Rattle.network.specs.Faults.{okBase, headFaults, busFaults, branchFaults, switchFaults}
+use Rattle.network.specs.Faults.{headRow, headFaults, busFaults, branchFaults, switchFaults}
 use Rattle.network.specs.Check.{headOf, checkRun, checkRecords}
 use Rattle.network.specs.InsideLaws.{head-iff}
 
 -- the head's conditions on the value's own counts
 abbrev headRows : PowerNetwork → List Fault
-headRows n =
-    (3 if ltb 1000 (n .«max_iterations»))
-    ∷ (4 if (ltb 256 (n .«bus_count») || ltb 512 (n .«branch_count») || ltb 512 (n .«switch_count»)))
-    ∷ (5 if not (okBase (n .«base_mva»)))
-    ∷ []
+headRows n = headRow (n .«bus_count») (n .«branch_count») (n .«switch_count») (n .«base_mva») (n .«max_iterations»)
 
 rows-are-faults : (n : PowerNetwork) → headRows n ≡ headFaults (headOf (recordsOf n))
 unfolding headFaults headOf recordsOf

@@ -62,33 +62,50 @@ unfoldable pub ties : List Switch → ℕ
 ties [] = 0
 ties (s ∷ ss) = cond (s .«normally_open») (suc (ties ss)) (ties ss)
 
--- ---- the table. Row 3 has "iterations over 1,000" alone: a record's method, status and flags always have a meaning
-unfoldable pub headFaults : Head → List Fault
-headFaults h =
-    (3 if ltb 1000 (h .iterations))
-    ∷ (4 if (ltb 256 (h .buses) || ltb 512 (h .branches) || ltb 512 (h .switches)))
-    ∷ (5 if not (okBase (h .base)))
+-- ---- the table's rows, each kind's conditions once. Row 3 has "iterations over 1,000" alone: a record's method, status and flags always have a meaning
+-- a head, from its counts of buses, branches and switches, its base_mva and its iterations
+abbrev pub headRow : ℕ → ℕ → ℕ → Float → ℕ → List Fault
+headRow buses branches switches base iterations =
+    (3 if ltb 1000 iterations)
+    ∷ (4 if (ltb 256 buses || ltb 512 branches || ltb 512 switches))
+    ∷ (5 if not (okBase base))
     ∷ []
+
+-- a bus; whether a bus before it has its id
+abbrev pub busRow : Bus → Bool → List Fault
+busRow b twice =
+    (5 if not (okLoad (b .pd .0)))
+    ∷ (7 if twice)
+    ∷ []
+
+-- a branch; whether a bus with the id of its from end is listed, and of its to end
+abbrev pub branchRow : Branch → Bool → Bool → List Fault
+branchRow b fromListed toListed =
+    (5 if not (okR (b .r)))
+    ∷ (6 if (not fromListed || not toListed))
+    ∷ []
+
+-- a switch; how many branches there are, the method, whether a switch before it has its id, whether one is on its branch, and how many before it are ties
+abbrev pub switchRow : Switch → ℕ → ReconfigAlgorithm → Bool → Bool → ℕ → List Fault
+switchRow s branches algorithm twice second tiesBefore =
+    (6 if leb branches (s .«branch_idx»))
+    ∷ (7 if twice)
+    ∷ (8 if second)
+    ∷ (9 if (eqb (methodByte algorithm) 2 && (s .«normally_open» && leb 10 tiesBefore)))
+    ∷ []
+
+-- ---- the same among the records of a network
+unfoldable pub headFaults : Head → List Fault
+headFaults h = headRow (h .buses) (h .branches) (h .switches) (h .base) (h .iterations)
 
 -- of a bus, with the buses before it
 unfoldable pub busFaults : List Bus → Bus → List Fault
-busFaults before b =
-    (5 if not (okLoad (b .pd .0)))
-    ∷ (7 if among (b .id) (map busId before))
-    ∷ []
+busFaults before b = busRow b (among (b .id) (map busId before))
 
 -- of a branch, with all buses
 unfoldable pub branchFaults : List Bus → Branch → List Fault
-branchFaults buses b =
-    (5 if not (okR (b .r)))
-    ∷ (6 if (not (among (b .«from_bus») (map busId buses)) || not (among (b .«to_bus») (map busId buses))))
-    ∷ []
+branchFaults buses b = branchRow b (among (b .«from_bus») (map busId buses)) (among (b .«to_bus») (map busId buses))
 
 -- of a switch, with the head and the switches before it
 unfoldable pub switchFaults : Head → List Switch → Switch → List Fault
-switchFaults h before s =
-    (6 if leb (h .branches) (s .«branch_idx»))
-    ∷ (7 if among (s .id) (map switchId before))
-    ∷ (8 if among (s .«branch_idx») (map on before))
-    ∷ (9 if (eqb (methodByte (h .algorithm)) 2 && (s .«normally_open» && leb 10 (ties before))))
-    ∷ []
+switchFaults h before s = switchRow s (h .branches) (h .algorithm) (among (s .id) (map switchId before)) (among (s .«branch_idx») (map on before)) (ties before)

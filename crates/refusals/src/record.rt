@@ -1,10 +1,9 @@
 // A line's refusals 3 to 9, from its record and what the records before it say of it.
 ghost use mathlib.Core.Path.{_≡_};
-ghost use mathlib.Core.Bool.{not, _&&_, _||_};
-ghost use mathlib.Core.List.{[], _∷_};
-ghost use lib.Dec.{eqb, leb, ltb};
-ghost use Rattle.network.specs.Answers.{answerOf, judge, _if_};
-ghost use Rattle.network.specs.Faults.{okBase, okLoad, okR, methodByte};
+ghost use mathlib.Core.Bool.{_&&_};
+ghost use lib.Dec.{eqb, leb};
+ghost use Rattle.network.specs.Answers.{answerOf, judge};
+ghost use Rattle.network.specs.Faults.{inRange, methodByte, headRow, busRow, branchRow, switchRow};
 use network::branch::Branch;
 use network::bus::Bus;
 use network::error::Verdict;
@@ -12,25 +11,11 @@ use network::switch::ReconfigAlgorithm;
 use network::switch::Switch;
 use network::topology::PowerNetwork;
 
-// base_mva from 0.001 to 1,000,000
-fn base_in_range(base_mva: f64) -> bool
-    ensures { λ r. ⌜ r ≡ okBase «base_mva» ⌝ }
+// Whether x lies between two ends, each allowed. A NaN or an infinity does not.
+fn in_range(x: f64, low: f64, high: f64) -> bool
+    ensures { λ r. ⌜ r ≡ inRange low high x ⌝ }
 {
-    base_mva >= 0.001 && base_mva <= 1000000.0
-}
-
-// pd within ±1,000,000
-fn load_in_range(pd: f64) -> bool
-    ensures { λ r. ⌜ r ≡ okLoad pd ⌝ }
-{
-    pd >= -1000000.0 && pd <= 1000000.0
-}
-
-// r from 0 to 1,000
-fn resistance_in_range(r: f64) -> bool
-    ensures { λ ok. ⌜ ok ≡ okR r ⌝ }
-{
-    r >= 0.0 && r <= 1000.0
+    x >= low && x <= high
 }
 
 // A head line's refusals, from its counts, base_mva and max_iterations.
@@ -42,10 +27,7 @@ pub fn judge_head(
     max_iterations: u16,
 ) -> Verdict
     ensures { λ r. ⌜ answerOf r ≡ judge
-        ((3 if ltb 1000 «max_iterations»)
-        ∷ (4 if (ltb 256 «bus_count» || ltb 512 «branch_count» || ltb 512 «switch_count»))
-        ∷ (5 if not (okBase «base_mva»))
-        ∷ []) 1 ⌝ }
+        (headRow «bus_count» «branch_count» «switch_count» «base_mva» «max_iterations») 1 ⌝ }
 {
     let place: u16 = 1;
     if max_iterations > PowerNetwork::MAX_ITERATIONS {
@@ -60,7 +42,8 @@ pub fn judge_head(
     if switch_count > PowerNetwork::MAX_SWITCHES {
         return Verdict::Refused { number: 4, place };
     }
-    if base_in_range(base_mva) {
+    // base_mva from 0.001 to 1,000,000
+    if in_range(base_mva, 0.001, 1000000.0) {
         return Verdict::Accepted;
     }
     Verdict::Refused { number: 5, place }
@@ -68,12 +51,10 @@ pub fn judge_head(
 
 // A bus line's refusals; `twice` says that a bus before it has its id.
 pub fn judge_bus(bus: Bus, twice: bool, place: u16) -> Verdict
-    ensures { λ r. ⌜ answerOf r ≡ judge
-        ((5 if not (okLoad (bus .pd .0)))
-        ∷ (7 if twice)
-        ∷ []) place ⌝ }
+    ensures { λ r. ⌜ answerOf r ≡ judge (busRow bus twice) place ⌝ }
 {
-    if !load_in_range(bus.pd.0) {
+    // pd within ±1,000,000
+    if !in_range(bus.pd.0, -1000000.0, 1000000.0) {
         return Verdict::Refused { number: 5, place };
     }
     if twice {
@@ -84,12 +65,10 @@ pub fn judge_bus(bus: Bus, twice: bool, place: u16) -> Verdict
 
 // A branch line's refusals; the flags say whether a bus with the id of each end is listed.
 pub fn judge_branch(branch: Branch, from_listed: bool, to_listed: bool, place: u16) -> Verdict
-    ensures { λ r. ⌜ answerOf r ≡ judge
-        ((5 if not (okR (branch .r)))
-        ∷ (6 if (not «from_listed» || not «to_listed»))
-        ∷ []) place ⌝ }
+    ensures { λ r. ⌜ answerOf r ≡ judge (branchRow branch «from_listed» «to_listed») place ⌝ }
 {
-    if !resistance_in_range(branch.r) {
+    // r from 0 to 1,000
+    if !in_range(branch.r, 0.0, 1000.0) {
         return Verdict::Refused { number: 5, place };
     }
     if !from_listed {
@@ -123,12 +102,7 @@ pub fn judge_switch(
     ties: u16,
     place: u16,
 ) -> Verdict
-    ensures { λ r. ⌜ answerOf r ≡ judge
-        ((6 if leb «branch_count» (switch .«branch_idx»))
-        ∷ (7 if twice)
-        ∷ (8 if second)
-        ∷ (9 if (eqb (methodByte algorithm) 2 && (switch .«normally_open» && leb 10 ties)))
-        ∷ []) place ⌝ }
+    ensures { λ r. ⌜ answerOf r ≡ judge (switchRow switch «branch_count» algorithm twice second ties) place ⌝ }
 {
     if switch.branch_idx >= branch_count {
         return Verdict::Refused { number: 6, place };

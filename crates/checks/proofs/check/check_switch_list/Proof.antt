@@ -87,7 +87,7 @@ below-512 c =
     let w = b .before .before .before .before in
     let loop = w .before .before .before in
     let a = loop .before .before .args in
-    let below : getD (a .t1) (loop .loop .i) noSwitch .«branch_idx» < a .branch-count = passed-below _ _ _ _ _ (c .enum-told .given .1) (b .judge-switch .ensures) in
+    let below : getD (a .t1) (loop .loop .i) noSwitch .«branch_idx» < a .branch-count = passed-below _ (getD (a .t1) (loop .loop .i) noSwitch) (a .branch-count) (a .algorithm) _ _ (loop .loop .ties) (loop .loop .place) (c .enum-told .given .1) (b .judge-switch .ensures) in
     omega (arith, w .wide16 .ensures .0)
 
 array-write-taken : tie.Need-array-write-taken Inv-loop μ-loop

@@ -2,6 +2,7 @@
 use borrow.Author.Needs.{needs}
 use borrow.Author.Tests.{lt-ltb, le-ltb}
 use Rattle.network.specs.Answers.{judge}
+use Rattle.network.specs.Faults.{okBase}
 use Rattle.refusals.proofs.record.judge_head.Statement.{statement}
 use Rattle.refusals.proofs.record.judge_head.Tie as tie
 
@@ -23,11 +24,11 @@ returns-4 c =
     let l = c .before in
     simp (le-ltb _ _ (l .before .before .if1 .left), le-ltb _ _ (l .before .if2 .left), le-ltb _ _ (l .if3 .left), lt-ltb _ _ (c .if4 .taken))
 
-base-in-range-requires : tie.Need-base-in-range-requires
-base-in-range-requires c κs = search needs
+in-range-requires : tie.Need-in-range-requires
+in-range-requires c κs = search needs
 
 returns-5 : tie.Need-returns-5
-unfolding judge
+unfolding judge okBase
 returns-5 c =
     let l = c .before .before in
     simp (
@@ -35,12 +36,12 @@ returns-5 c =
       le-ltb _ _ (l .before .before .if2 .left),
       le-ltb _ _ (l .before .if3 .left),
       le-ltb _ _ (l .if4 .left),
-      ← c .before .base-in-range .ensures,
+      ← c .before .in-range .ensures,
       c .if5 .taken,
     )
 
 returns-6 : tie.Need-returns-6
-unfolding judge
+unfolding judge okBase
 returns-6 c =
     let l = c .before .before in
     simp (
@@ -48,11 +49,11 @@ returns-6 c =
       le-ltb _ _ (l .before .before .if2 .left),
       le-ltb _ _ (l .before .if3 .left),
       le-ltb _ _ (l .if4 .left),
-      ← c .before .base-in-range .ensures,
+      ← c .before .in-range .ensures,
       c .if5 .left,
     )
 
 pub judge-head-spec : {M : Type 1} → statement M
 judge-head-spec =
     tie.close
-    (tie.spec returns returns-2 returns-3 returns-4 base-in-range-requires returns-5 returns-6)
+    (tie.spec returns returns-2 returns-3 returns-4 in-range-requires returns-5 returns-6)
