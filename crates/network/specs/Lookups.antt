@@ -9,6 +9,15 @@ use Rattle.network.specs.declared.bus.Bus.{Bus}
 use Rattle.network.specs.declared.topology.BusIndex.{BusIndex}
 use Rattle.network.specs.declared.topology.BusIndex.the-variants.{At, NotFound}
 use Rattle.network.specs.Faults.{busId}
+use Rattle.network.specs.Records.{Network}
+
+-- how many buses are listed
+unfoldable pub busCount : Network → ℕ
+busCount N = length (N .buses)
+
+-- how many branches are listed
+unfoldable pub branchCount : Network → ℕ
+branchCount N = length (N .branches)
 
 -- the first position of a bus with this id
 unfoldable pub busIndex : List Bus → ℕ → BusIndex

@@ -1,8 +1,8 @@
 // Translated and changed from src/network/topology.rs of oxigrid. Copyright 2024-2026 COOLJAPAN OU (Team Kitasan), Apache License 2.0.
 ghost use mathlib.Core.Path.{_≡_};
 ghost use lib.ListN.{take};
-ghost use Rattle.network.specs.Lookups.{busIndex};
-ghost use Rattle.network.specs.Records.{emptyNetwork};
+ghost use Rattle.network.specs.Lookups.{busCount, branchCount, busIndex};
+ghost use Rattle.network.specs.Records.{recordsOf, emptyNetwork};
 use crate::branch::Branch;
 use crate::bus::Bus;
 use crate::bus::Power;
@@ -77,21 +77,24 @@ impl PowerNetwork {
         }
     }
 
+    // How many buses are listed.
     pub fn bus_count(self) -> usize
-        ensures { λ r. ⌜ r ≡ self .«bus_count» ⌝ }
+        ensures { λ r. ⌜ r ≡ busCount (recordsOf self) ⌝ }
     {
         self.bus_count as usize
     }
 
+    // How many branches are listed.
     pub fn branch_count(self) -> usize
-        ensures { λ r. ⌜ r ≡ self .«branch_count» ⌝ }
+        ensures { λ r. ⌜ r ≡ branchCount (recordsOf self) ⌝ }
     {
         self.branch_count as usize
     }
 
-    // The first position of a listed bus with this id.
+    // The first position of a listed bus with this id. The array holds 256: where the count says more, the other records are empty ones that
+    // stand nowhere, and are not looked at.
     pub fn bus_index(self, bus_id: u16) -> BusIndex
-        ensures { λ r. ⌜ r ≡ busIndex (take (self .«bus_count») (self .buses)) «bus_id» ⌝ }
+        ensures { λ r. ⌜ r ≡ busIndex (take 256 (recordsOf self .buses)) «bus_id» ⌝ }
     {
         let count = at_most(self.bus_count as usize, PowerNetwork::MAX_BUSES as usize);
         let mut i: usize = 0;
