@@ -188,6 +188,11 @@ position-found l short ids first next e count x c =
     let h = rw (z, ← e) at (rows-held l short (length l) (omega arith)) in
     rw c (h .finds x (length l) (omega arith) ∙ zero-add (indexOf x l))
 
+-- so for what is found by following a row
+pub first-position : (ids first next : List ℕ) (count id : ℕ) {r : ℕ} → r ≡ positionOf ids first next count id
+    → (r ≡ positionOf ids first next count id) × ((l : List ℕ) → length l ≤ 512 → rows ids first next ≡ idRows l → count ≡ length l → r ≡ indexOf id l)
+first-position ids first next count id e = (e, λ l short q c. e ∙ position-found l short ids first next q count id c)
+
 -- ---- the rows of the last i of n positions, in the arrays of the code
 module _ (ids : List ℕ) (n : ℕ) where
   pub none-put : rows ids (replicate 256 512) (replicate 512 512) ≡ rowsFrom ids n 0

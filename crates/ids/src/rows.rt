@@ -1,10 +1,11 @@
 // Ids in rows: an id is looked up among the few that share its bucket.
 ghost use mathlib.Core.Path.{_≡_};
-ghost use mathlib.Core.List.{map};
-ghost use Prim.Native.Nat.{_≤_, _<_};
-ghost use lib.ListN.{take};
+ghost use mathlib.Core.List.{List, map};
+ghost use Prim.Native.Nat.{ℕ, _≤_, _<_};
+ghost use lib.ListN.{length, take};
+ghost use Rattle.numbers.specs.Choose.{indexOf};
 ghost use Rattle.network.specs.Faults.{busId, switchId};
-ghost use Rattle.ids.specs.Ids.{bucketOf, idArray, rowsOf, idRows, positionOf};
+ghost use Rattle.ids.specs.Ids.{bucketOf, idArray, rows, rowsOf, idRows, positionOf};
 use network::bus::Bus;
 use network::switch::Switch;
 use numbers::at_most;
@@ -84,7 +85,7 @@ pub fn switch_rows(switches: [Switch; 512], count: usize) -> IdRows
     rows_of(switch_ids(switches, n), n)
 }
 
-// The first position of an id among count ids in rows, and count where it has none.
+// The first position of an id among count ids in rows, and count where it has none. Rows of no list of ids are followed all the same, count steps at most.
 pub fn position_of<'a>(
     ids: &'a [u16; 512],
     first: &'a [u16; 256],
@@ -92,7 +93,9 @@ pub fn position_of<'a>(
     count: usize,
     id: u16,
 ) -> usize
-    ensures { λ r. ⌜ r ≡ positionOf (now (ids .entry)) (now (first .entry)) (now (next .entry)) count id ⌝ }
+    ensures { λ r. ⌜ (r ≡ positionOf (now (ids .entry)) (now (first .entry)) (now (next .entry)) count id)
+        × ((l : List ℕ) → length l ≤ 512 → rows (now (ids .entry)) (now (first .entry)) (now (next .entry)) ≡ idRows l → count ≡ length l
+        → r ≡ indexOf id l) ⌝ }
 {
     let row = bucket(id);
     let mut at = wide16(first[row]);
