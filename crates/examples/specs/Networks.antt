@@ -6,6 +6,7 @@ use Prim.Native.Nat.{ℕ, zero, suc}
 use lib.Ieee.{Float, binary64, ofBits, le, neg}
 use Rattle.numbers.specs.Choose.{indexOf}
 use Rattle.numbers.specs.UpTo.{table}
+use Rattle.numbers.specs.Every.{every}
 use Rattle.network.specs.declared.bus.Bus.{Bus}
 use Rattle.network.specs.declared.branch.Branch.{Branch}
 use Rattle.network.specs.declared.switch.Switch.{Switch}
@@ -16,7 +17,7 @@ use Rattle.network.specs.Records.{Network}
 use Rattle.network.specs.Answers.{accepted, refused, _andThen_, judge}
 use Rattle.network.specs.Faults.{okBase, okLoad, okR, among, ties, headFaults, busFaults, branchFaults, switchFaults}
 use Rattle.network.specs.Check.{headOf, checkRun, checkRecords}
-use Rattle.states.specs.Live.{each, checkState, openOn, live, baseState}
+use Rattle.states.specs.Live.{checkState, openOn, live, baseState}
 use Rattle.network.specs.Lookups.{busIndex}
 
 -- ---- the triangle
@@ -78,7 +79,7 @@ states :
     × (checkState triangle (0 ∷ 2 ∷ []) 0 ≡ refused 10 0)
     × (checkState triangle (0 ∷ []) 1 ≡ refused 10 1)
     × (checkState triangle (0 ∷ 1 ∷ 0 ∷ []) 1 ≡ refused 10 1)
-unfolding checkState judge each
+unfolding checkState judge every
 states = (refl, refl, refl, refl)
 
 lookups : (busIndex buses 3 ≡ At 2) × (busIndex buses 9 ≡ NotFound) × (busIndex (bus 1 0 ∷ bus 7 0 ∷ bus 7 0 ∷ []) 7 ≡ At 1)

@@ -9,6 +9,7 @@ use lib.ListN.{drop, replicate}
 use Rattle.numbers.specs.UpTo.{upTo}
 use Rattle.numbers.specs.Counts.{count}
 use Rattle.numbers.specs.Choose.{those, firstOf, indexOf}
+use Rattle.numbers.specs.Every.{every}
 use Rattle.network.specs.declared.bus.Bus.{Bus}
 use Rattle.network.specs.declared.branch.Branch.{Branch}
 use Rattle.network.specs.declared.switch.Switch.{Switch}
@@ -17,7 +18,7 @@ use Rattle.network.specs.Records.{Network}
 use Rattle.network.specs.Answers.{accepted, refused, _andThen_, judge}
 use Rattle.network.specs.Faults.{okBase, okLoad, okR, among, ties, headFaults, busFaults, branchFaults, switchFaults}
 use Rattle.network.specs.Check.{headOf, checkRun, checkRecords}
-use Rattle.states.specs.Live.{live, openOn, each, checkState, baseState}
+use Rattle.states.specs.Live.{live, openOn, checkState, baseState}
 use Rattle.states.specs.Switches.{State, byte}
 use Rattle.lines.specs.Hex.{digit, digits, writeFields}
 use Rattle.lines.specs.Frames.{frameText}
@@ -90,7 +91,7 @@ computed : (baseState triangle ≡ present)
     × (plan triangle present wanted ≡ record { closes = 11; opens = 10 } ∷ [])
     × (checkPlan row row-present row-wanted ≡ accepted tt)
     × (plan row row-present row-wanted ≡ record { closes = 20; opens = 23 } ∷ record { closes = 21; opens = 22 } ∷ [])
-unfolding triangle present wanted row row-present row-wanted bus branch switch le ofBits neg upTo those firstOf indexOf count _andThen_ judge okBase okLoad okR among ties headFaults busFaults branchFaults switchFaults headOf checkRun checkRecords live openOn each checkState baseState far neighbours reached enter enterAll turn walkBy walk byOf across Walk.back bfsPath radial position feeder radialIn closings pathBefore opening exchanged pairsFrom pairs switchOn plan checkRadial differing lockedDifferences checkLocked checkPlan
+unfolding triangle present wanted row row-present row-wanted bus branch switch le ofBits neg upTo those firstOf indexOf count _andThen_ judge okBase okLoad okR among ties headFaults busFaults branchFaults switchFaults headOf checkRun checkRecords live openOn every checkState baseState far neighbours reached enter enterAll turn walkBy walk byOf across Walk.back bfsPath radial position feeder radialIn closings pathBefore opening exchanged pairsFrom pairs switchOn plan checkRadial differing lockedDifferences checkLocked checkPlan
 computed = (refl, refl, refl, refl, refl)
 
 -- forward, forward (all done: none found), back, back (none done: none found), forward
@@ -127,5 +128,5 @@ calls :
     × (planned triangle (0 ∷ 0 ∷ []) (1 ∷ []) full ≡ record { answer = refused 10 1; out = full })
     × (planned triangle present (0 ∷ 0 ∷ []) full ≡ record { answer = refused 11 1; out = full })
     × (planned locked present wanted full ≡ record { answer = refused 12 10; out = full })
-unfolding locked full triangle present wanted bus branch switch le ofBits neg upTo those firstOf indexOf count _andThen_ judge okBase okLoad okR among ties headFaults busFaults branchFaults switchFaults headOf checkRun checkRecords live openOn each checkState baseState far neighbours reached enter enterAll turn walkBy walk byOf across Walk.back bfsPath radial position feeder radialIn closings pathBefore opening exchanged pairsFrom pairs switchOn plan checkRadial differing lockedDifferences checkLocked checkPlan flatMap written pairText frameText writeFields digits digit planText checkRoom called planned
+unfolding locked full triangle present wanted bus branch switch le ofBits neg upTo those firstOf indexOf count _andThen_ judge okBase okLoad okR among ties headFaults busFaults branchFaults switchFaults headOf checkRun checkRecords live openOn every checkState baseState far neighbours reached enter enterAll turn walkBy walk byOf across Walk.back bfsPath radial position feeder radialIn closings pathBefore opening exchanged pairsFrom pairs switchOn plan checkRadial differing lockedDifferences checkLocked checkPlan flatMap written pairText frameText writeFields digits digit planText checkRoom called planned
 calls = (refl, refl, refl, refl, refl, refl, refl, refl)

@@ -4,13 +4,14 @@ use mathlib.Core.List.{List, [], _∷_, _++_, flatMap}
 use mathlib.Core.Path.{_≡_, refl}
 use Prim.Native.Nat.{ℕ, zero, suc, _+_, _*_}
 use lib.Ieee.{binary64, ofBits, toBits, le, neg}
+use Rattle.numbers.specs.Every.{every}
 use Rattle.network.specs.declared.switch.ReconfigAlgorithm.the-variants.{BranchExchange}
 use Rattle.network.specs.Answers.{accepted, refused, _andThen_, judge}
 use Rattle.network.specs.Records.{Network}
 use Rattle.network.specs.Faults.{okBase, okLoad, okR, among, ties, headFaults, busFaults, branchFaults, switchFaults}
 use Rattle.network.specs.Check as check
 use Rattle.lines.specs.Hex.{isDigit, value, digit, number, digits, readFields, writeFields}
-use Rattle.lines.specs.Lines.{put, cut, every, lineFaults}
+use Rattle.lines.specs.Lines.{put, cut, lineFaults}
 use Rattle.lines.specs.Frames.{frameText}
 use Rattle.record_lines.specs.Kinds.{looks, fieldsOf, methodOf, readOne, without}
 use Rattle.frames.specs.Text.{follow, pure, readRun, readEnd, readLines, readText}

@@ -6,10 +6,11 @@ use Prim.Native.Nat.{ℕ, _%_, _^_, _≤_, _<_}
 use lib.Dec.{ltb, eqb, lit<, lit≤}
 use lib.ListN.{length}
 use borrow.Author.Tests.{le-ltb, eq-eqb, eqb-true, not-false}
+use Rattle.numbers.specs.Every.{every}
 use Rattle.network.specs.Answers.{accepted, Fault, judge}
 use Rattle.lines.specs.Hex.{isDigit, Fields, readFields, writeFields, Fit, total}
 use Rattle.lines.specs.HexLaws.{length-fields, every-fields, fields-kept, chars-kept}
-use Rattle.lines.specs.Lines.{Line, every, lineFaults}
+use Rattle.lines.specs.Lines.{Line, lineFaults}
 use Rattle.lines.specs.CutLaws.{Plain}
 use Rattle.lines.specs.JudgeLaws.{both, neither, judge-past, judge-passed}
 use Rattle.lines.specs.Frames.{Frame, layout}

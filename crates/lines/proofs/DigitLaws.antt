@@ -1,4 +1,4 @@
--- Digits one after the other: which bytes are digits, all of a row, and the number that those passed write.
+-- Digits one after the other: which bytes are digits, and the number that those passed write.
 use mathlib.Core.Path.{_≡_, refl, sym, ap, _∙_}
 use mathlib.Core.Bool.{true, false, and-false}
 use mathlib.Core.List.{List, [], _∷_, _++_}
@@ -8,11 +8,10 @@ use native.Mathlib.Nat.{pow-le-pow-right, pow-suc, zero-min, min-zero, suc-min-s
 use native.Mathlib.Numerals.{add-one}
 use lib.Dec.{lit<}
 use lib.ListN.{getD, length, take, drop, length-append, length-take, length-drop, drop-of-length-le}
-use lib.Seq.{take-suc, take-all, take-nil, drop-cons}
+use lib.Seq.{take-suc, take-all, take-nil}
 use borrow.Author.Tests.{le-leb, lt-leb}
 use Rattle.lines.specs.Hex.{isDigit, value, number, numberAt}
 use Rattle.lines.specs.HexLaws.{value-of, value-below}
-use Rattle.lines.specs.Lines.{every}
 use Rattle.lines.specs.PartLaws.{part-is}
 
 -- ---- one byte
@@ -42,32 +41,6 @@ module _ (c : ℕ) where
 
   pub value-high : 65 ≤ c → c < 71 → value c ≡ c - 55
   value-high h k = value-of c (digit-high h k) ∙ rw (lt-leb c 57 (omega arith))
-
--- ---- all of a row
--- the first i characters are digits
-pub record Passed (s : List ℕ) (i : ℕ) : Type 0 where
-  pub within : i ≤ length s
-  pub rest : every isDigit s ≡ every isDigit (drop i s)
-
-module _ (s : List ℕ) where
-  pub none-passed : Passed s 0
-  none-passed = record { within = omega arith; rest = refl }
-
-  module _ {i : ℕ} (p : Passed s i) where
-    next : i < length s → every isDigit s ≡ every isDigit (getD s i 0 ∷ drop (suc i) s)
-    next h = p .rest ∙ ap (every isDigit) (drop-cons s i 0 h)
-
-    pub other-passed : i < length s → isDigit (getD s i 0) ≡ false → every isDigit s ≡ false
-    unfolding every
-    other-passed h e = next h ∙ rw e
-
-    pub digit-passed : i < length s → isDigit (getD s i 0) ≡ true → Passed s (i + 1)
-    unfolding every
-    digit-passed h e = record { within = omega arith; rest = next h ∙ rw (e, add-one i) }
-
-    pub all-passed : length s ≤ i → every isDigit s ≡ true
-    unfolding every
-    all-passed h = p .rest ∙ ap (every isDigit) (drop-of-length-le s h)
 
 -- ---- the number
 number-snoc : (xs : List ℕ) (c : ℕ) → number (xs ++ (c ∷ [])) ≡ number xs * 16 + value c

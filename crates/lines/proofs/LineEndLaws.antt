@@ -9,8 +9,7 @@ use native.Mathlib.Numerals.{add-one}
 use lib.ListN.{length, take, drop, getD, length-drop}
 use lib.Seq.{take-suc, getD-drop}
 use borrow.Author.Tests.{ne-eqb}
-use Rattle.lines.specs.Lines.{every}
-use Rattle.lines.specs.HexLaws.{every-append}
+use Rattle.numbers.specs.Every.{every, every-append}
 use Rattle.lines.specs.CutLaws.{plain}
 use Rattle.lines.specs.FirstLine.{LineEnd}
 

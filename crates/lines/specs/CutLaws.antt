@@ -6,10 +6,11 @@ use Prim.Native.Nat.{ℕ}
 use lib.Dec.{eqb}
 use borrow.Author.Tests.{eqb-true, not-true}
 use Rattle.numbers.specs.Tests.{both}
+use Rattle.numbers.specs.Every.{every}
 use Rattle.network.specs.Inside.{Each}
 use Rattle.lines.specs.Hex.{isDigit}
 use Rattle.lines.specs.HexLaws.{digit-no-feed}
-use Rattle.lines.specs.Lines.{Line, put, cut, every}
+use Rattle.lines.specs.Lines.{Line, put, cut}
 
 -- the text of lines
 unfoldable pub joined : List Line → List ℕ

@@ -6,9 +6,10 @@ use mathlib.Core.Logic.{_⊎_}
 use Prim.Native.Nat.{ℕ, _≤_, _<_}
 use lib.Dec.{eqb}
 use lib.ListN.{length, take, getD}
+use Rattle.numbers.specs.Every.{every}
 use Rattle.network.specs.Answers.{Answer, accepted, refused, Fault, judge}
 use Rattle.lines.specs.Hex.{number}
-use Rattle.lines.specs.Lines.{Line, every, lineFaults}
+use Rattle.lines.specs.Lines.{Line, lineFaults}
 use Rattle.lines.specs.CutLaws.{plain}
 
 -- n characters stand before the first line feed or the end; or there are over 36, and n is 37

@@ -10,9 +10,10 @@ use lib.Dec.{ltb, eqb}
 use lib.ListN.{length, take, drop, getD, take-append-drop, length-drop, drop-of-length-le}
 use lib.Seq.{take-all, drop-cons, length-take-le}
 use borrow.Author.Tests.{lt-ltb, le-ltb, ltb-true, ltb-false, eq-eqb, ne-eqb, not-true, not-false}
+use Rattle.numbers.specs.Every.{every}
 use Rattle.network.specs.Answers.{accepted, refused, _andThen_, _if_, judge}
 use Rattle.lines.specs.Hex.{isDigit, number}
-use Rattle.lines.specs.Lines.{Line, put, cut, every, lineFaults}
+use Rattle.lines.specs.Lines.{Line, put, cut, lineFaults}
 use Rattle.lines.specs.JudgeLaws.{both, neither, no-refusal, judge-append, judge-passed}
 use Rattle.lines.specs.CutLaws.{plain, cut-ended, cut-unended, joined, joined-cut}
 use Rattle.lines.specs.FirstLine.{LineEnd, judgeFirst, characterFaults, wanted, judgeFrame, judgeEnd}

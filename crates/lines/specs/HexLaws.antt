@@ -12,8 +12,8 @@ use lib.ListN.{length, take, drop, length-append, take-append-drop, length-drop}
 use lib.Seq.{take-at, drop-at, length-take-le}
 use borrow.Author.Tests.{ltb-true, ltb-false, leb-true, le-leb, lt-leb, ne-eqb, lt-ltb, le-ltb}
 use Rattle.numbers.specs.Tests.{both, either}
+use Rattle.numbers.specs.Every.{every, every-append, every-take, every-drop}
 use Rattle.lines.specs.Hex.{isDigit, value, digit, number, digits, Fields, readFields, writeFields, Fit, total}
-use Rattle.lines.specs.Lines.{every}
 
 -- ---- one digit
 Low : ℕ → Type 0
@@ -79,24 +79,6 @@ digit-no-feed c e = go (kinds c e)
     go : Low c ⊎ High c → eqb c 10 ≡ false
     go (inl b) = ne-eqb c 10 (λ q. omega arith)
     go (inr b) = ne-eqb c 10 (λ q. omega arith)
-
--- ---- all digits
-pub every-append : (p : ℕ → Bool) (a b : List ℕ) → every p a ≡ true → every p b ≡ true → every p (a ++ b) ≡ true
-unfolding every
-every-append p [] b e f = f
-every-append p (x ∷ xs) b e f = let h = both (p x) (every p xs) e in rw (h .0) (every-append p xs b (h .1) f)
-
-pub every-take : (p : ℕ → Bool) (n : ℕ) (a : List ℕ) → every p a ≡ true → every p (take n a) ≡ true
-unfolding every
-every-take p zero a e = refl
-every-take p (suc n) [] e = refl
-every-take p (suc n) (x ∷ xs) e = let h = both (p x) (every p xs) e in rw (h .0) (every-take p n xs (h .1))
-
-pub every-drop : (p : ℕ → Bool) (n : ℕ) (a : List ℕ) → every p a ≡ true → every p (drop n a) ≡ true
-unfolding every
-every-drop p zero a e = e
-every-drop p (suc n) [] e = refl
-every-drop p (suc n) (x ∷ xs) e = every-drop p n xs (both (p x) (every p xs) e .1)
 
 -- ---- a number of w digits
 pub pow-pos : (w : ℕ) → 0 < 16 ^ w

@@ -1,9 +1,10 @@
 -- The lines of a text, and the refusals 1 and 2 of each.
-use mathlib.Core.Bool.{Bool, true, false, cond, not, _&&_, _||_}
+use mathlib.Core.Bool.{Bool, true, false, cond, not, _||_}
 use mathlib.Core.List.{List, [], _∷_}
 use Prim.Native.Nat.{ℕ, _%_}
 use lib.Dec.{ltb, eqb}
 use lib.ListN.{length}
+use Rattle.numbers.specs.Every.{every}
 use Rattle.network.specs.Answers.{Fault, _if_}
 use Rattle.lines.specs.Hex.{isDigit}
 
@@ -23,11 +24,8 @@ unfoldable pub cut : List ℕ → List Line
 cut [] = []
 cut (c ∷ t) = cond (eqb c 10) (record { chars = []; ended = true } ∷ cut t) (put c (cut t))
 
-unfoldable pub every : (ℕ → Bool) → List ℕ → Bool
-every p [] = true
-every p (c ∷ cs) = p c && every p cs
-
--- refusals 1 and 2 of a line; "a line over 36 characters is 2 whatever they are, ended or not"
+-- row 1, "unended line, odd digits, another character", and row 2, "wrong kind or length", of a line; "a line over 36 characters is 2 whatever they are,
+-- ended or not" comes first
 unfoldable pub lineFaults : Bool → Line → List Fault
 lineFaults asWanted l =
     (2 if ltb 36 (length (l .chars)))

@@ -2,8 +2,8 @@
 ghost use mathlib.Core.Path.{_≡_};
 ghost use Prim.Native.Nat.{_≤_};
 ghost use lib.ListN.{length};
+ghost use Rattle.numbers.specs.Every.{every};
 ghost use Rattle.lines.specs.Hex.{isDigit, value, number, numberAt};
-ghost use Rattle.lines.specs.Lines.{every};
 use numbers::at_most;
 
 // Is this '0' to '9' or 'A' to 'F'?

@@ -7,7 +7,8 @@ use Rattle.network.specs.declared.error.Verdict.the-variants.{Accepted, 
 
 pub data Answer (A : Type 0) : Type 0 where
   accepted : A → Answer A
-  refused : ℕ → ℕ → Answer A
+  -- document 01's refusal: its number, and its place: the line of a text or record, from 1; 0 or 1 for a state; a switch id for 12; 0 for 13
+  refused : (number place : ℕ) → Answer A
 
 -- document 01's number and place for each case of the code's verdict
 abbrev pub answerOf : Verdict → Answer (Unit {0})

@@ -6,6 +6,7 @@ pub mod ConstantLaws
 pub mod Parts
 pub mod TableLaws
 pub mod Tests
+pub mod Every
 pub mod CountLaws
 pub mod ChooseLaws
 pub mod Bounds

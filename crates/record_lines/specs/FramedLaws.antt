@@ -7,9 +7,10 @@ use native.Mathlib.Omega.{arith}
 use lib.Dec.{eqb}
 use lib.ListN.{length, take, drop}
 use borrow.Author.Tests.{eqb-true, not-false}
+use Rattle.numbers.specs.Every.{every}
 use Rattle.network.specs.Answers.{Answer, accepted, refused, _andThen_, Fault, judge}
 use Rattle.lines.specs.Hex.{isDigit, number, Fields, readFields, total}
-use Rattle.lines.specs.Lines.{Line, put, cut, every, lineFaults}
+use Rattle.lines.specs.Lines.{Line, put, cut, lineFaults}
 use Rattle.lines.specs.Frames.{Frame, layout}
 use Rattle.record_lines.specs.Kinds.{looks, fieldsOf, readOne, without}
 use Rattle.lines.specs.JudgeLaws.{Verdict, both, neither, no-refusal, judge-append, judge-passed}

@@ -10,6 +10,7 @@ use lib.ListN.{length, getD}
 use borrow.Author.Tests.{eqb-true, eq-eqb, leb-true, le-leb}
 use Rattle.numbers.specs.TableLaws.{length-table, getD-table}
 use Rattle.numbers.specs.Tests.{both}
+use Rattle.numbers.specs.Every.{every}
 use Rattle.network.specs.declared.switch.Switch.{Switch}
 use Rattle.network.specs.declared.topology.PowerNetwork.{PowerNetwork}
 use Rattle.network.specs.Records.{Network, noBranch, noSwitch, recordsOf}
@@ -19,7 +20,7 @@ use Rattle.network.specs.Check.{checkRecords}
 use Rattle.network.specs.Inside.{Inside}
 use Rattle.network.specs.InsideLaws.{check-inside}
 use Rattle.network.specs.Positions.{on-a-branch}
-use Rattle.states.specs.Live.{each, checkState}
+use Rattle.states.specs.Live.{checkState}
 use Rattle.states.specs.Switches.{State, byte, GoodState, switch}
 
 -- ---- the records of a value
@@ -67,10 +68,10 @@ module _ (n : PowerNetwork) where
       switch-small = omega (arith, switch-listed, few-branches)
 
 -- ---- states
-each-bytes : (s : State) → (each (λ b. leb b 1) s ≡ true) ↔ ((i : ℕ) → i < length s → byte s i ≤ 1)
-unfolding each
-each-bytes [] = (λ e i b. absurd (omega arith), λ h. refl)
-each-bytes (x ∷ s) = (λ e. fore (both (leb x 1) _ e .0) (each-bytes s .0 (both (leb x 1) _ e .1)), λ h. rw (le-leb x 1 (h 0 (omega arith)), each-bytes s .1 (λ i b. h (suc i) (omega arith))))
+every-byte : (s : State) → (every (λ b. leb b 1) s ≡ true) ↔ ((i : ℕ) → i < length s → byte s i ≤ 1)
+unfolding every
+every-byte [] = (λ e i b. absurd (omega arith), λ h. refl)
+every-byte (x ∷ s) = (λ e. fore (both (leb x 1) _ e .0) (every-byte s .0 (both (leb x 1) _ e .1)), λ h. rw (le-leb x 1 (h 0 (omega arith)), every-byte s .1 (λ i b. h (suc i) (omega arith))))
   where
     fore : leb x 1 ≡ true → ((i : ℕ) → i < length s → byte s i ≤ 1) → (i : ℕ) → i < length (x ∷ s) → byte (x ∷ s) i ≤ 1
     fore e h zero b = leb-true x 1 e
@@ -80,8 +81,8 @@ pub state-accepted : (N : Network) (s : State) (place : ℕ) → (checkState N s
 unfolding checkState
 state-accepted N s place = (
   λ e. fore (both _ _ (judge-accepted 10 _ place .0 e)),
-  λ h. judge-accepted 10 (eqb (length s) (length (N .switches)) && each (λ b. leb b 1) s) place .1 (rw (eq-eqb _ _ (h .long), each-bytes s .1 (λ i b. h .bytes i (omega (arith, h .long))))),
+  λ h. judge-accepted 10 (eqb (length s) (length (N .switches)) && every (λ b. leb b 1) s) place .1 (rw (eq-eqb _ _ (h .long), every-byte s .1 (λ i b. h .bytes i (omega (arith, h .long))))),
 )
   where
-    fore : (eqb (length s) (length (N .switches)) ≡ true) × (each (λ b. leb b 1) s ≡ true) → GoodState N s
-    fore h = let long : length s ≡ length (N .switches) = eqb-true _ _ (h .0) in record { long = long; bytes = λ i b. each-bytes s .0 (h .1) i (omega arith) }
+    fore : (eqb (length s) (length (N .switches)) ≡ true) × (every (λ b. leb b 1) s ≡ true) → GoodState N s
+    fore h = let long : length s ≡ length (N .switches) = eqb-true _ _ (h .0) in record { long = long; bytes = λ i b. every-byte s .0 (h .1) i (omega arith) }

@@ -1,9 +1,10 @@
 -- States of the switches, the live branches, and the base state.
-use mathlib.Core.Bool.{Bool, true, false, cond, not, _&&_, _||_}
+use mathlib.Core.Bool.{Bool, false, cond, not, _&&_, _||_}
 use mathlib.Core.List.{List, [], _∷_, map}
 use Prim.Native.Nat.{ℕ}
 use lib.Dec.{leb, eqb}
 use lib.ListN.{length, getD}
+use Rattle.numbers.specs.Every.{every}
 use Rattle.network.specs.declared.branch.Branch.{Branch}
 use Rattle.network.specs.declared.switch.Switch.{Switch}
 use Rattle.network.specs.Records.{Network, noBranch}
@@ -13,13 +14,9 @@ use Rattle.network.specs.Answers.{Answer, _if_, judge}
 abbrev pub stateByte : Bool → ℕ
 stateByte opened = cond opened 1 0
 
-unfoldable pub each : (ℕ → Bool) → List ℕ → Bool
-each p [] = true
-each p (b ∷ bs) = p b && each p bs
-
 -- refusal 10: "state isn't one byte 00 (closed) or 01 (open) for each switch"; place 0 for the present or only state, 1 for the wanted one
 unfoldable pub checkState : Network → List ℕ → ℕ → Answer (Unit {0})
-checkState N s place = judge ((10 if not (eqb (length s) (length (N .switches)) && each (λ b. leb b 1) s)) ∷ []) place
+checkState N s place = judge ((10 if not (eqb (length s) (length (N .switches)) && every (λ b. leb b 1) s)) ∷ []) place
 
 -- some open switch is on branch k
 unfoldable pub openOn : List Switch → List ℕ → ℕ → Bool

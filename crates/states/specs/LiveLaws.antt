@@ -8,8 +8,8 @@ use native.Mathlib.Decide.{ℕ-discrete}
 use native.Mathlib.Numerals.{add-one}
 use native.Mathlib.Omega.{arith}
 use lib.Dec.{eqb, ltb}
-use lib.ListN.{length, getD, take, drop, set, drop-of-length-le, length-set, length-take, length-map, List·getD-map, List·getD-eq-default, replicate}
-use lib.Seq.{getD-set-same, getD-set-other, take-suc, drop-cons}
+use lib.ListN.{length, getD, take, set, length-set, length-take, length-map, List·getD-map, List·getD-eq-default, replicate}
+use lib.Seq.{getD-set-same, getD-set-other, take-suc}
 use borrow.Author.Tests.{eq-eqb, ne-eqb, ltb-true, ltb-false}
 use Rattle.numbers.specs.UpTo.{table}
 use Rattle.numbers.specs.TableLaws.{length-table, getD-table, as-table, table-more, take-table, table-cong}
@@ -18,18 +18,8 @@ use Rattle.network.specs.declared.switch.Switch.{Switch}
 use Rattle.network.specs.declared.topology.PowerNetwork.{PowerNetwork}
 use Rattle.network.specs.Records.{Network, noBranch, noSwitch, listed, recordsOf, padded}
 use Rattle.network.specs.RecordLaws.{getD-padded, length-padded}
-use Rattle.states.specs.Live.{stateByte, each, openOn, live, liveBy, baseState}
+use Rattle.states.specs.Live.{stateByte, openOn, live, liveBy, baseState}
 use Rattle.states.specs.Configuration.{configurationOf}
-
--- ---- each byte of a state, by rising position
-module _ (p : ℕ → Bool) (s : List ℕ) (i : ℕ) where
-  pub each-next : i < length s → each p (drop i s) ≡ (p (getD s i 0) && each p (drop (i + 1) s))
-  unfolding each
-  each-next h = rw (drop-cons s i 0 h, add-one)
-
-  pub each-end : length s ≤ i → each p (drop i s) ≡ true
-  unfolding each
-  each-end h = rw (drop-of-length-le s {i = i} h)
 
 -- ---- one switch more
 open-more : (ws : List Switch) (bs : List ℕ) (w : Switch) (b k : ℕ) → length ws ≡ length bs

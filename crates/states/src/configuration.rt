@@ -3,10 +3,11 @@ ghost use mathlib.Core.Path.{_≡_};
 ghost use mathlib.Core.Bool.{false, not, _&&_};
 ghost use mathlib.Core.List.{[]};
 ghost use lib.Dec.{leb};
+ghost use Rattle.numbers.specs.Every.{every};
 ghost use Rattle.numbers.specs.UpTo.{table};
 ghost use Rattle.network.specs.Answers.{answerOf};
 ghost use Rattle.states.specs.Configuration.{configurationOf};
-ghost use Rattle.states.specs.Live.{stateByte, each, checkState, openOn, liveBy, live, baseState};
+ghost use Rattle.states.specs.Live.{stateByte, checkState, openOn, liveBy, live, baseState};
 ghost use Rattle.network.specs.Records.{noBranch, noSwitch, listed, recordsOf};
 use network::branch::Branch;
 use network::error::Verdict;
@@ -79,7 +80,7 @@ pub fn build_base_configuration(network: PowerNetwork) -> NetworkConfiguration
 
 // Whether each byte is closed or open.
 fn are_state_bytes(state: &[u8]) -> bool
-    ensures { λ r. ⌜ r ≡ each (λ b. leb b 1) (now (state .entry)) ⌝ }
+    ensures { λ r. ⌜ r ≡ every (λ b. leb b 1) (now (state .entry)) ⌝ }
 {
     let count = state.len();
     let mut i: usize = 0;

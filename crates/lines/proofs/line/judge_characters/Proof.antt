@@ -3,8 +3,8 @@ use mathlib.Core.Path.{sym, _∙_, ap}
 use native.Mathlib.Omega.{arith}
 use lib.ListN.{length-drop}
 use borrow.Author.Needs.{needs}
+use Rattle.numbers.specs.Every.{every}
 use Rattle.lines.specs.Hex.{isDigit}
-use Rattle.lines.specs.Lines.{every}
 use Rattle.lines.specs.FirstLineLaws.{long-refused, unended-refused, odd-refused, other-refused, digits-accepted}
 use Rattle.lines.specs.PartLaws.{part-is}
 use Rattle.lines.proofs.line.judge_characters.Statement.{statement}

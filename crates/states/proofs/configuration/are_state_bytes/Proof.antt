@@ -5,13 +5,12 @@ use lib.Dec.{leb}
 use lib.ListN.{drop}
 use borrow.Author.Needs.{needs}
 use borrow.Author.Tests.{le-leb, lt-leb}
-use Rattle.states.specs.Live.{each}
-use Rattle.states.specs.LiveLaws.{each-next, each-end}
+use Rattle.numbers.specs.Every.{every, every-next, every-end}
 use Rattle.states.proofs.configuration.are_state_bytes.Statement.{statement}
 use Rattle.states.proofs.configuration.are_state_bytes.Tie as tie
 
 abbrev Inv-loop : tie.InvT-loop
-Inv-loop state count i₀ i = (i ≤ count) × (each (λ b. leb b 1) state ≡ each (λ b. leb b 1) (drop i state))
+Inv-loop state count i₀ i = (i ≤ count) × (every (λ b. leb b 1) state ≡ every (λ b. leb b 1) (drop i state))
 
 abbrev μ-loop : tie.MeasureT-loop
 μ-loop state count i₀ i = count - i
@@ -25,7 +24,7 @@ shared-slice-read-if1 c = search needs
 returns : tie.Need-returns Inv-loop μ-loop
 returns c =
     let loop = c .before .before .before .loop in
-    sym (loop .inv .1 ∙ each-next _ _ (loop .i) (c .before .before .loop-test .taken) ∙ rw (lt-leb _ _ (c .if1 .taken)))
+    sym (loop .inv .1 ∙ every-next _ _ (loop .i) (c .before .before .loop-test .taken) ∙ rw (lt-leb _ _ (c .if1 .taken)))
 
 add-i : tie.Need-add-i Inv-loop μ-loop
 add-i c = search needs
@@ -36,10 +35,10 @@ loop-less c = search needs
 loop-again : tie.Need-loop-again Inv-loop μ-loop
 loop-again c =
     let loop = c .before .before .before .loop in
-    (search needs, loop .inv .1 ∙ each-next _ _ (loop .i) (c .before .before .loop-test .taken) ∙ rw (le-leb _ _ (c .if1 .left)))
+    (search needs, loop .inv .1 ∙ every-next _ _ (loop .i) (c .before .before .loop-test .taken) ∙ rw (le-leb _ _ (c .if1 .left)))
 
 returns-2 : tie.Need-returns-2 Inv-loop μ-loop
-returns-2 c = sym (c .before .loop .inv .1 ∙ each-end _ _ (c .before .loop .i) (c .loop-test .left))
+returns-2 c = sym (c .before .loop .inv .1 ∙ every-end _ _ (c .before .loop .i) (c .loop-test .left))
 
 pub are-state-bytes-spec : {M : Type 1} → statement M
 are-state-bytes-spec =
