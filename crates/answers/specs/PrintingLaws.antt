@@ -19,7 +19,6 @@ use Rattle.network.specs.InsideLaws.{check-inside}
 use Rattle.states.specs.Live.{baseState}
 use Rattle.frames.specs.Text.{readText}
 use Rattle.frames.specs.Claim.{claim}
-use Rattle.frames.specs.Early.{read-early}
 use Rattle.slices.specs.Written.{written}
 use Rattle.printing.specs.Printed.{answer, answerText, refusal, refusalText}
 use Rattle.printing.specs.Calls.{Call}
@@ -104,7 +103,7 @@ printed-short text = go (readText text) refl
 -- a program that reads 65,536 bytes of a longer text prints what the whole text would get
 pub printed-early : (text : List ℕ) → printed (take 65536 text) ≡ printed text
 unfolding printed
-printed-early text = ap printedOf (read-early 65536 text (lit≤ tt))
+printed-early text = ap printedOf (claim .early 65536 text (lit≤ tt))
 
 -- and so the count that is answered is never above that
 pub printed-count : (text out : List ℕ) {count : ℕ} {after : List ℕ} → record { answer = textAnswerOf (Printed count); out = after } ≡ answeredText text out → count ≤ 7472

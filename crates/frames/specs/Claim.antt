@@ -3,8 +3,7 @@
 use mathlib.Core.Path.{_≡_, ap, _∙_}
 use mathlib.Core.Logic.{_↔_}
 use mathlib.Core.List.{List}
-use Prim.Native.Nat.{ℕ}
-use lib.Dec.{lit≤}
+use Prim.Native.Nat.{ℕ, _≤_}
 use lib.ListN.{take, drop}
 use mir.Val.{Val}
 use denote.Laws.{Is}
@@ -43,8 +42,9 @@ pub record Claim : Type 0 where
   pub every-value : (n : PowerNetwork) (vs : List Val) → Is the-row n vs → Typed n
   -- so records that came from a text are not refused afterwards
   pub passed : (t : List ℕ) (N : Network) → readText t ≡ accepted N → checkRecords N ≡ accepted tt
-  -- a program that reads 32,768 bytes of a longer text gives the refusal that the whole text would get
-  pub early : (t : List ℕ) → readText (take 32768 t) ≡ readText t
+  -- the first 27,466 bytes decide: the longest acceptable text has 27,429. A program that reads so many or more of a longer text gives the refusal that the
+  -- whole text would get
+  pub early : (n : ℕ) (t : List ℕ) → 27466 ≤ n → readText (take n t) ≡ readText t
 
 acceptable : (t : List ℕ) (N : Network) → readText t ≡ accepted N → Acceptable t N
 acceptable t N e =
@@ -65,5 +65,5 @@ claim = record {
   handed-over = λ n t. read-written (recordsOf n) (typed-writable n t);
   every-value = value-typed;
   passed = λ t N e. accepted-written t N e .2;
-  early = λ t. read-early 32768 t (lit≤ tt);
+  early = read-early;
 }
