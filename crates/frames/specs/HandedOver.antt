@@ -1,13 +1,13 @@
--- Records handed over: what a value's fields say of the records that it lists, with nothing beyond its arrays, and that the value which holds records read from a text has such fields.
+-- Records handed over: what a value's fields say of the records that it lists, with nothing beyond its arrays.
 use mathlib.Core.List.{List, [], _∷_}
-use Prim.Native.Nat.{ℕ, zero, suc, _-_}
+use Prim.Native.Nat.{ℕ, zero, suc}
 use lib.Dec.{lit<}
 use lib.Ieee.{ofBits, fits}
-use lib.ListN.{length, getD, replicate}
+use lib.ListN.{getD}
 use Rattle.numbers.specs.UpTo.{table}
 use Rattle.numbers.specs.TableLaws.{length-table}
 use Rattle.network.specs.declared.topology.PowerNetwork.{PowerNetwork}
-use Rattle.network.specs.Records.{Network, noBus, noBranch, noSwitch, recordsOf, padded, networkOf}
+use Rattle.network.specs.Records.{noBus, noBranch, noSwitch, recordsOf}
 use Rattle.network.specs.Check.{headOf}
 use Rattle.network.specs.Inside.{Each}
 use Rattle.network.specs.Positions.{each-anywhere}
@@ -32,14 +32,6 @@ module _ {A : Type 0} (P : A → Type 0) (none : A) (p : P none) where
   each-listed l h zero = tt
   each-listed l h (suc n) = each-append P (table (λ i. getD l i none) n) (getD l n none ∷ []) (each-listed l h n) (each-anywhere P l none h p n, tt)
 
-  each-none : (n : ℕ) → Each P (replicate n none)
-  each-none zero = tt
-  each-none (suc n) = (p, each-none n)
-
-  each-padded : (size : ℕ) (l : List A) → Each P l → Each P (padded size none l)
-  unfolding padded
-  each-padded size l h = each-append P l (replicate (size - length l) none) h (each-none (size - length l))
-
 pub typed-writable : (n : PowerNetwork) → Typed n → Writable (recordsOf n)
 unfolding recordsOf headOf
 typed-writable n t = record {
@@ -47,15 +39,4 @@ typed-writable n t = record {
   bus-room = each-listed BusRoom noBus no-bus-room (n .buses) (t .buses) (n .«bus_count»);
   branch-room = each-listed BranchRoom noBranch no-branch-room (n .branches) (t .branches) (n .«branch_count»);
   switch-room = each-listed SwitchRoom noSwitch no-switch-room (n .switches) (t .switches) (n .«switch_count»);
-}
-
-pub writable-typed : (N : Network) → Writable N → Typed (networkOf N)
-unfolding networkOf headOf
-writable-typed N w = record {
-  counts = (w .head-room .0, w .head-room .1, w .head-room .2);
-  base = w .head-room .3;
-  iterations = w .head-room .4;
-  buses = each-padded BusRoom noBus no-bus-room 256 (N .buses) (w .bus-room);
-  branches = each-padded BranchRoom noBranch no-branch-room 512 (N .branches) (w .branch-room);
-  switches = each-padded SwitchRoom noSwitch no-switch-room 512 (N .switches) (w .switch-room);
 }
