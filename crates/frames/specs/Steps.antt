@@ -1,5 +1,5 @@
 -- What a loop over the lines of a kind needs of the reading pass: nothing read yet, one line more, and the line at which it stops. `cut-ended` and
--- `cut-unended`, in LineLaws, say where the next line of a text ends; `split`, in Split, joins the pass and the check of the records.
+-- `cut-unended`, in lines/specs/CutLaws, say where the next line of a text ends; `split`, in Split, joins the pass and the check of the records.
 use mathlib.Core.Path.{_≡_, refl, ap, _∙_}
 use mathlib.Core.List.{List, [], _∷_, _++_}
 use Prim.Native.Nat.{ℕ, zero, suc, _+_, _-_, _<_}

@@ -22,10 +22,12 @@ abbrev pub headWith : ℕ → ℕ → ℕ → Float → ℕ → ℕ → Head
 headWith buses branches switches base method iterations =
     record { buses = buses; branches = branches; switches = switches; base = base; algorithm = methodOf method; iterations = iterations }
 
+-- the head that the code makes
 abbrev pub headOfCode : Heads.Head → Head
 headOfCode h =
     record { buses = h .buses; branches = h .branches; switches = h .switches; base = h .«base_mva»; algorithm = h .algorithm; iterations = h .«max_iterations» }
 
+-- ---- document 01's number and place for each case of the code's answer
 abbrev pub headAnswer : HeadRead → Answer Head
 headAnswer (HeadReads.Made h) = accepted (headOfCode h)
 headAnswer (HeadReads.Refused number place) = refused number place
