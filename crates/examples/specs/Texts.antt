@@ -13,7 +13,7 @@ use Rattle.network.specs.Check as check
 use Rattle.lines.specs.Hex.{isDigit, value, digit, number, digits, readFields, writeFields}
 use Rattle.lines.specs.Lines.{put, cut, lineFaults}
 use Rattle.lines.specs.Frames.{frameText}
-use Rattle.record_lines.specs.Kinds.{looks, fieldsOf, methodOf, readOne, without}
+use Rattle.record_lines.specs.Kinds.{isFrame, fieldsOf, methodOf, readOne, without}
 use Rattle.frames.specs.Text.{follow, pure, readRun, readEnd, readLines, readText}
 use Rattle.frames.specs.Acceptable.{textOf}
 use Rattle.frames.specs.Conditions.{verdictOf}
@@ -64,7 +64,7 @@ triangle = record {
 }
 
 pub triangle-read : readText triangleText ≡ accepted triangle
-unfolding readText readLines readOne readRun readEnd without judge _andThen_ follow pure cut put every lineFaults looks fieldsOf methodOf number value digit digits isDigit readFields headFaults busFaults branchFaults switchFaults okBase okLoad okR among ties ofBits le neg
+unfolding readText readLines readOne readRun readEnd without judge _andThen_ follow pure cut put every lineFaults isFrame fieldsOf methodOf number value digit digits isDigit readFields headFaults busFaults branchFaults switchFaults okBase okLoad okR among ties ofBits le neg
 triangle-read = refl
 
 triangle-written : textOf triangle ≡ triangleText
@@ -86,7 +86,7 @@ minusZero = record {
 }
 
 minus-zero : (readText minusZeroText ≡ accepted minusZero) × (textOf minusZero ≡ minusZeroText)
-unfolding readText readLines readOne readRun readEnd without judge _andThen_ follow pure cut put every lineFaults looks fieldsOf methodOf number value digit digits isDigit readFields headFaults busFaults branchFaults switchFaults okBase okLoad okR among ties ofBits le neg textOf frameText flatMap check.headOf writeFields toBits
+unfolding readText readLines readOne readRun readEnd without judge _andThen_ follow pure cut put every lineFaults isFrame fieldsOf methodOf number value digit digits isDigit readFields headFaults busFaults branchFaults switchFaults okBase okLoad okR among ties ofBits le neg textOf frameText flatMap check.headOf writeFields toBits
 minus-zero = (refl, refl)
 
 -- ---- refused texts
@@ -113,7 +113,7 @@ table-rows :
     × refusedAs 6 4 (row 36 0x010002000100003FF0000000000000000064 ++ (row 22 0x0200010000000000000000 ++ (row 22 0x0200020000000000000000 ++ row 28 0x0300010009000000000000000000)))  -- end 0009 of buses 1 and 2
     × refusedAs 7 3 (headLine ++ (row 22 0x0200010000000000000000 ++ row 22 0x0200010000000000000000))  -- bus 0001 again
     × refusedAs 8 9 (headLine ++ (busLines ++ (branchLines ++ (row 12 0x04000A000002 ++ row 12 0x04000B000003))))  -- two switches on 0000
-unfolding readText readLines readOne readRun readEnd without judge _andThen_ follow pure cut put every lineFaults looks fieldsOf methodOf number value digit digits isDigit readFields headFaults busFaults branchFaults switchFaults okBase okLoad okR among ties ofBits le neg
+unfolding readText readLines readOne readRun readEnd without judge _andThen_ follow pure cut put every lineFaults isFrame fieldsOf methodOf number value digit digits isDigit readFields headFaults busFaults branchFaults switchFaults okBase okLoad okR among ties ofBits le neg
 table-rows = (refl, refl, refl, refl, refl, refl, refl, refl)
 
 -- the other conditions of these rows; lines that are long, odd, lower-case, not ended, missing or too many
@@ -147,7 +147,7 @@ other-lines :
     × refusedAs 1 10 (triangleText ++ (48 ∷ 71 ∷ 10 ∷ []))  -- a surplus line with another character
     × refusedAs 2 10 (triangleText ++ digits 37 0)  -- a surplus line over 36 characters
     × refusedAs 6 7 (headLine ++ (busLines ++ (row 28 0x03000100023FD000000000000001 ++ (row 28 0x03000200033FDC00000000000001 ++ (row 28 0x03000900033FC800000000000001 ++ (48 ∷ 71 ∷ []))))))  -- line 7 is at fault, and line 8 too
-unfolding readText readLines readOne readRun readEnd without judge _andThen_ follow pure cut put every lineFaults looks fieldsOf methodOf number value digit digits isDigit readFields headFaults busFaults branchFaults switchFaults okBase okLoad okR among ties ofBits le neg
+unfolding readText readLines readOne readRun readEnd without judge _andThen_ follow pure cut put every lineFaults isFrame fieldsOf methodOf number value digit digits isDigit readFields headFaults busFaults branchFaults switchFaults okBase okLoad okR among ties ofBits le neg
 other-lines = (refl, refl, refl, refl, refl, refl, refl, refl, refl, refl, refl, refl, refl, refl, refl, refl, refl, refl, refl, refl, refl, refl, refl, refl, refl, refl, refl, refl, refl)
 
 -- one line meets several conditions: the first of its list decides
@@ -162,7 +162,7 @@ priorities :
     × refusedAs 3 9 (lastLine (row 12 0x04000A000304))  -- flags 04, position 0003, switch 000A again
     × refusedAs 6 9 (lastLine (row 12 0x04000A000303))  -- position 0003, switch 000A again
     × refusedAs 7 9 (lastLine (row 12 0x04000A000103))  -- switch 000A again, on 0001 again
-unfolding readText readLines readOne readRun readEnd without judge _andThen_ follow pure cut put every lineFaults looks fieldsOf methodOf number value digit digits isDigit readFields headFaults busFaults branchFaults switchFaults okBase okLoad okR among ties ofBits le neg
+unfolding readText readLines readOne readRun readEnd without judge _andThen_ follow pure cut put every lineFaults isFrame fieldsOf methodOf number value digit digits isDigit readFields headFaults busFaults branchFaults switchFaults okBase okLoad okR among ties ofBits le neg
 priorities = (refl, refl, refl, refl, refl, refl, refl, refl, refl, refl)
 
 -- row 9: with method 02, ten ties pass, eleven are refused at the eleventh's line
@@ -178,5 +178,5 @@ abbrev manyTies : ℕ → List ℕ
 manyTies n = row 36 (0x010002000000003FF0000000000000020000 + n * 0x100010000000000000000000000) ++ (row 22 0x0200010000000000000000 ++ (row 22 0x0200020000000000000000 ++ (parallels n ++ tieLines n)))
 
 many-ties : (verdictOf (readText (manyTies 10)) ≡ accepted tt) × refusedAs 9 25 (manyTies 11)
-unfolding readText readLines readOne readRun readEnd without judge _andThen_ follow pure cut put every lineFaults looks fieldsOf methodOf number value digit digits isDigit readFields headFaults busFaults branchFaults switchFaults okBase okLoad okR among ties ofBits le neg verdictOf
+unfolding readText readLines readOne readRun readEnd without judge _andThen_ follow pure cut put every lineFaults isFrame fieldsOf methodOf number value digit digits isDigit readFields headFaults busFaults branchFaults switchFaults okBase okLoad okR among ties ofBits le neg verdictOf
 many-ties = (refl, refl)

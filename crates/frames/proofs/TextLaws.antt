@@ -10,7 +10,7 @@ use Rattle.network.specs.RecordLaws.{records-of-network}
 use Rattle.network.specs.Faults.{Head}
 use Rattle.frames.specs.declared.pass.Pass as Code
 use Rattle.lines.specs.Lines.{cut}
-use Rattle.record_lines.specs.Kinds.{head, headOf, headLineFaults, readOne, without}
+use Rattle.record_lines.specs.Kinds.{head, headFrom, headLineFaults, readOne, without}
 use Rattle.frames.specs.Text.{readText}
 use Rattle.frames.specs.Passes.{Collected, collect, afterHead, readTwice}
 use Rattle.frames.specs.ReadLaws.{head-passed}
@@ -23,14 +23,14 @@ pub holds-records : {c : Collected} {r : Code.Pass} → IsCollected c r → r .n
 holds-records {c} i = rw (i .network, records-of-network (c .network))
 
 module _ (t : List ℕ) where
-  pub head-refuses : {n p : ℕ} → refused n p ≡ without (readOne head headOf headLineFaults 1 (cut t)) → refused n p ≡ readText t
+  pub head-refuses : {n p : ℕ} → refused n p ≡ without (readOne head headFrom headLineFaults 1 (cut t)) → refused n p ≡ readText t
   unfolding readTwice afterHead
   head-refuses e = sym (split t ∙ ap afterHead (without-refused _ (sym e)))
 
-  module _ {h : Head} (e : accepted h ≡ without (readOne head headOf headLineFaults 1 (cut t))) where
+  module _ {h : Head} (e : accepted h ≡ without (readOne head headFrom headLineFaults 1 (cut t))) where
     pub body-asks : (37 ≤ length t) × (h .buses ≤ 256) × (h .branches ≤ 512) × (h .switches ≤ 512)
     body-asks =
-        let o = one-made head headOf headLineFaults 1 t (sym e) in
+        let o = one-made head headFrom headLineFaults 1 t (sym e) in
         let i = head-passed (cut t) _ (o .0) in
         (o .1, i .counts .0, i .counts .1, i .counts .2)
 
@@ -38,5 +38,5 @@ module _ (t : List ℕ) where
         → (checkRecords (recordsOf (r .network)) andThen answerOf (r .stopped) andThen accepted (recordsOf (r .network))) ≡ readText t
     unfolding readTwice afterHead
     text-settled i =
-        let o = one-made head headOf headLineFaults 1 t (sym e) in
+        let o = one-made head headFrom headLineFaults 1 t (sym e) in
         rw (i .network, i .stopped, records-of-network) (sym (split t ∙ ap afterHead (o .0)))

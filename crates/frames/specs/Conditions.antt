@@ -11,7 +11,7 @@ use Rattle.network.specs.Inside.{Each}
 use Rattle.lines.specs.Hex.{Fields}
 use Rattle.lines.specs.Lines.{Line, lineFaults}
 use Rattle.lines.specs.Frames.{Frame}
-use Rattle.record_lines.specs.Kinds.{head, bus, branch, switch, looks, fieldsOf, headOf, busOf, branchOf, switchOf, headLineFaults, busLineFaults, branchLineFaults, switchLineFaults}
+use Rattle.record_lines.specs.Kinds.{head, bus, branch, switch, isFrame, fieldsOf, headFrom, busFrom, branchFrom, switchFrom, headLineFaults, busLineFaults, branchLineFaults, switchLineFaults}
 
 -- "line missing": 2
 abbrev pub missing : List Fault
@@ -22,7 +22,7 @@ unfoldable pub kindConditions : {A : Type 0} → (F : Frame) → (Fields (F .wid
 kindConditions F make faults before zero ls = []
 kindConditions F make faults before (suc n) [] = missing ∷ []
 kindConditions F make faults before (suc n) (l ∷ ls) =
-    (lineFaults (looks F l) l ++ faults before (fieldsOf F l)) ∷ kindConditions F make faults (before ++ (make (fieldsOf F l) ∷ [])) n ls
+    (lineFaults (isFrame F l) l ++ faults before (fieldsOf F l)) ∷ kindConditions F make faults (before ++ (make (fieldsOf F l) ∷ [])) n ls
 
 -- of the first surplus line, if there is one
 unfoldable pub surplusConditions : List Line → List (List Fault)
@@ -31,7 +31,7 @@ surplusConditions (l ∷ ls) = lineFaults false l ∷ []
 
 -- the buses that the first lines behind the head write
 unfoldable pub busesOf : ℕ → List Line → List Bus
-busesOf n ls = map (λ l. busOf (fieldsOf bus l)) (take n ls)
+busesOf n ls = map (λ l. busFrom (fieldsOf bus l)) (take n ls)
 
 -- of the lines behind the head
 unfoldable pub bodyConditions : Head → List Line → List (List Fault)
@@ -39,14 +39,14 @@ bodyConditions h ls =
     let after-buses = drop (h .buses) ls in
     let after-branches = drop (h .branches) after-buses in
     let after-switches = drop (h .switches) after-branches in
-    kindConditions bus busOf busLineFaults [] (h .buses) ls
-    ++ (kindConditions branch branchOf (λ before. branchLineFaults (busesOf (h .buses) ls)) [] (h .branches) after-buses
-    ++ (kindConditions switch switchOf (switchLineFaults h) [] (h .switches) after-branches
+    kindConditions bus busFrom busLineFaults [] (h .buses) ls
+    ++ (kindConditions branch branchFrom (λ before. branchLineFaults (busesOf (h .buses) ls)) [] (h .branches) after-buses
+    ++ (kindConditions switch switchFrom (switchLineFaults h) [] (h .switches) after-branches
     ++ surplusConditions after-switches))
 
 unfoldable pub conditions : List Line → List (List Fault)
 conditions [] = missing ∷ []
-conditions (l ∷ ls) = (lineFaults (looks head l) l ++ headLineFaults (fieldsOf head l)) ∷ bodyConditions (headOf (fieldsOf head l)) ls
+conditions (l ∷ ls) = (lineFaults (isFrame head l) l ++ headLineFaults (fieldsOf head l)) ∷ bodyConditions (headFrom (fieldsOf head l)) ls
 
 -- the first line with a condition met decides, the first that it meets gives the number
 unfoldable pub judgeLines : ℕ → List (List Fault) → Answer (Unit {0})

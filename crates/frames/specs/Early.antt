@@ -11,7 +11,7 @@ use Rattle.network.specs.Answers.{Answer, accepted, refused, _andThen_, Fault, 
 use Rattle.lines.specs.Hex.{Fields, total}
 use Rattle.lines.specs.Lines.{Line, put, cut, lineFaults}
 use Rattle.lines.specs.Frames.{Frame, layout}
-use Rattle.record_lines.specs.Kinds.{head, bus, branch, switch, looks, fieldsOf, headOf, busOf, branchOf, switchOf, headLineFaults, busLineFaults, branchLineFaults, switchLineFaults, Reader, readOne, without}
+use Rattle.record_lines.specs.Kinds.{head, bus, branch, switch, isFrame, fieldsOf, headFrom, busFrom, branchFrom, switchFrom, headLineFaults, busLineFaults, branchLineFaults, switchLineFaults, Reader, readOne, without}
 use Rattle.frames.specs.Text.{follow, pure, readRun, readEnd, readLines, readText}
 use Rattle.lines.specs.JudgeLaws.{Verdict}
 use Rattle.frames.specs.LineLaws.{Sound, head-sound, bus-sound, branch-sound, switch-sound, line-kept, line-long}
@@ -92,14 +92,14 @@ module _ {A : Type 0} (F : Frame) (s : Sound F) (make : Fields (F .widths) → A
   unfolding readOne
   one-same faults p k n ls ms h₁ h₂ equal = alike-refl k n (omega arith) (readOne F make faults p ls)
   one-same faults p k n ls ms h₁ h₂ (next {l = l} {ls = ls′} {ms = ms′} j e t) =
-      then-alike (judge (lineFaults (looks F l) l ++ faults (fieldsOf F l)) p) k j (make (fieldsOf F l)) ls′ ms′ room t
+      then-alike (judge (lineFaults (isFrame F l) l ++ faults (fieldsOf F l)) p) k j (make (fieldsOf F l)) ls′ ms′ room t
     where
-      room : judge (lineFaults (looks F l) l ++ faults (fieldsOf F l)) p ≡ accepted tt → k ≤ j
+      room : judge (lineFaults (isFrame F l) l ++ faults (fieldsOf F l)) p ≡ accepted tt → k ≤ j
       room q =
           let size : length (l .chars) ≡ total (layout F) = ap (λ (x : Line). length (x .chars)) (line-kept F s l (faults (fieldsOf F l)) p q .0) ∙ line-long F s (fieldsOf F l) in
           omega arith
   one-same faults p k n ls ms h₁ h₂ (long {l = l} {m = m} a b) =
-      both-long k p _ _ (long-refused (looks F l) l (faults (fieldsOf F l)) p n _ h₁ a) (long-refused (looks F m) m (faults (fieldsOf F m)) p n _ h₁ b)
+      both-long k p _ _ (long-refused (isFrame F l) l (faults (fieldsOf F l)) p n _ h₁ a) (long-refused (isFrame F m) m (faults (fieldsOf F m)) p n _ h₁ b)
   one-same faults p k n ls ms h₁ h₂ (out e) = absurd (omega arith)
 
   run-same : (faults : List A → Fields (F .widths) → List Fault) (before : List A) (m p k n : ℕ) (ls ms : List Line) → 37 ≤ k → m * suc (total (layout F)) + k ≤ n → Same n ls ms
@@ -121,17 +121,17 @@ end-same p n ls ms h (out e) = absurd (omega arith)
 lines-same : (n : ℕ) (ls ms : List Line) → 27466 ≤ n → Same n ls ms → Alike 0 (readLines ls) (readLines ms)
 unfolding readLines pure
 lines-same n ls ms h t =
-    follow-alike 27429 0 _ _ _ (one-same head head-sound headOf headLineFaults 1 27429 n ls ms (omega arith) (omega arith) t)
+    follow-alike 27429 0 _ _ _ (one-same head head-sound headFrom headLineFaults 1 27429 n ls ms (omega arith) (omega arith) t)
     λ hd n₀ ls₀ ms₀ e₀ g₀ t₀.
     let c = head-passed ls (hd, ls₀) e₀ .counts in
     let room : hd .buses * 23 + (hd .branches * 29 + (hd .switches * 13 + 37)) ≤ 27429 = omega (arith, c .0, c .1, c .2) in
     follow-alike (hd .branches * 29 + (hd .switches * 13 + 37)) 0 _ _ _
-    (run-same bus bus-sound busOf busLineFaults [] (hd .buses) 2 (hd .branches * 29 + (hd .switches * 13 + 37)) n₀ ls₀ ms₀ (omega arith) (omega arith) t₀)
+    (run-same bus bus-sound busFrom busLineFaults [] (hd .buses) 2 (hd .branches * 29 + (hd .switches * 13 + 37)) n₀ ls₀ ms₀ (omega arith) (omega arith) t₀)
     λ buses n₁ ls₁ ms₁ e₁ g₁ t₁.
     follow-alike (hd .switches * 13 + 37) 0 _ _ _
-    (run-same branch branch-sound branchOf (λ before. branchLineFaults buses) [] (hd .branches) (2 + hd .buses) (hd .switches * 13 + 37) n₁ ls₁ ms₁ (omega arith) (omega arith) t₁)
+    (run-same branch branch-sound branchFrom (λ before. branchLineFaults buses) [] (hd .branches) (2 + hd .buses) (hd .switches * 13 + 37) n₁ ls₁ ms₁ (omega arith) (omega arith) t₁)
     λ branches n₂ ls₂ ms₂ e₂ g₂ t₂.
-    follow-alike 37 0 _ _ _ (run-same switch switch-sound switchOf (switchLineFaults hd) [] (hd .switches) (2 + hd .buses + hd .branches) 37 n₂ ls₂ ms₂ (omega arith) (omega arith) t₂)
+    follow-alike 37 0 _ _ _ (run-same switch switch-sound switchFrom (switchLineFaults hd) [] (hd .switches) (2 + hd .buses + hd .branches) 37 n₂ ls₂ ms₂ (omega arith) (omega arith) t₂)
     λ switches n₃ ls₃ ms₃ e₃ g₃ t₃.
     follow-alike 0 0 _ _ _ (end-same (2 + hd .buses + hd .branches + hd .switches) n₃ ls₃ ms₃ g₃ t₃)
     λ u n₄ ls₄ ms₄ e₄ g₄ t₄. both-accepted n₄ g₄ t₄

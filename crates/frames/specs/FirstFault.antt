@@ -14,7 +14,7 @@ use Rattle.network.specs.Faults.{Head}
 use Rattle.lines.specs.Hex.{Fields}
 use Rattle.lines.specs.Lines.{Line, cut, lineFaults}
 use Rattle.lines.specs.Frames.{Frame}
-use Rattle.record_lines.specs.Kinds.{head, bus, branch, switch, looks, fieldsOf, headOf, busOf, branchOf, switchOf, headLineFaults, busLineFaults, branchLineFaults, switchLineFaults, readOne, without}
+use Rattle.record_lines.specs.Kinds.{head, bus, branch, switch, isFrame, fieldsOf, headFrom, busFrom, branchFrom, switchFrom, headLineFaults, busLineFaults, branchLineFaults, switchLineFaults, readOne, without}
 use Rattle.frames.specs.Text.{follow, _>>=_, pure, readRun, readEnd, readLines, readText}
 use Rattle.lines.specs.JudgeLaws.{Verdict}
 use Rattle.record_lines.specs.VerdictLaws.{without-then}
@@ -36,7 +36,7 @@ module _ {A : Type 0} (F : Frame) (make : Fields (F .widths) → A) (faults : Li
   run-judged zero before p ls = refl
   run-judged (suc n) before p [] = refl
   run-judged (suc n) before p (l ∷ ls) =
-      let c : List Fault = lineFaults (looks F l) l ++ faults before (fieldsOf F l) in
+      let c : List Fault = lineFaults (isFrame F l) l ++ faults before (fieldsOf F l) in
       let v : Verdict = judgeLines (suc p) (kindConditions F make faults (before ++ (made l ∷ [])) n ls) in
       go-on (judge c p) (made l, ls) (λ a. readRun F make faults (before ++ (a ∷ [])) n (suc p) >>= λ rest. pure (a ∷ rest)) refl
       ∙ ap (λ x. judge c p andThen x) (go-on v (map made (take n ls), drop n ls) (λ rest. pure (made l ∷ rest)) (run-judged n (before ++ (made l ∷ [])) (suc p) ls))
@@ -48,7 +48,7 @@ module _ {A : Type 0} (F : Frame) (make : Fields (F .widths) → A) (faults : Li
   run-append zero before p ls rest = ap (λ (q : ℕ). judgeLines q rest) (omega arith)
   run-append (suc n) before p [] rest = refl
   run-append (suc n) before p (l ∷ ls) rest =
-      let c : List Fault = lineFaults (looks F l) l ++ faults before (fieldsOf F l) in
+      let c : List Fault = lineFaults (isFrame F l) l ++ faults before (fieldsOf F l) in
       let v : Verdict = judgeLines (suc p) (kindConditions F make faults (before ++ (made l ∷ [])) n ls) in
       let e : suc p + n ≡ p + suc n = omega arith in
       ap (λ x. judge c p andThen x) (run-append n (before ++ (made l ∷ [])) (suc p) ls rest ∙ ap (λ (q : ℕ). v andThen judgeLines q rest) e)
@@ -66,30 +66,30 @@ body-judged h ls =
     let l₂ : List Line = drop (h .branches) l₁ in
     let l₃ : List Line = drop (h .switches) l₂ in
     let buses : List Bus = busesOf (h .buses) ls in
-    let branches : List Branch = map (λ l. branchOf (fieldsOf branch l)) (take (h .branches) l₁) in
-    let switches : List Switch = map (λ l. switchOf (fieldsOf switch l)) (take (h .switches) l₂) in
+    let branches : List Branch = map (λ l. branchFrom (fieldsOf branch l)) (take (h .branches) l₁) in
+    let switches : List Switch = map (λ l. switchFrom (fieldsOf switch l)) (take (h .switches) l₂) in
     let N : Network = network h buses branches switches in
     let end : Answer (Network × List Line) = accepted (N, drop 1 l₃) in
     let p₂ : ℕ = 2 + h .buses in
     let p₃ : ℕ = p₂ + h .branches in
     let p₄ : ℕ = p₃ + h .switches in
-    let c₁ : List (List Fault) = kindConditions bus busOf busLineFaults [] (h .buses) ls in
-    let c₂ : List (List Fault) = kindConditions branch branchOf (λ before. branchLineFaults buses) [] (h .branches) l₁ in
-    let c₃ : List (List Fault) = kindConditions switch switchOf (switchLineFaults h) [] (h .switches) l₂ in
+    let c₁ : List (List Fault) = kindConditions bus busFrom busLineFaults [] (h .buses) ls in
+    let c₂ : List (List Fault) = kindConditions branch branchFrom (λ before. branchLineFaults buses) [] (h .branches) l₁ in
+    let c₃ : List (List Fault) = kindConditions switch switchFrom (switchLineFaults h) [] (h .switches) l₂ in
     let c₄ : List (List Fault) = surplusConditions l₃ in
     let v₁ : Verdict = judgeLines 2 c₁ in
     let v₂ : Verdict = judgeLines p₂ c₂ in
     let v₃ : Verdict = judgeLines p₃ c₃ in
     let v₄ : Verdict = judgeLines p₄ c₄ in
     let read : behindHead h ls ≡ (v₁ andThen (v₂ andThen (v₃ andThen (v₄ andThen end)))) =
-    go-on v₁ (buses, l₁) (behindBuses h) (run-judged bus busOf busLineFaults (h .buses) [] 2 ls)
-    ∙ ap (λ x. v₁ andThen x) (go-on v₂ (branches, l₂) (behindBranches h buses) (run-judged branch branchOf (λ before. branchLineFaults buses) (h .branches) [] p₂ l₁)
-    ∙ ap (λ x. v₂ andThen x) (go-on v₃ (switches, l₃) (behindSwitches h buses branches) (run-judged switch switchOf (switchLineFaults h) (h .switches) [] p₃ l₂)
+    go-on v₁ (buses, l₁) (behindBuses h) (run-judged bus busFrom busLineFaults (h .buses) [] 2 ls)
+    ∙ ap (λ x. v₁ andThen x) (go-on v₂ (branches, l₂) (behindBranches h buses) (run-judged branch branchFrom (λ before. branchLineFaults buses) (h .branches) [] p₂ l₁)
+    ∙ ap (λ x. v₂ andThen x) (go-on v₃ (switches, l₃) (behindSwitches h buses branches) (run-judged switch switchFrom (switchLineFaults h) (h .switches) [] p₃ l₂)
     ∙ ap (λ x. v₃ andThen x) (go-on v₄ (tt {0}, drop 1 l₃) _ (end-judged p₄ l₃)))) in
     let judged : judgeLines 2 (bodyConditions h ls) ≡ (v₁ andThen (v₂ andThen (v₃ andThen v₄))) =
-    run-append bus busOf busLineFaults (h .buses) [] 2 ls (c₂ ++ (c₃ ++ c₄))
-    ∙ ap (λ x. v₁ andThen x) (run-append branch branchOf (λ before. branchLineFaults buses) (h .branches) [] p₂ l₁ (c₃ ++ c₄)
-    ∙ ap (λ x. v₂ andThen x) (run-append switch switchOf (switchLineFaults h) (h .switches) [] p₃ l₂ c₄)) in (
+    run-append bus busFrom busLineFaults (h .buses) [] 2 ls (c₂ ++ (c₃ ++ c₄))
+    ∙ ap (λ x. v₁ andThen x) (run-append branch branchFrom (λ before. branchLineFaults buses) (h .branches) [] p₂ l₁ (c₃ ++ c₄)
+    ∙ ap (λ x. v₂ andThen x) (run-append switch switchFrom (switchLineFaults h) (h .switches) [] p₃ l₂ c₄)) in (
       (N, drop 1 l₃),
       read
           ∙ ap (λ x. v₁ andThen (v₂ andThen x)) (then-then v₃ v₄ end)
@@ -102,8 +102,8 @@ lines-judged : (ls : List Line) → verdictOf (without (readLines ls)) ≡ judge
 unfolding readLines readOne conditions judgeLines judge follow without verdictOf _andThen_
 lines-judged [] = refl
 lines-judged (l ∷ ls) =
-    let h : Head = headOf (fieldsOf head l) in
-    let v : Verdict = judge (lineFaults (looks head l) l ++ headLineFaults (fieldsOf head l)) 1 in
+    let h : Head = headFrom (fieldsOf head l) in
+    let v : Verdict = judge (lineFaults (isFrame head l) l ++ headLineFaults (fieldsOf head l)) 1 in
     let b = body-judged h ls in
     let w : Verdict = judgeLines 2 (bodyConditions h ls) in
     ap (λ x. verdictOf (without x)) (lines-read (l ∷ ls) ∙ go-on v (h, ls) behindHead refl ∙ ap (λ x. v andThen x) (b .1) ∙ then-then v w (accepted (b .0)))

@@ -5,16 +5,16 @@ use mathlib.Core.List.{List, _++_}
 use Prim.Native.Nat.{ℕ, _%_, _^_, _≤_, _<_}
 use lib.Dec.{ltb, eqb, lit<, lit≤}
 use lib.ListN.{length}
-use borrow.Author.Tests.{le-ltb, eq-eqb, eqb-true, not-false}
+use borrow.Author.Tests.{le-ltb, eq-eqb, eqb-true}
 use Rattle.numbers.specs.Every.{every}
 use Rattle.network.specs.Answers.{accepted, Fault, judge}
 use Rattle.lines.specs.Hex.{isDigit, Fields, readFields, writeFields, Fit, total}
 use Rattle.lines.specs.HexLaws.{length-fields, every-fields, fields-kept, chars-kept}
 use Rattle.lines.specs.Lines.{Line, lineFaults}
 use Rattle.lines.specs.CutLaws.{Plain}
-use Rattle.lines.specs.JudgeLaws.{both, neither, judge-past, judge-passed}
+use Rattle.lines.specs.JudgeLaws.{both, judge-past, line-passed}
 use Rattle.lines.specs.Frames.{Frame, layout}
-use Rattle.record_lines.specs.Kinds.{head, bus, branch, switch, looks, fieldsOf}
+use Rattle.record_lines.specs.Kinds.{head, bus, branch, switch, isFrame, fieldsOf}
 
 -- ---- lines of a kind
 pub record Sound (F : Frame) : Type 0 where
@@ -55,12 +55,12 @@ module _ (F : Frame) (s : Sound F) where
   unfolding fieldsOf
   fields-line f h = ap (λ (g : Fields (layout F)). g .1) (line-fields f h)
 
-  looks-line : (f : Fields (F .widths)) → Fit (F .widths) f → looks F (lineOf F f) ≡ true
-  unfolding looks
-  looks-line f h = rw (eq-eqb _ _ (line-long f), eq-eqb _ _ (ap (λ (g : Fields (layout F)). g .0) (line-fields f h)))
+  line-is-frame : (f : Fields (F .widths)) → Fit (F .widths) f → isFrame F (lineOf F f) ≡ true
+  unfolding isFrame
+  line-is-frame f h = rw (eq-eqb _ _ (line-long f), eq-eqb _ _ (ap (λ (g : Fields (layout F)). g .0) (line-fields f h)))
 
   -- the line that fields make meets none of the conditions of lines
-  pub line-clear : (f : Fields (F .widths)) → Fit (F .widths) f → (fs : List Fault) (p : ℕ) → judge (lineFaults (looks F (lineOf F f)) (lineOf F f) ++ fs) p ≡ judge fs p
+  pub line-clear : (f : Fields (F .widths)) → Fit (F .widths) f → (fs : List Fault) (p : ℕ) → judge (lineFaults (isFrame F (lineOf F f)) (lineOf F f) ++ fs) p ≡ judge fs p
   unfolding lineFaults
   line-clear f h fs p =
       let l = lineOf F f in
@@ -68,22 +68,18 @@ module _ (F : Frame) (s : Sound F) where
       let long = line-long f in
       let b1 : ltb 36 (length (l .chars)) ≡ false = rw long (le-ltb 36 _ (s .short)) in
       let b2 : (not (l .ended) || eqb (length (l .chars) % 2) 1 || not (every isDigit (l .chars))) ≡ false = rw (pl .is-ended, long, s .even, pl .is-digits) in
-      let b3 : not (looks F l) ≡ false = rw (looks-line f h) in
+      let b3 : not (isFrame F l) ≡ false = rw (line-is-frame f h) in
       judge-past 2 _ _ p b1 ∙ judge-past 1 _ _ p b2 ∙ judge-past 2 _ _ p b3
 
   -- a line that meets none is the line of its fields
-  pub line-kept : (l : Line) (fs : List Fault) (p : ℕ) → judge (lineFaults (looks F l) l ++ fs) p ≡ accepted tt
+  pub line-kept : (l : Line) (fs : List Fault) (p : ℕ) → judge (lineFaults (isFrame F l) l ++ fs) p ≡ accepted tt
       → (l ≡ lineOf F (fieldsOf F l)) × Fit (F .widths) (fieldsOf F l) × (judge fs p ≡ accepted tt)
-  unfolding lineFaults looks fieldsOf lineOf
+  unfolding isFrame fieldsOf lineOf
   line-kept l fs p e =
-      let s1 = judge-passed 2 _ _ p e in
-      let s2 = judge-passed 1 _ _ p (s1 .1) in
-      let s3 = judge-passed 2 _ _ p (s2 .1) in
-      let n1 = neither (not (l .ended) || eqb (length (l .chars) % 2) 1) (not (every isDigit (l .chars))) (s2 .0) in
-      let ended : l .ended ≡ true = not-false _ (neither (not (l .ended)) (eqb (length (l .chars) % 2) 1) (n1 .0) .0) in
+      let h = line-passed (isFrame F l) l fs p e in
       let read : Fields (layout F) = readFields (layout F) (l .chars) in
-      let like = both (eqb (length (l .chars)) (total (layout F))) (eqb (read .0) (F .kind)) (not-false _ (s3 .0)) in
-      let kept = chars-kept (layout F) (l .chars) (eqb-true _ _ (like .0)) (not-false _ (n1 .1)) in
+      let like = both (eqb (length (l .chars)) (total (layout F))) (eqb (read .0) (F .kind)) (h .2) in
+      let kept = chars-kept (layout F) (l .chars) (eqb-true _ _ (like .0)) (h .1) in
       let kind : _≡_ {A = Fields (layout F)} (F .kind, read .1) read = ap (λ (k : ℕ). (k, read .1)) (sym (eqb-true _ _ (like .1))) in
       let same : writeFields (layout F) (F .kind, read .1) ≡ l .chars = ap (writeFields (layout F)) kind ∙ kept .0 in
-      (ap₂ (λ (cs : List ℕ) (b : Bool). record { chars = cs; ended = b }) (sym same) ended, kept .1 .1, s3 .1)
+      (ap₂ (λ (cs : List ℕ) (b : Bool). record { chars = cs; ended = b }) (sym same) (h .0), kept .1 .1, h .3)

@@ -15,7 +15,7 @@ use Rattle.network.specs.Inside.{Each}
 use Rattle.lines.specs.Hex.{Fields}
 use Rattle.lines.specs.Lines.{Line, cut, lineFaults}
 use Rattle.lines.specs.Frames.{Frame}
-use Rattle.record_lines.specs.Kinds.{head, bus, branch, switch, looks, fieldsOf, headOf, busOf, branchOf, switchOf, headLineFaults, busLineFaults, branchLineFaults, switchLineFaults}
+use Rattle.record_lines.specs.Kinds.{head, bus, branch, switch, isFrame, fieldsOf, headFrom, busFrom, branchFrom, switchFrom, headLineFaults, busLineFaults, branchLineFaults, switchLineFaults}
 use Rattle.frames.specs.Conditions.{kindConditions, surplusConditions, busesOf, bodyConditions, conditions, met, LowestWins}
 use Rattle.lines.specs.JudgeLaws.{no-refusal}
 
@@ -50,26 +50,26 @@ abbrev InOrder : List Fault → Type 0
 InOrder c = Rising (drop 1 c)
 
 module _ {A : Type 0} (F : Frame) (make : Fields (F .widths) → A) (faults : List A → Fields (F .widths) → List Fault)
-    (in-order : (l : Line) (before : List A) → InOrder (lineFaults (looks F l) l ++ faults before (fieldsOf F l))) where
+    (in-order : (l : Line) (before : List A) → InOrder (lineFaults (isFrame F l) l ++ faults before (fieldsOf F l))) where
   kind-in-order : (before : List A) (n : ℕ) (ls : List Line) (rest : List (List Fault)) → Each InOrder rest → Each InOrder (kindConditions F make faults before n ls ++ rest)
   unfolding kindConditions
   kind-in-order before zero ls rest h = h
   kind-in-order before (suc n) [] rest h = (tt, h)
   kind-in-order before (suc n) (l ∷ ls) rest h = (in-order l before, kind-in-order (before ++ (make (fieldsOf F l) ∷ [])) n ls rest h)
 
-head-in-order : (l : Line) → InOrder (lineFaults (looks head l) l ++ headLineFaults (fieldsOf head l))
+head-in-order : (l : Line) → InOrder (lineFaults (isFrame head l) l ++ headLineFaults (fieldsOf head l))
 unfolding lineFaults headFaults
 head-in-order l = (lit≤ tt, (lit≤ tt, (lit≤ tt, (lit≤ tt, (lit≤ tt, tt)))))
 
-bus-in-order : (l : Line) (before : List Bus) → InOrder (lineFaults (looks bus l) l ++ busLineFaults before (fieldsOf bus l))
+bus-in-order : (l : Line) (before : List Bus) → InOrder (lineFaults (isFrame bus l) l ++ busLineFaults before (fieldsOf bus l))
 unfolding lineFaults busFaults
 bus-in-order l before = (lit≤ tt, (lit≤ tt, (lit≤ tt, tt)))
 
-branch-in-order : (buses : List Bus) (l : Line) → InOrder (lineFaults (looks branch l) l ++ branchLineFaults buses (fieldsOf branch l))
+branch-in-order : (buses : List Bus) (l : Line) → InOrder (lineFaults (isFrame branch l) l ++ branchLineFaults buses (fieldsOf branch l))
 unfolding lineFaults branchFaults
 branch-in-order buses l = (lit≤ tt, (lit≤ tt, (lit≤ tt, (lit≤ tt, tt))))
 
-switch-in-order : (h : Head) (l : Line) (before : List Switch) → InOrder (lineFaults (looks switch l) l ++ switchLineFaults h before (fieldsOf switch l))
+switch-in-order : (h : Head) (l : Line) (before : List Switch) → InOrder (lineFaults (isFrame switch l) l ++ switchLineFaults h before (fieldsOf switch l))
 unfolding lineFaults switchFaults
 switch-in-order h l before = (lit≤ tt, (lit≤ tt, (lit≤ tt, (lit≤ tt, (lit≤ tt, (lit≤ tt, tt))))))
 
@@ -84,15 +84,15 @@ body-in-order h ls =
     let after-buses = drop (h .buses) ls in
     let after-branches = drop (h .branches) after-buses in
     let buses = busesOf (h .buses) ls in
-    kind-in-order bus busOf busLineFaults bus-in-order [] (h .buses) ls _
-    (kind-in-order branch branchOf (λ before. branchLineFaults buses) (λ l before. branch-in-order buses l) [] (h .branches) after-buses _
-    (kind-in-order switch switchOf (switchLineFaults h) (switch-in-order h) [] (h .switches) after-branches _
+    kind-in-order bus busFrom busLineFaults bus-in-order [] (h .buses) ls _
+    (kind-in-order branch branchFrom (λ before. branchLineFaults buses) (λ l before. branch-in-order buses l) [] (h .branches) after-buses _
+    (kind-in-order switch switchFrom (switchLineFaults h) (switch-in-order h) [] (h .switches) after-branches _
     (surplus-in-order (drop (h .switches) after-branches))))
 
 all-in-order : (ls : List Line) → Each InOrder (conditions ls)
 unfolding conditions
 all-in-order [] = (tt, tt)
-all-in-order (l ∷ ls) = (head-in-order l, body-in-order (headOf (fieldsOf head l)) ls)
+all-in-order (l ∷ ls) = (head-in-order l, body-in-order (headFrom (fieldsOf head l)) ls)
 
 each-lowest : (cs : List (List Fault)) → Each InOrder cs → Each (λ c. LowestWins (drop 1 c)) cs
 each-lowest [] h = tt

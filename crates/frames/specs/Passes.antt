@@ -15,7 +15,7 @@ use Rattle.network.specs.Check.{checkRecords}
 use Rattle.lines.specs.Hex.{Fields}
 use Rattle.lines.specs.Lines.{Line, cut}
 use Rattle.lines.specs.Frames.{Frame}
-use Rattle.record_lines.specs.Kinds.{head, bus, branch, switch, headOf, busOf, branchOf, switchOf, headLineFaults, busBytes, branchBytes, switchBytes, readOne, without}
+use Rattle.record_lines.specs.Kinds.{head, bus, branch, switch, headFrom, busFrom, branchFrom, switchFrom, headLineFaults, busBytes, branchBytes, switchBytes, readOne, without}
 use Rattle.frames.specs.Text.{readEnd}
 
 -- ---- the pass over the lines of one kind
@@ -59,13 +59,13 @@ abbrev pub after : {A B : Type 0} → Pass A → (List Line → Pass B) → Pass
 after pass more = onward (pass .left) (pass .stopped) more
 
 abbrev pub passBuses : Head → List Line → Pass Bus
-passBuses h = passRun bus busOf busBytes (h .buses) 2
+passBuses h = passRun bus busFrom busBytes (h .buses) 2
 
 abbrev pub passBranches : Head → List Line → Pass Branch
-passBranches h = passRun branch branchOf branchBytes (h .branches) (2 + h .buses)
+passBranches h = passRun branch branchFrom branchBytes (h .branches) (2 + h .buses)
 
 abbrev pub passSwitches : Head → List Line → Pass Switch
-passSwitches h = passRun switch switchOf switchBytes (h .switches) (2 + h .buses + h .branches)
+passSwitches h = passRun switch switchFrom switchBytes (h .switches) (2 + h .buses + h .branches)
 
 -- the records collected, and the refusal of the first line at fault, if there is one
 pub record Collected : Type 0 where
@@ -91,4 +91,4 @@ afterHead (accepted r) = settle (collect (r .0) (r .1))
 afterHead (refused n place) = refused n place
 
 unfoldable pub readTwice : List ℕ → Answer Network
-readTwice t = afterHead (readOne head headOf headLineFaults 1 (cut t))
+readTwice t = afterHead (readOne head headFrom headLineFaults 1 (cut t))

@@ -1,7 +1,7 @@
 -- The reader against the check of records and the text of a network: what is written is judged as the records are (`read-written`), and what is
 -- accepted was written so (`accepted-written`). Both go line by line, from the laws of a line's characters and of a record's fields.
 use mathlib.Core.Path.{_≡_, refl, sym, ap, _∙_, subst}
-use mathlib.Core.Bool.{false, not, true≢false}
+use mathlib.Core.Bool.{false, not, false≢true}
 use mathlib.Core.List.{List, [], _∷_, _++_, map, flatMap, append-nil, append-assoc}
 use Prim.Native.Nat.{ℕ, zero, suc, _+_}
 use lib.ListN.{length}
@@ -20,10 +20,10 @@ use Rattle.network.specs.Inside.{Each}
 use Rattle.lines.specs.Hex.{Fields}
 use Rattle.lines.specs.Lines.{Line, cut, lineFaults}
 use Rattle.lines.specs.Frames.{frameText}
-use Rattle.record_lines.specs.Kinds.{looks, fieldsOf, head, switch, headOf, switchOf, headLineFaults, switchLineFaults, readOne, without}
+use Rattle.record_lines.specs.Kinds.{isFrame, fieldsOf, head, switch, headFrom, switchFrom, headLineFaults, switchLineFaults, readOne, without}
 use Rattle.frames.specs.Text.{follow, _>>=_, pure, readRun, readEnd, readLines, readText}
 use Rattle.frames.specs.Acceptable.{textOf, Writable}
-use Rattle.lines.specs.JudgeLaws.{Verdict, no-refusal, judge-passed, judge-append}
+use Rattle.lines.specs.JudgeLaws.{Verdict, no-refusal, judge-passed, judge-append, line-passed}
 use Rattle.record_lines.specs.VerdictLaws.{then-accepted, without-then}
 use Rattle.frames.specs.ReaderLaws.{same-value, then-then, go-on, follow-accepted, without-accepted, network, behindSwitches, behindBranches, behindBuses, behindHead, lines-read}
 use Rattle.lines.specs.CutLaws.{joined, joined-cut, cut-joined, Plain}
@@ -57,7 +57,7 @@ module _ {A : Type 0} (K : Kind A) (own : List A → A → List Fault) (ranged :
       let F = K .frame in
       let f = fieldsOf F l in
       let a = K .make f in
-      let t = then-accepted (judge (lineFaults (looks F l) l ++ whole before f) p) (accepted (a, ls)) e in
+      let t = then-accepted (judge (lineFaults (isFrame F l) l ++ whole before f) p) (accepted (a, ls)) e in
       let k = line-kept F (K .sound) l (whole before f) p (t .0) in
       let j = then-accepted (judge (K .bytes f) p) (judge (own before a) p) (sym (judge-append (K .bytes f) (own before a) p) ∙ k .2) in
       let same = K .kept f p (k .1) (j .0) (ranged before a p (j .1)) in
@@ -116,7 +116,7 @@ switch-ranged : (h : Head) (before : List Switch) (s : Switch) (p : ℕ) → jud
 switch-ranged h before s p e = tt
 
 -- a head that the reader accepts is inside the limits
-pub head-passed : (ls : List Line) (r : Head × List Line) → readOne head headOf headLineFaults 1 ls ≡ accepted r → HeadInside (r .0)
+pub head-passed : (ls : List Line) (r : Head × List Line) → readOne head headFrom headLineFaults 1 ls ≡ accepted r → HeadInside (r .0)
 head-passed ls r e = head-iff (r .0) .0 (judge-iff (headFaults (r .0)) 1 .0 (one-kept headKind (λ before. headFaults) head-ranged [] 1 ls r e .2))
 
 -- ---- the lines of a network
@@ -139,7 +139,7 @@ lines-written N w =
     let v₂ : Verdict = checkRun (λ before. branchFaults (N .buses)) [] p₂ (N .branches) in
     let v₃ : Verdict = checkRun (switchFaults h) [] p₃ (N .switches) in
     let end : Answer (Network × List Line) = accepted (N, []) in
-    let switches-read = ap (readRun switch switchOf (switchLineFaults h) [] (h .switches) p₃) (sym (append-nil s-lines)) ∙ run-written switchKind (switchFaults h) (switch-ranged h) [] (N .switches) p₃ [] (w .switch-room) in
+    let switches-read = ap (readRun switch switchFrom (switchLineFaults h) [] (h .switches) p₃) (sym (append-nil s-lines)) ∙ run-written switchKind (switchFaults h) (switch-ranged h) [] (N .switches) p₃ [] (w .switch-room) in
     lines-read (linesOf N)
     ∙ go-on v₀ (h, b-lines) behindHead (one-written headKind (λ before. headFaults) head-ranged [] 1 h (w .head-room) b-lines)
     ∙ ap (λ x. v₀ andThen x) (go-on v₁ (N .buses, r-lines) (behindBuses h) (run-written busKind busFaults bus-ranged [] (N .buses) 2 r-lines (w .bus-room))
@@ -166,9 +166,7 @@ unfolding readEnd lineFaults
 end-kept p [] r e = refl
 end-kept p (l ∷ ls) r e =
     let t = then-accepted (judge (lineFaults false l) p) (accepted (tt, ls)) e in
-    let s₁ = judge-passed 2 _ _ p (t .0) in
-    let s₂ = judge-passed 1 _ _ p (s₁ .1) in
-    absurd (true≢false (judge-passed 2 _ _ p (s₂ .1) .0))
+    absurd (false≢true (line-passed false l [] p (t .0) .2))
 
 found : (h : Head) (N : Network) (l₀ l₁ l₂ l₃ l₄ : List Line)
     → (l₀ ≡ recordLine headKind h ∷ l₁) × headKind .Room h × (judge (headFaults h) 1 ≡ accepted tt)
@@ -194,7 +192,7 @@ found h N l₀ l₁ l₂ l₃ l₄ one buses branches switches left =
 lines-found : (ls : List Line) (r : Network × List Line) → readLines ls ≡ accepted r → (h : Head) × (h ≡ check.headOf (r .0)) × Found h (r .0) ls
 unfolding behindHead behindBuses behindBranches behindSwitches check.headOf pure
 lines-found ls r e =
-    follow-accepted (readOne head headOf headLineFaults 1 ls) behindHead (sym (lines-read ls) ∙ e) λ a e₀ k₀.
+    follow-accepted (readOne head headFrom headLineFaults 1 ls) behindHead (sym (lines-read ls) ∙ e) λ a e₀ k₀.
     follow-accepted _ (behindBuses (a .0)) k₀ λ b e₁ k₁.
     follow-accepted _ (behindBranches (a .0) (b .0)) k₁ λ c e₂ k₂.
     follow-accepted _ (behindSwitches (a .0) (b .0) (c .0)) k₂ λ d e₃ k₃.

@@ -12,7 +12,7 @@ use Rattle.network.specs.Faults.{Head}
 use Rattle.lines.specs.Lines.{Line}
 use Rattle.lines.specs.JudgeLaws.{Verdict, no-refusal}
 use Rattle.lines.specs.FirstLine.{judgeEnd}
-use Rattle.record_lines.specs.Kinds.{head, bus, branch, switch, headOf, busOf, branchOf, switchOf, headLineFaults, busLineFaults, branchLineFaults, switchLineFaults, Reader, readOne, without}
+use Rattle.record_lines.specs.Kinds.{head, bus, branch, switch, headFrom, busFrom, branchFrom, switchFrom, headLineFaults, busLineFaults, branchLineFaults, switchLineFaults, Reader, readOne, without}
 use Rattle.record_lines.specs.VerdictLaws.{without-then}
 use Rattle.frames.specs.Text.{follow, _>>=_, pure, readRun, readEnd, readLines}
 
@@ -66,14 +66,14 @@ behindSwitches h buses branches switches =
       pure (network h buses branches switches)
 
 unfoldable pub behindBranches : Head → List Bus → List Branch → Reader Network
-behindBranches h buses branches = readRun switch switchOf (switchLineFaults h) [] (h .switches) (2 + h .buses + h .branches) >>= behindSwitches h buses branches
+behindBranches h buses branches = readRun switch switchFrom (switchLineFaults h) [] (h .switches) (2 + h .buses + h .branches) >>= behindSwitches h buses branches
 
 unfoldable pub behindBuses : Head → List Bus → Reader Network
-behindBuses h buses = readRun branch branchOf (λ before. branchLineFaults buses) [] (h .branches) (2 + h .buses) >>= behindBranches h buses
+behindBuses h buses = readRun branch branchFrom (λ before. branchLineFaults buses) [] (h .branches) (2 + h .buses) >>= behindBranches h buses
 
 unfoldable pub behindHead : Head → Reader Network
-behindHead h = readRun bus busOf busLineFaults [] (h .buses) 2 >>= behindBuses h
+behindHead h = readRun bus busFrom busLineFaults [] (h .buses) 2 >>= behindBuses h
 
-pub lines-read : (ls : List Line) → readLines ls ≡ follow (readOne head headOf headLineFaults 1 ls) behindHead
+pub lines-read : (ls : List Line) → readLines ls ≡ follow (readOne head headFrom headLineFaults 1 ls) behindHead
 unfolding readLines behindHead behindBuses behindBranches behindSwitches
 lines-read ls = refl

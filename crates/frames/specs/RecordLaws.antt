@@ -19,7 +19,7 @@ use Rattle.numbers.specs.Constants.{thousandth, thousand, million}
 use Rattle.network.specs.Faults.{Head, methodByte, inRange, okBase, okLoad, okR}
 use Rattle.lines.specs.Hex.{Fields, Fit}
 use Rattle.lines.specs.Frames.{Frame}
-use Rattle.record_lines.specs.Kinds.{head, bus, branch, switch, methodOf, headOf, busOf, branchOf, switchOf, busBytes, branchBytes, switchBytes}
+use Rattle.record_lines.specs.Kinds.{head, bus, branch, switch, methodOf, headFrom, busFrom, branchFrom, switchFrom, headBytes, busBytes, branchBytes, switchBytes}
 use Rattle.frames.specs.Acceptable.{bitsOf, statusByte, flagsByte, headFields, busFields, branchFields, switchFields, HeadRoom, BusRoom, BranchRoom, SwitchRoom}
 use Rattle.lines.specs.JudgeLaws.{both, judge-passed}
 use Rattle.frames.specs.LineLaws.{Sound, head-sound, bus-sound, branch-sound, switch-sound}
@@ -101,10 +101,10 @@ pub record Kind (A : Type 0) : Type 1 where
   pub kept : (f : Fields (frame .widths)) (p : ℕ) → Fit (frame .widths) f → judge (bytes f) p ≡ accepted tt → Ranged (make f) → fields (make f) ≡ f
 
 -- ---- the four kinds
-pub bus-made : (b : Bus) → BusRoom b → busOf (busFields b) ≡ b
+pub bus-made : (b : Bus) → BusRoom b → busFrom (busFields b) ≡ b
 bus-made b r = ap (λ (x : Float). record { id = b .id; pd = record { 0 = x } }) (ofBits-toBits binary64 (b .pd .0) (r .1))
 
-pub bus-kept : (f : Fields (bus .widths)) → Fit (bus .widths) f → okLoad (busOf f .pd .0) ≡ true → busFields (busOf f) ≡ f
+pub bus-kept : (f : Fields (bus .widths)) → Fit (bus .widths) f → okLoad (busFrom f .pd .0) ≡ true → busFields (busFrom f) ≡ f
 unfolding okLoad
 bus-kept f r e = ap (λ (n : ℕ). (f .0, (n, tt))) (float-kept (neg million) million (f .1 .0) (r .1 .0) e)
 
@@ -116,7 +116,7 @@ abbrev pub busKind : Kind Bus
 busKind = record {
   frame = bus;
   sound = bus-sound;
-  make = busOf;
+  make = busFrom;
   fields = busFields;
   bytes = busBytes;
   Room = BusRoom;
@@ -128,7 +128,7 @@ busKind = record {
   kept = λ f p r m. bus-kept f r;
 }
 
-pub branch-made : (b : Branch) → BranchRoom b → branchOf (branchFields b) ≡ b
+pub branch-made : (b : Branch) → BranchRoom b → branchFrom (branchFields b) ≡ b
 branch-made b r =
     ap₂ (λ (x : Float) (s : Bool). record { «from_bus» = b .«from_bus»; «to_bus» = b .«to_bus»; r = x; status = s }) (ofBits-toBits binary64 (b .r) (r .2)) (status-made (b .status))
 
@@ -147,7 +147,7 @@ branch-meant b p = go (b .status)
     go true = refl
     go false = refl
 
-pub branch-kept : (f : Fields (branch .widths)) (p : ℕ) → Fit (branch .widths) f → judge (branchBytes f) p ≡ accepted tt → okR (branchOf f .r) ≡ true → branchFields (branchOf f) ≡ f
+pub branch-kept : (f : Fields (branch .widths)) (p : ℕ) → Fit (branch .widths) f → judge (branchBytes f) p ≡ accepted tt → okR (branchFrom f .r) ≡ true → branchFields (branchFrom f) ≡ f
 unfolding okR
 branch-kept f p r m e =
     let one = ltb-false 1 (f .1 .1 .1 .0) (judge-passed 3 (ltb 1 (f .1 .1 .1 .0)) [] p m .0) in
@@ -157,7 +157,7 @@ abbrev pub branchKind : Kind Branch
 branchKind = record {
   frame = branch;
   sound = branch-sound;
-  make = branchOf;
+  make = branchFrom;
   fields = branchFields;
   bytes = branchBytes;
   Room = BranchRoom;
@@ -169,7 +169,7 @@ branchKind = record {
   kept = branch-kept;
 }
 
-pub switch-made : (s : Switch) → SwitchRoom s → switchOf (switchFields s) ≡ s
+pub switch-made : (s : Switch) → SwitchRoom s → switchFrom (switchFields s) ≡ s
 switch-made s r =
     let t = s .«normally_open» in
     let o = s .«can_operate» in
@@ -194,7 +194,7 @@ switch-meant s p = go (s .«normally_open») (s .«can_operate»)
     go false true = refl
     go false false = refl
 
-pub switch-kept : (f : Fields (switch .widths)) (p : ℕ) → judge (switchBytes f) p ≡ accepted tt → switchFields (switchOf f) ≡ f
+pub switch-kept : (f : Fields (switch .widths)) (p : ℕ) → judge (switchBytes f) p ≡ accepted tt → switchFields (switchFrom f) ≡ f
 switch-kept f p m =
     let three = ltb-false 3 (f .1 .1 .0) (judge-passed 3 (ltb 3 (f .1 .1 .0)) [] p m .0) in
     ap (λ (n : ℕ). (f .0, (f .1 .0, (n, tt)))) (flags-kept (f .1 .1 .0) three)
@@ -203,7 +203,7 @@ abbrev pub switchKind : Kind Switch
 switchKind = record {
   frame = switch;
   sound = switch-sound;
-  make = switchOf;
+  make = switchFrom;
   fields = switchFields;
   bytes = switchBytes;
   Room = SwitchRoom;
@@ -215,11 +215,7 @@ switchKind = record {
   kept = λ f p r m e. switch-kept f p m;
 }
 
--- a method byte without a meaning, row 3
-abbrev pub headBytes : Fields (head .widths) → List Fault
-headBytes f = (3 if ltb 2 (f .1 .1 .1 .1 .0)) ∷ []
-
-pub head-made : (h : Head) → HeadRoom h → headOf (headFields h) ≡ h
+pub head-made : (h : Head) → HeadRoom h → headFrom (headFields h) ≡ h
 head-made h r =
     ap₂ (λ (x : Float) (a : ReconfigAlgorithm). record { buses = h .buses; branches = h .branches; switches = h .switches; base = x; algorithm = a; iterations = h .iterations })
     (ofBits-toBits binary64 (h .base) (r .3)) (method-made (h .algorithm))
@@ -241,7 +237,7 @@ head-meant h p = go (h .algorithm)
     go TabuSearch = refl
     go Exhaustive = refl
 
-pub head-kept : (f : Fields (head .widths)) (p : ℕ) → Fit (head .widths) f → judge (headBytes f) p ≡ accepted tt → okBase (headOf f .base) ≡ true → headFields (headOf f) ≡ f
+pub head-kept : (f : Fields (head .widths)) (p : ℕ) → Fit (head .widths) f → judge (headBytes f) p ≡ accepted tt → okBase (headFrom f .base) ≡ true → headFields (headFrom f) ≡ f
 unfolding okBase
 head-kept f p r m e =
     let two = ltb-false 2 (f .1 .1 .1 .1 .0) (judge-passed 3 (ltb 2 (f .1 .1 .1 .1 .0)) [] p m .0) in
@@ -252,7 +248,7 @@ abbrev pub headKind : Kind Head
 headKind = record {
   frame = head;
   sound = head-sound;
-  make = headOf;
+  make = headFrom;
   fields = headFields;
   bytes = headBytes;
   Room = HeadRoom;

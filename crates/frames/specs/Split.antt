@@ -21,7 +21,7 @@ use Rattle.network.specs.Check.{checkRun, checkRecords}
 use Rattle.lines.specs.Hex.{Fields}
 use Rattle.lines.specs.Lines.{Line, cut, lineFaults}
 use Rattle.lines.specs.Frames.{Frame}
-use Rattle.record_lines.specs.Kinds.{head, bus, branch, switch, looks, fieldsOf, headOf, busOf, branchOf, switchOf, headLineFaults, busLineFaults, branchLineFaults, switchLineFaults, Reader, readOne, without, busBytes, branchBytes, switchBytes}
+use Rattle.record_lines.specs.Kinds.{head, bus, branch, switch, isFrame, fieldsOf, headFrom, busFrom, branchFrom, switchFrom, headLineFaults, busLineFaults, branchLineFaults, switchLineFaults, Reader, readOne, without, busBytes, branchBytes, switchBytes}
 use Rattle.frames.specs.Text.{follow, _>>=_, pure, readRun, readEnd, readText}
 use Rattle.lines.specs.JudgeLaws.{Verdict, no-refusal, judge-append}
 use Rattle.frames.specs.ReaderLaws.{then-then, go-on, network, behindSwitches, behindBranches, behindBuses, behindHead, lines-read}
@@ -76,10 +76,10 @@ module _ {A : Type 0} (F : Frame) (make : Fields (F .widths) → A) (bytes : Fie
     one-split before place (l ∷ ls) =
         let f = fieldsOf F l in
         let a = make f in
-        let v = judge (lineFaults (looks F l) l ++ bytes f) place in
+        let v = judge (lineFaults (isFrame F l) l ++ bytes f) place in
         let w = judge (own before a) place in
-        ap (λ x. judge x place andThen accepted (a, ls)) (sym (append-assoc (lineFaults (looks F l) l) (bytes f) (own before a)))
-        ∙ ap (λ x. x andThen accepted (a, ls)) (judge-append (lineFaults (looks F l) l ++ bytes f) (own before a) place)
+        ap (λ x. judge x place andThen accepted (a, ls)) (sym (append-assoc (lineFaults (isFrame F l) l) (bytes f) (own before a)))
+        ∙ ap (λ x. x andThen accepted (a, ls)) (judge-append (lineFaults (isFrame F l) l ++ bytes f) (own before a) place)
         ∙ sym (then-then v w (accepted (a, ls)))
         ∙ sym (go-on v (a, ls) (λ b rest. judge (own before b) place andThen accepted (b, rest)) refl)
 
@@ -234,10 +234,10 @@ module _ (h : Head) (inside : HeadInside h) where
   unfolding onward _andThen_ behindBranches branchCheck switchCheck checkRun whole checked
   from-branches buses branches left (accepted u) b c =
       let s = passSwitches h left in
-      let read = pass-then (readRun switch switchOf (switchLineFaults h) [] (h .switches) (2 + h .buses + h .branches) left) (switchCheck (s .records)) s (behindSwitches h buses branches)
-      (run-split switch switchOf switchBytes (switchFaults h) (h .switches) [] (2 + h .buses + h .branches) left) in
+      let read = pass-then (readRun switch switchFrom (switchLineFaults h) [] (h .switches) (2 + h .buses + h .branches) left) (switchCheck (s .records)) s (behindSwitches h buses branches)
+      (run-split switch switchFrom switchBytes (switchFaults h) (h .switches) [] (2 + h .buses + h .branches) left) in
       ap (λ x. busCheck buses andThen (branchCheck buses branches andThen x)) read
-      ∙ from-switches buses branches s b (c .full refl) (pass-counted switch switchOf switchBytes (h .switches) (2 + h .buses + h .branches) left)
+      ∙ from-switches buses branches s b (c .full refl) (pass-counted switch switchFrom switchBytes (h .switches) (2 + h .buses + h .branches) left)
   from-branches buses branches left (refused n p) b c =
       let branch-places = ap (λ (k : ℕ). checkRun (λ before. branchFaults buses) [] (2 + k) branches) b in
       sym (settled buses branches [] (branchCheck buses branches) (accepted tt) (refused n p) (le-of-eq b) (c .within) (omega arith) branch-places refl)
@@ -250,23 +250,23 @@ module _ (h : Head) (inside : HeadInside h) where
   unfolding onward _andThen_ behindBuses branchCheck checkRun whole checked
   from-buses buses left (accepted u) c =
       let r = passBranches h left in
-      let read = pass-then (readRun branch branchOf (λ before. branchLineFaults buses) [] (h .branches) (2 + h .buses) left) (branchCheck buses (r .records)) r (behindBranches h buses)
-      (run-split branch branchOf branchBytes (λ before. branchFaults buses) (h .branches) [] (2 + h .buses) left) in
+      let read = pass-then (readRun branch branchFrom (λ before. branchLineFaults buses) [] (h .branches) (2 + h .buses) left) (branchCheck buses (r .records)) r (behindBranches h buses)
+      (run-split branch branchFrom branchBytes (λ before. branchFaults buses) (h .branches) [] (2 + h .buses) left) in
       ap (λ x. busCheck buses andThen x) read
-      ∙ from-branches buses (r .records) (r .left) (r .stopped) (c .full refl) (pass-counted branch branchOf branchBytes (h .branches) (2 + h .buses) left)
+      ∙ from-branches buses (r .records) (r .left) (r .stopped) (c .full refl) (pass-counted branch branchFrom branchBytes (h .branches) (2 + h .buses) left)
   from-buses buses left (refused n p) c = sym (settled buses [] [] (accepted tt) (accepted tt) (refused n p) (c .within) (omega arith) (omega arith) refl refl)
 
   body-split : (ls : List Line) → without (behindHead h ls) ≡ settle (collect h ls)
   unfolding behindHead collect _andThen_ busCheck checkRun whole checked
   body-split ls =
       let b = passBuses h ls in
-      pass-then (readRun bus busOf busLineFaults [] (h .buses) 2 ls) (busCheck (b .records)) b (behindBuses h) (run-split bus busOf busBytes busFaults (h .buses) [] 2 ls)
-      ∙ from-buses (b .records) (b .left) (b .stopped) (pass-counted bus busOf busBytes (h .buses) 2 ls)
+      pass-then (readRun bus busFrom busLineFaults [] (h .buses) 2 ls) (busCheck (b .records)) b (behindBuses h) (run-split bus busFrom busBytes busFaults (h .buses) [] 2 ls)
+      ∙ from-buses (b .records) (b .left) (b .stopped) (pass-counted bus busFrom busBytes (h .buses) 2 ls)
 
 pub split : (t : List ℕ) → readText t ≡ readTwice t
 unfolding readText readTwice without follow afterHead
-split t = ap without (lines-read (cut t)) ∙ go (readOne head headOf headLineFaults 1 (cut t)) refl
+split t = ap without (lines-read (cut t)) ∙ go (readOne head headFrom headLineFaults 1 (cut t)) refl
   where
-    go : (x : Answer (Head × List Line)) → readOne head headOf headLineFaults 1 (cut t) ≡ x → without (follow x behindHead) ≡ afterHead x
+    go : (x : Answer (Head × List Line)) → readOne head headFrom headLineFaults 1 (cut t) ≡ x → without (follow x behindHead) ≡ afterHead x
     go (accepted r) e = body-split (r .0) (head-passed (cut t) r e) (r .1)
     go (refused n p) e = refl

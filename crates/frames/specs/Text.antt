@@ -7,7 +7,7 @@ use Rattle.network.specs.Records.{Network}
 use Rattle.lines.specs.Hex.{Fields}
 use Rattle.lines.specs.Lines.{Line, cut, lineFaults}
 use Rattle.lines.specs.Frames.{Frame}
-use Rattle.record_lines.specs.Kinds.{head, bus, branch, switch, headOf, busOf, branchOf, switchOf, headLineFaults, busLineFaults, branchLineFaults, switchLineFaults, Reader, readOne, without}
+use Rattle.record_lines.specs.Kinds.{head, bus, branch, switch, headFrom, busFrom, branchFrom, switchFrom, headLineFaults, busLineFaults, branchLineFaults, switchLineFaults, Reader, readOne, without}
 
 -- after what was read, go on with the lines left; a refusal stays
 unfoldable pub follow : {A B : Type 0} → Answer (A × List Line) → (A → Reader B) → Answer (B × List Line)
@@ -39,10 +39,10 @@ readEnd place (l ∷ ls) = judge (lineFaults false l) place andThen accepted (tt
 unfoldable pub readLines : Reader Network
 readLines =
     do
-      h ← readOne head headOf headLineFaults 1
-      buses ← readRun bus busOf busLineFaults [] (h .buses) 2
-      branches ← readRun branch branchOf (λ before. branchLineFaults buses) [] (h .branches) (2 + h .buses)
-      switches ← readRun switch switchOf (switchLineFaults h) [] (h .switches) (2 + h .buses + h .branches)
+      h ← readOne head headFrom headLineFaults 1
+      buses ← readRun bus busFrom busLineFaults [] (h .buses) 2
+      branches ← readRun branch branchFrom (λ before. branchLineFaults buses) [] (h .branches) (2 + h .buses)
+      switches ← readRun switch switchFrom (switchLineFaults h) [] (h .switches) (2 + h .buses + h .branches)
       _ ← readEnd (2 + h .buses + h .branches + h .switches)
       pure (record { base = h .base; algorithm = h .algorithm; iterations = h .iterations; buses = buses; branches = branches; switches = switches })
 

@@ -4,7 +4,7 @@ ghost use mathlib.Core.List.{[]};
 ghost use Prim.Native.Nat.{_+_, _≤_, _<_};
 ghost use lib.ListN.{length, drop};
 ghost use Rattle.lines.specs.Lines.{cut};
-ghost use Rattle.record_lines.specs.Kinds.{branch, branchOf, branchBytes};
+ghost use Rattle.record_lines.specs.Kinds.{branch, branchFrom, branchBytes};
 ghost use Rattle.frames.specs.Passes.{passRun};
 ghost use Rattle.frames.specs.FrameReads.{withBranches, IsPass};
 use crate::pass::Pass;
@@ -23,7 +23,7 @@ pub(crate) fn read_branches(
     count: u16,
 ) -> Pass
     requires { ⌜ (start ≤ length (now text)) × (count ≤ 512) × (place + count < 65536) × (listed ≡ withBranches listed []) ⌝ }
-    ensures { λ r. ⌜ IsPass (withBranches listed) (now (text .entry)) (passRun branch branchOf branchBytes count place (cut (drop start (now (text .entry))))) r ⌝ }
+    ensures { λ r. ⌜ IsPass (withBranches listed) (now (text .entry)) (passRun branch branchFrom branchBytes count place (cut (drop start (now (text .entry))))) r ⌝ }
 {
     let mut network = listed;
     let mut at = start;

@@ -4,7 +4,7 @@ ghost use mathlib.Core.List.{[]};
 ghost use Prim.Native.Nat.{_+_, _≤_, _<_};
 ghost use lib.ListN.{length, drop};
 ghost use Rattle.lines.specs.Lines.{cut};
-ghost use Rattle.record_lines.specs.Kinds.{bus, busOf, busBytes};
+ghost use Rattle.record_lines.specs.Kinds.{bus, busFrom, busBytes};
 ghost use Rattle.frames.specs.Passes.{passRun};
 ghost use Rattle.frames.specs.FrameReads.{withBuses, IsPass};
 use crate::pass::Pass;
@@ -23,7 +23,7 @@ pub(crate) fn read_buses(
     count: u16,
 ) -> Pass
     requires { ⌜ (start ≤ length (now text)) × (count ≤ 256) × (place + count < 65536) × (listed ≡ withBuses listed []) ⌝ }
-    ensures { λ r. ⌜ IsPass (withBuses listed) (now (text .entry)) (passRun bus busOf busBytes count place (cut (drop start (now (text .entry))))) r ⌝ }
+    ensures { λ r. ⌜ IsPass (withBuses listed) (now (text .entry)) (passRun bus busFrom busBytes count place (cut (drop start (now (text .entry))))) r ⌝ }
 {
     let mut network = listed;
     let mut at = start;

@@ -1,10 +1,10 @@
 -- The fields of a row, each read at its position, are the row's fields.
 use mathlib.Core.Path.{_≡_, refl}
-use mathlib.Core.List.{List, _∷_}
+use mathlib.Core.List.{List, _++_}
 use Prim.Native.Nat.{ℕ, zero, suc, _/_, _%_, _^_, _≤_, _<_}
 use native.Mathlib.Omega.{arith}
 use native.Mathlib.Nat.{pow-le-pow-right, min-le-left}
-use lib.Dec.{eqb, ltb, lit<}
+use lib.Dec.{eqb, lit<}
 use lib.ListN.{length, take, drop, length-take}
 use lib.Seq.{drop-drop}
 use lib.Ieee.{Float, binary64, ofBits}
@@ -15,11 +15,11 @@ use Rattle.network.specs.declared.bus.Bus.{Bus}
 use Rattle.network.specs.declared.branch.Branch.{Branch}
 use Rattle.network.specs.declared.switch.Switch.{Switch}
 use Rattle.network.specs.declared.switch.ReconfigAlgorithm.the-variants.{Exhaustive}
-use Rattle.network.specs.Answers.{Answer, accepted, refused, answerOf, _andThen_, _if_, judge}
+use Rattle.network.specs.Answers.{Answer, accepted, refused, answerOf, _andThen_, judge}
 use Rattle.network.specs.Faults.{Head, headFaults}
 use Rattle.lines.specs.Hex.{number, readFields}
 use Rattle.lines.specs.HexLaws.{number-below}
-use Rattle.record_lines.specs.Kinds.{methodOf, head, bus, branch, switch, headOf, headLineFaults, busOf, branchOf, switchOf, branchBytes, switchBytes}
+use Rattle.record_lines.specs.Kinds.{methodOf, methodFaults, head, bus, branch, switch, headFrom, headLineFaults, busFrom, branchFrom, switchFrom, branchBytes, switchBytes}
 use Rattle.record_lines.specs.LineAnswers.{headWith}
 
 -- a number of w digits
@@ -49,20 +49,20 @@ module _ (f : List ℕ) where
   pub head-is : {v : Answer Head} {buses branches switches method iterations : ℕ} {base : Float}
       → buses ≡ number (take 4 f) → branches ≡ number (take 4 (drop 4 f)) → switches ≡ number (take 4 (drop 8 f)) → base ≡ ofBits binary64 (number (take 16 (drop 12 f)))
       → method ≡ number (take 2 (drop 28 f)) → iterations ≡ number (take 4 (drop 30 f))
-      → v ≡ (judge ((3 if ltb 2 method) ∷ headFaults (headWith buses branches switches base method iterations)) 1 andThen accepted (headWith buses branches switches base method iterations))
-      → v ≡ (judge (headLineFaults (readFields (head .widths) f)) 1 andThen accepted (headOf (readFields (head .widths) f)))
+      → v ≡ (judge (methodFaults method ++ headFaults (headWith buses branches switches base method iterations)) 1 andThen accepted (headWith buses branches switches base method iterations))
+      → v ≡ (judge (headLineFaults (readFields (head .widths) f)) 1 andThen accepted (headFrom (readFields (head .widths) f)))
   unfolding readFields
   head-is b r s x m i e = rw (behind-8, behind-12, behind-28, behind-30, ← b, ← r, ← s, ← x, ← m, ← i) e
 
   pub bus-is : {id : ℕ} {pd : Float} → id ≡ number (take 4 f) → pd ≡ ofBits binary64 (number (take 16 (drop 4 f)))
-      → _≡_ {A = Bus} (record { id = id; pd = record { 0 = pd } }) (busOf (readFields (bus .widths) f))
+      → _≡_ {A = Bus} (record { id = id; pd = record { 0 = pd } }) (busFrom (readFields (bus .widths) f))
   unfolding readFields
   bus-is p q = rw (p, q)
 
   module _ (place : ℕ) where
     -- a branch line's fields, and a status byte without a meaning
     abbrev branchRead : Answer Branch
-    branchRead = judge (branchBytes (readFields (branch .widths) f)) place andThen accepted (branchOf (readFields (branch .widths) f))
+    branchRead = judge (branchBytes (readFields (branch .widths) f)) place andThen accepted (branchFrom (readFields (branch .widths) f))
 
     module _ {status : ℕ} (s : status ≡ number (take 2 (drop 24 f))) where
       pub branch-unmeant : 1 < status → refused 3 place ≡ branchRead
@@ -76,7 +76,7 @@ module _ (f : List ℕ) where
 
     -- a switch line's fields, and flags without a meaning
     abbrev switchRead : Answer Switch
-    switchRead = judge (switchBytes (readFields (switch .widths) f)) place andThen accepted (switchOf (readFields (switch .widths) f))
+    switchRead = judge (switchBytes (readFields (switch .widths) f)) place andThen accepted (switchFrom (readFields (switch .widths) f))
 
     module _ {flags : ℕ} (s : flags ≡ number (take 2 (drop 8 f))) where
       pub switch-unmeant : 3 < flags → refused 3 place ≡ switchRead
@@ -97,7 +97,7 @@ last-method (suc (suc m)) h = refl
 -- ---- a head's fields: the method byte, then the conditions of a head
 module _ (method : ℕ) (h : Head) where
   abbrev headRead : Answer Head
-  headRead = judge ((3 if ltb 2 method) ∷ headFaults h) 1 andThen accepted h
+  headRead = judge (methodFaults method ++ headFaults h) 1 andThen accepted h
 
   pub method-unmeant : 2 < method → refused 3 1 ≡ headRead
   unfolding judge _andThen_

@@ -1,19 +1,18 @@
 -- A line that passes rows 1 and 2 of a kind stands whole at the front of the text: its characters, and the lines behind it; and reading it is reading its fields.
 use mathlib.Core.Path.{_≡_, refl, sym, ap, _∙_, subst}
-use mathlib.Core.Bool.{Bool, true, false, cond, not, _||_, false≢true}
+use mathlib.Core.Bool.{Bool, true, false, cond, false≢true}
 use mathlib.Core.List.{List, [], _∷_}
-use Prim.Native.Nat.{ℕ, suc, _%_, _<_}
+use Prim.Native.Nat.{ℕ, suc, _<_}
 use native.Mathlib.Omega.{arith}
 use lib.Dec.{eqb}
 use lib.ListN.{length, take, drop}
-use borrow.Author.Tests.{eqb-true, not-false}
-use Rattle.numbers.specs.Every.{every}
+use borrow.Author.Tests.{eqb-true}
 use Rattle.network.specs.Answers.{Answer, accepted, refused, _andThen_, Fault, judge}
-use Rattle.lines.specs.Hex.{isDigit, number, Fields, readFields, total}
+use Rattle.lines.specs.Hex.{number, Fields, readFields, total}
 use Rattle.lines.specs.Lines.{Line, put, cut, lineFaults}
 use Rattle.lines.specs.Frames.{Frame, layout}
-use Rattle.record_lines.specs.Kinds.{looks, fieldsOf, readOne, without}
-use Rattle.lines.specs.JudgeLaws.{Verdict, both, neither, no-refusal, judge-append, judge-passed}
+use Rattle.record_lines.specs.Kinds.{isFrame, fieldsOf, readOne, without}
+use Rattle.lines.specs.JudgeLaws.{Verdict, both, no-refusal, judge-append, line-passed}
 use Rattle.record_lines.specs.VerdictLaws.{then-accepted, without-then}
 use Rattle.network.specs.AnswerLaws.{same-value}
 use Rattle.lines.specs.FirstLine.{judgeFirst, wanted, judgeFrame}
@@ -60,19 +59,11 @@ pub record Framed (t : List ℕ) (size : ℕ) : Type 0 where
   pub room : size < length t
   pub line : cut t ≡ record { chars = take size t; ended = true } ∷ cut (drop (suc size) t)
 
-passed : (b : Bool) (l : Line) (p : ℕ) → judge (lineFaults b l) p ≡ accepted tt → (l .ended ≡ true) × (b ≡ true)
-unfolding lineFaults
-passed b l p e =
-    let s₁ = judge-passed 2 _ _ p e in
-    let s₂ = judge-passed 1 _ _ p (s₁ .1) in
-    let s₃ = judge-passed 2 _ _ p (s₂ .1) in
-    let n = neither (not (l .ended) || eqb (length (l .chars) % 2) 1) (not (every isDigit (l .chars))) (s₂ .0) in
-    (not-false _ (neither (not (l .ended)) (eqb (length (l .chars) % 2) 1) (n .0) .0), not-false _ (s₃ .0))
-
 line-framed : (kind size p : ℕ) (t : List ℕ) (l : Line) (ls : List Line) → cut t ≡ l ∷ ls → judge (lineFaults (wanted kind size l) l) p ≡ accepted tt → Framed t size
+unfolding lineFaults
 line-framed kind size p t l ls q a =
-    let h = passed (wanted kind size l) l p a in
-    let long : length (l .chars) ≡ size = eqb-true _ _ (both (eqb (length (l .chars)) size) (eqb (number (take 2 (l .chars))) kind) (h .1) .0) in
+    let h = line-passed (wanted kind size l) l [] p a in
+    let long : length (l .chars) ≡ size = eqb-true _ _ (both (eqb (length (l .chars)) size) (eqb (number (take 2 (l .chars))) kind) (h .2) .0) in
     let f : Front t (l ∷ ls) = subst (Front t) q (cut-front t (ap firstEnded q ∙ h .0)) in
     let chars : l .chars ≡ take size t = f .chars ∙ ap (λ (k : ℕ). take k t) long in
     let rest : ls ≡ cut (drop (suc size) t) = f .rest ∙ ap (λ (k : ℕ). cut (drop (suc k) t)) long in
@@ -100,20 +91,20 @@ fieldsAt F t = readFields (F .widths) (drop 2 (take (size F) t))
 module _ {A : Type 0} (F : Frame) (make : Fields (F .widths) → A) (bytes : Fields (F .widths) → List Fault) (p : ℕ) where
   -- rows 1 and 2 come first
   pub one-refused : (ls : List Line) {m q : ℕ} → judgeFrame (F .kind) (size F) p ls ≡ refused m q → readOne F make bytes p ls ≡ refused m q
-  unfolding judgeFrame judgeFirst readOne looks readFields _andThen_
+  unfolding judgeFrame judgeFirst readOne isFrame readFields _andThen_
   one-refused [] e = ap (λ (v : Verdict). v andThen refused 2 p) e
-  one-refused (l ∷ ls) e = rw (judge-append (lineFaults (looks F l) l) (bytes (fieldsOf F l)) p, e)
+  one-refused (l ∷ ls) e = rw (judge-append (lineFaults (isFrame F l) l) (bytes (fieldsOf F l)) p, e)
 
   -- then the fields
   pub one-framed : (t : List ℕ) → judgeFrame (F .kind) (size F) p (cut t) ≡ accepted tt
       → readOne F make bytes p (cut t) ≡ (judge (bytes (fieldsAt F t)) p andThen accepted (make (fieldsAt F t), cut (drop (suc (size F)) t)))
-  unfolding judgeFrame judgeFirst readOne looks fieldsOf readFields _andThen_
+  unfolding judgeFrame judgeFirst readOne isFrame fieldsOf readFields _andThen_
   one-framed t e =
       let f = framed (F .kind) (size F) p t e in
       let l : Line = record { chars = take (size F) t; ended = true } in
       let rest = cut (drop (suc (size F)) t) in
-      let clear : judge (lineFaults (looks F l) l) p ≡ accepted tt = sym (ap (judgeFrame (F .kind) (size F) p) (f .line)) ∙ e in
-      ap (readOne F make bytes p) (f .line) ∙ rw (judge-append (lineFaults (looks F l) l) (bytes (fieldsOf F l)) p, clear)
+      let clear : judge (lineFaults (isFrame F l) l) p ≡ accepted tt = sym (ap (judgeFrame (F .kind) (size F) p) (f .line)) ∙ e in
+      ap (readOne F make bytes p) (f .line) ∙ rw (judge-append (lineFaults (isFrame F l) l) (bytes (fieldsOf F l)) p, clear)
 
 -- ---- a refusal by its number and place
 abbrev numberOf : {A : Type 0} → Answer A → ℕ

@@ -34,22 +34,22 @@ abbrev pub switch : Frame
 switch = record { kind = 4; widths = 4 ∷ 4 ∷ 2 ∷ [] }
 
 -- has a line this kind's length and kind byte?
-unfoldable pub looks : Frame → Line → Bool
-looks F l = eqb (length (l .chars)) (total (layout F)) && eqb (readFields (layout F) (l .chars) .0) (F .kind)
+unfoldable pub isFrame : Frame → Line → Bool
+isFrame F l = eqb (length (l .chars)) (total (layout F)) && eqb (readFields (layout F) (l .chars) .0) (F .kind)
 
 -- what the characters of a line say behind the kind byte
 unfoldable pub fieldsOf : (F : Frame) → Line → Fields (F .widths)
 fieldsOf F l = readFields (layout F) (l .chars) .1
 
 -- ---- the record that the fields make
--- "Methods: 00 exchange, 01 tabu, 02 exhaustive": for these three bytes the method of the byte (`RecordLaws.method-kept`). A greater byte is 3 (`headLineFaults`), and its method counts nowhere
+-- "Methods: 00 exchange, 01 tabu, 02 exhaustive": for these three bytes the method of the byte (`frames/specs/RecordLaws.method-kept`). A greater byte is 3 (`methodFaults`), and its method counts nowhere
 unfoldable pub methodOf : ℕ → ReconfigAlgorithm
 methodOf zero = BranchExchange
 methodOf (suc zero) = TabuSearch
 methodOf (suc (suc n)) = Exhaustive
 
-abbrev pub headOf : Fields (head .widths) → Head
-headOf f =
+abbrev pub headFrom : Fields (head .widths) → Head
+headFrom f =
     record {
       buses = f .0;
       branches = f .1 .0;
@@ -59,31 +59,24 @@ headOf f =
       iterations = f .1 .1 .1 .1 .1 .0;
     }
 
-abbrev pub busOf : Fields (bus .widths) → N-bus.Bus
-busOf f = record { id = f .0; pd = record { 0 = ofBits binary64 (f .1 .0) } }
+abbrev pub busFrom : Fields (bus .widths) → N-bus.Bus
+busFrom f = record { id = f .0; pd = record { 0 = ofBits binary64 (f .1 .0) } }
 
-abbrev pub branchOf : Fields (branch .widths) → N-branch.Branch
-branchOf f = record { «from_bus» = f .0; «to_bus» = f .1 .0; r = ofBits binary64 (f .1 .1 .0); status = eqb (f .1 .1 .1 .0) 1 }
+abbrev pub branchFrom : Fields (branch .widths) → N-branch.Branch
+branchFrom f = record { «from_bus» = f .0; «to_bus» = f .1 .0; r = ofBits binary64 (f .1 .1 .0); status = eqb (f .1 .1 .1 .0) 1 }
 
 -- "flags byte: bit 0 normally_open, bit 1 can_operate"
-abbrev pub switchOf : Fields (switch .widths) → N-switch.Switch
-switchOf f =
+abbrev pub switchFrom : Fields (switch .widths) → N-switch.Switch
+switchFrom f =
     record { id = f .0; «branch_idx» = f .1 .0; «normally_open» = eqb (f .1 .1 .0 % 2) 1; «can_operate» = eqb (f .1 .1 .0 / 2 % 2) 1 }
 
--- ---- refusals 3 to 9 of a line: first a byte without a meaning, then the record's own conditions
-abbrev pub headLineFaults : Fields (head .widths) → List Fault
-headLineFaults f = (3 if ltb 2 (f .1 .1 .1 .1 .0)) ∷ headFaults (headOf f)
+-- ---- row 3, "method, status or flags byte has no meaning"; a bus line has no such byte
+abbrev pub methodFaults : ℕ → List Fault
+methodFaults method = (3 if ltb 2 method) ∷ []
 
-abbrev pub busLineFaults : List N-bus.Bus → Fields (bus .widths) → List Fault
-busLineFaults before f = busFaults before (busOf f)
+abbrev pub headBytes : Fields (head .widths) → List Fault
+headBytes f = methodFaults (f .1 .1 .1 .1 .0)
 
-abbrev pub branchLineFaults : List N-bus.Bus → Fields (branch .widths) → List Fault
-branchLineFaults buses f = (3 if ltb 1 (f .1 .1 .1 .0)) ∷ branchFaults buses (branchOf f)
-
-abbrev pub switchLineFaults : Head → List N-switch.Switch → Fields (switch .widths) → List Fault
-switchLineFaults h before f = (3 if ltb 3 (f .1 .1 .0)) ∷ switchFaults h before (switchOf f)
-
--- ---- a byte without a meaning, row 3; a bus line has no such byte
 abbrev pub busBytes : Fields (bus .widths) → List Fault
 busBytes f = []
 
@@ -93,6 +86,19 @@ branchBytes f = (3 if ltb 1 (f .1 .1 .1 .0)) ∷ []
 abbrev pub switchBytes : Fields (switch .widths) → List Fault
 switchBytes f = (3 if ltb 3 (f .1 .1 .0)) ∷ []
 
+-- ---- refusals 3 to 9 of a line: first a byte without a meaning, then the record's own conditions
+abbrev pub headLineFaults : Fields (head .widths) → List Fault
+headLineFaults f = headBytes f ++ headFaults (headFrom f)
+
+abbrev pub busLineFaults : List N-bus.Bus → Fields (bus .widths) → List Fault
+busLineFaults before f = busBytes f ++ busFaults before (busFrom f)
+
+abbrev pub branchLineFaults : List N-bus.Bus → Fields (branch .widths) → List Fault
+branchLineFaults buses f = branchBytes f ++ branchFaults buses (branchFrom f)
+
+abbrev pub switchLineFaults : Head → List N-switch.Switch → Fields (switch .widths) → List Fault
+switchLineFaults h before f = switchBytes f ++ switchFaults h before (switchFrom f)
+
 -- ---- a reader takes lines from the front
 abbrev pub Reader : Type 0 → Type 0
 Reader A = List Line → Answer (A × List Line)
@@ -100,7 +106,7 @@ Reader A = List Line → Answer (A × List Line)
 -- one line of a kind, at this place; a missing line is 2
 unfoldable pub readOne : {A : Type 0} → (F : Frame) → (Fields (F .widths) → A) → (Fields (F .widths) → List Fault) → ℕ → Reader A
 readOne F make faults place [] = refused 2 place
-readOne F make faults place (l ∷ ls) = judge (lineFaults (looks F l) l ++ faults (fieldsOf F l)) place andThen accepted (make (fieldsOf F l), ls)
+readOne F make faults place (l ∷ ls) = judge (lineFaults (isFrame F l) l ++ faults (fieldsOf F l)) place andThen accepted (make (fieldsOf F l), ls)
 
 -- what a reader says without the lines left
 unfoldable pub without : {A : Type 0} → Answer (A × List Line) → Answer A

@@ -4,7 +4,7 @@ ghost use lib.ListN.{drop};
 ghost use Rattle.network.specs.Answers.{accepted, _andThen_, judge};
 ghost use Rattle.lines.specs.Hex.{readFields};
 ghost use Rattle.lines.specs.Lines.{cut};
-ghost use Rattle.record_lines.specs.Kinds.{branch, branchOf, readOne, without, branchBytes};
+ghost use Rattle.record_lines.specs.Kinds.{branch, branchFrom, readOne, without, branchBytes};
 ghost use Rattle.record_lines.specs.LineAnswers.{branchAnswer};
 use crate::field;
 use lines::line::judge_line;
@@ -23,7 +23,7 @@ pub enum BranchRead {
 
 // The fields of a branch line, behind its kind byte. A status byte over 01 has no meaning.
 fn branch_fields(f: &[u8], place: u16) -> BranchRead
-    ensures { λ r. ⌜ branchAnswer r ≡ (judge (branchBytes (readFields (branch .widths) (now (f .entry)))) place andThen accepted (branchOf (readFields (branch .widths) (now (f .entry))))) ⌝ }
+    ensures { λ r. ⌜ branchAnswer r ≡ (judge (branchBytes (readFields (branch .widths) (now (f .entry)))) place andThen accepted (branchFrom (readFields (branch .widths) (now (f .entry))))) ⌝ }
 {
     let from_bus = field::word(f, 0);
     let to_bus = field::word(f, 4);
@@ -42,7 +42,7 @@ fn branch_fields(f: &[u8], place: u16) -> BranchRead
 
 // The branch of the line that begins at `at`, or refusal 1, 2 or 3.
 pub fn branch_line(text: &[u8], at: usize, place: u16) -> BranchRead
-    ensures { λ r. ⌜ branchAnswer r ≡ without (readOne branch branchOf branchBytes place (cut (drop at (now (text .entry))))) ⌝ }
+    ensures { λ r. ⌜ branchAnswer r ≡ without (readOne branch branchFrom branchBytes place (cut (drop at (now (text .entry))))) ⌝ }
 {
     let v = judge_line(text, at, place, KIND, SIZE);
     if let Verdict::Refused { number, place } = v {

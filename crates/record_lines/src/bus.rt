@@ -3,7 +3,7 @@ ghost use mathlib.Core.Path.{_≡_};
 ghost use lib.ListN.{drop};
 ghost use Rattle.lines.specs.Hex.{readFields};
 ghost use Rattle.lines.specs.Lines.{cut};
-ghost use Rattle.record_lines.specs.Kinds.{bus, busOf, readOne, without, busBytes};
+ghost use Rattle.record_lines.specs.Kinds.{bus, busFrom, readOne, without, busBytes};
 ghost use Rattle.record_lines.specs.LineAnswers.{busAnswer};
 use crate::field;
 use lines::line::judge_line;
@@ -23,7 +23,7 @@ pub enum BusRead {
 
 // The fields of a bus line, behind its kind byte.
 fn bus_fields(f: &[u8]) -> Bus
-    ensures { λ r. ⌜ r ≡ busOf (readFields (bus .widths) (now (f .entry))) ⌝ }
+    ensures { λ r. ⌜ r ≡ busFrom (readFields (bus .widths) (now (f .entry))) ⌝ }
 {
     let id = field::word(f, 0);
     let pd = field::float(f, 4);
@@ -32,7 +32,7 @@ fn bus_fields(f: &[u8]) -> Bus
 
 // The bus of the line that begins at `at`, or refusal 1 or 2.
 pub fn bus_line(text: &[u8], at: usize, place: u16) -> BusRead
-    ensures { λ r. ⌜ busAnswer r ≡ without (readOne bus busOf busBytes place (cut (drop at (now (text .entry))))) ⌝ }
+    ensures { λ r. ⌜ busAnswer r ≡ without (readOne bus busFrom busBytes place (cut (drop at (now (text .entry))))) ⌝ }
 {
     let v = judge_line(text, at, place, KIND, SIZE);
     if let Verdict::Refused { number, place } = v {

@@ -1,12 +1,11 @@
 // The head frame: 01, then buses, branches, switches, base_mva, method byte, max_iterations.
 ghost use mathlib.Core.Path.{_≡_};
-ghost use mathlib.Core.List.{_∷_};
-ghost use lib.Dec.{ltb};
-ghost use Rattle.network.specs.Answers.{accepted, _andThen_, _if_, judge};
+ghost use mathlib.Core.List.{_++_};
+ghost use Rattle.network.specs.Answers.{accepted, _andThen_, judge};
 ghost use Rattle.network.specs.Faults.{headFaults};
 ghost use Rattle.lines.specs.Hex.{readFields};
 ghost use Rattle.lines.specs.Lines.{cut};
-ghost use Rattle.record_lines.specs.Kinds.{head, methodOf, headOf, headLineFaults, readOne, without};
+ghost use Rattle.record_lines.specs.Kinds.{head, methodOf, methodFaults, headFrom, headLineFaults, readOne, without};
 ghost use Rattle.record_lines.specs.LineAnswers.{headAnswer, headWith};
 use crate::field;
 use lines::line::judge_line;
@@ -53,7 +52,7 @@ fn head_with(
     method: u8,
     max_iterations: u16,
 ) -> HeadRead
-    ensures { λ r. ⌜ headAnswer r ≡ (judge ((3 if ltb 2 method) ∷ headFaults (headWith buses branches switches «base_mva» method «max_iterations»)) 1
+    ensures { λ r. ⌜ headAnswer r ≡ (judge (methodFaults method ++ headFaults (headWith buses branches switches «base_mva» method «max_iterations»)) 1
         andThen accepted (headWith buses branches switches «base_mva» method «max_iterations»)) ⌝ }
 {
     if method > 2 {
@@ -78,7 +77,7 @@ fn head_with(
 
 // The fields of a head line, behind its kind byte.
 fn head_fields(f: &[u8]) -> HeadRead
-    ensures { λ r. ⌜ headAnswer r ≡ (judge (headLineFaults (readFields (head .widths) (now (f .entry)))) 1 andThen accepted (headOf (readFields (head .widths) (now (f .entry))))) ⌝ }
+    ensures { λ r. ⌜ headAnswer r ≡ (judge (headLineFaults (readFields (head .widths) (now (f .entry)))) 1 andThen accepted (headFrom (readFields (head .widths) (now (f .entry))))) ⌝ }
 {
     let buses = field::word(f, 0);
     let branches = field::word(f, 4);
@@ -91,7 +90,7 @@ fn head_fields(f: &[u8]) -> HeadRead
 
 // The first line of a text, judged whole.
 pub fn head_line(text: &[u8]) -> HeadRead
-    ensures { λ r. ⌜ headAnswer r ≡ without (readOne head headOf headLineFaults 1 (cut (now (text .entry)))) ⌝ }
+    ensures { λ r. ⌜ headAnswer r ≡ without (readOne head headFrom headLineFaults 1 (cut (now (text .entry)))) ⌝ }
 {
     let v = judge_line(text, 0, 1, KIND, SIZE);
     if let Verdict::Refused { number, place } = v {

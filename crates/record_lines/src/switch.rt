@@ -4,7 +4,7 @@ ghost use lib.ListN.{drop};
 ghost use Rattle.network.specs.Answers.{accepted, _andThen_, judge};
 ghost use Rattle.lines.specs.Hex.{readFields};
 ghost use Rattle.lines.specs.Lines.{cut};
-ghost use Rattle.record_lines.specs.Kinds.{switch, switchOf, readOne, without, switchBytes};
+ghost use Rattle.record_lines.specs.Kinds.{switch, switchFrom, readOne, without, switchBytes};
 ghost use Rattle.record_lines.specs.LineAnswers.{switchAnswer};
 use crate::field;
 use lines::line::judge_line;
@@ -23,7 +23,7 @@ pub enum SwitchRead {
 
 // The fields of a switch line, behind its kind byte. Flags other than bits 0 and 1 have no meaning.
 fn switch_fields(f: &[u8], place: u16) -> SwitchRead
-    ensures { λ r. ⌜ switchAnswer r ≡ (judge (switchBytes (readFields (switch .widths) (now (f .entry)))) place andThen accepted (switchOf (readFields (switch .widths) (now (f .entry))))) ⌝ }
+    ensures { λ r. ⌜ switchAnswer r ≡ (judge (switchBytes (readFields (switch .widths) (now (f .entry)))) place andThen accepted (switchFrom (readFields (switch .widths) (now (f .entry))))) ⌝ }
 {
     let id = field::word(f, 0);
     let branch_idx = field::word(f, 4);
@@ -41,7 +41,7 @@ fn switch_fields(f: &[u8], place: u16) -> SwitchRead
 
 // The switch of the line that begins at `at`, or refusal 1, 2 or 3.
 pub fn switch_line(text: &[u8], at: usize, place: u16) -> SwitchRead
-    ensures { λ r. ⌜ switchAnswer r ≡ without (readOne switch switchOf switchBytes place (cut (drop at (now (text .entry))))) ⌝ }
+    ensures { λ r. ⌜ switchAnswer r ≡ without (readOne switch switchFrom switchBytes place (cut (drop at (now (text .entry))))) ⌝ }
 {
     let v = judge_line(text, at, place, KIND, SIZE);
     if let Verdict::Refused { number, place } = v {

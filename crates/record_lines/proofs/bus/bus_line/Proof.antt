@@ -3,7 +3,7 @@ use mathlib.Core.Path.{refl, sym, ap, _∙_}
 use native.Mathlib.Omega.{arith}
 use borrow.Author.Needs.{needs}
 use Rattle.network.specs.Answers.{accepted, answerOf, _andThen_, judge}
-use Rattle.record_lines.specs.Kinds.{bus, busOf, busBytes}
+use Rattle.record_lines.specs.Kinds.{bus, busFrom, busBytes}
 use Rattle.record_lines.proofs.FrameLaws.{frame-room, frame-refused, frame-read}
 use Rattle.record_lines.proofs.bus.bus_line.Statement.{statement}
 use Rattle.record_lines.proofs.bus.bus_line.Tie as tie
@@ -18,7 +18,7 @@ returns : tie.Need-returns
 returns c =
     let d = c .before .before .before in
     let s = d .before .before in
-    frame-refused (s .args .text .now) (s .args .at) bus busOf busBytes _ (sym (d .judge-line .ensures) ∙ ap answerOf (c .before .v .given .1))
+    frame-refused (s .args .text .now) (s .args .at) bus busFrom busBytes _ (sym (d .judge-line .ensures) ∙ ap answerOf (c .before .v .given .1))
 
 enum-told : tie.Need-enum-told
 enum-told c = search needs
@@ -61,7 +61,7 @@ returns-2 c =
     let d = v .before .before in
     let s = d .before .before in
     ap (λ b. accepted b) (c .bus-fields .ensures)
-    ∙ frame-read (s .args .text .now) (s .args .at) bus busOf busBytes _ (sym (ap answerOf (v .enum-told .given .1)) ∙ d .judge-line .ensures) _ refl
+    ∙ frame-read (s .args .text .now) (s .args .at) bus busFrom busBytes _ (sym (ap answerOf (v .enum-told .given .1)) ∙ d .judge-line .ensures) _ refl
 
 pub bus-line-spec : {M : Type 1} → statement M
 bus-line-spec =

@@ -3,7 +3,7 @@ use mathlib.Core.Path.{refl, sym, ap, _∙_}
 use native.Mathlib.Omega.{arith}
 use borrow.Author.Needs.{needs}
 use Rattle.network.specs.Answers.{answerOf}
-use Rattle.record_lines.specs.Kinds.{head, headOf, headLineFaults}
+use Rattle.record_lines.specs.Kinds.{head, headFrom, headLineFaults}
 use Rattle.record_lines.proofs.FrameLaws.{frame-long, frame-refused, frame-read}
 use Rattle.record_lines.proofs.head.head_line.Statement.{statement}
 use Rattle.record_lines.proofs.head.head_line.Tie as tie
@@ -17,7 +17,7 @@ enum-known-v c = search needs
 returns : tie.Need-returns
 returns c =
     let d = c .before .before .before in
-    frame-refused (d .before .before .args .text .now) 0 head headOf headLineFaults _ (sym (d .judge-line .ensures) ∙ ap answerOf (c .before .v .given .1))
+    frame-refused (d .before .before .args .text .now) 0 head headFrom headLineFaults _ (sym (d .judge-line .ensures) ∙ ap answerOf (c .before .v .given .1))
 
 enum-told : tie.Need-enum-told
 enum-told c = search needs
@@ -55,7 +55,7 @@ returns-2 c =
     let d = v .before .before in
     let s = d .before .before in
     c .head-fields .ensures
-    ∙ frame-read (s .args .text .now) 0 head headOf headLineFaults 1 (sym (ap answerOf (v .enum-told .given .1)) ∙ d .judge-line .ensures) _ refl
+    ∙ frame-read (s .args .text .now) 0 head headFrom headLineFaults 1 (sym (ap answerOf (v .enum-told .given .1)) ∙ d .judge-line .ensures) _ refl
 
 pub head-line-spec : {M : Type 1} → statement M
 head-line-spec =

@@ -3,7 +3,7 @@ use mathlib.Core.Path.{refl, sym, ap, _∙_}
 use native.Mathlib.Omega.{arith}
 use borrow.Author.Needs.{needs}
 use Rattle.network.specs.Answers.{answerOf}
-use Rattle.record_lines.specs.Kinds.{switch, switchOf, switchBytes}
+use Rattle.record_lines.specs.Kinds.{switch, switchFrom, switchBytes}
 use Rattle.record_lines.proofs.FrameLaws.{frame-room, frame-refused, frame-read}
 use Rattle.record_lines.proofs.switch.switch_line.Statement.{statement}
 use Rattle.record_lines.proofs.switch.switch_line.Tie as tie
@@ -18,7 +18,7 @@ returns : tie.Need-returns
 returns c =
     let d = c .before .before .before in
     let s = d .before .before in
-    frame-refused (s .args .text .now) (s .args .at) switch switchOf switchBytes _ (sym (d .judge-line .ensures) ∙ ap answerOf (c .before .v .given .1))
+    frame-refused (s .args .text .now) (s .args .at) switch switchFrom switchBytes _ (sym (d .judge-line .ensures) ∙ ap answerOf (c .before .v .given .1))
 
 enum-told : tie.Need-enum-told
 enum-told c = search needs
@@ -60,7 +60,7 @@ returns-2 c =
     let d = v .before .before in
     let s = d .before .before in
     c .switch-fields .ensures
-    ∙ frame-read (s .args .text .now) (s .args .at) switch switchOf switchBytes _ (sym (ap answerOf (v .enum-told .given .1)) ∙ d .judge-line .ensures) _ refl
+    ∙ frame-read (s .args .text .now) (s .args .at) switch switchFrom switchBytes _ (sym (ap answerOf (v .enum-told .given .1)) ∙ d .judge-line .ensures) _ refl
 
 pub switch-line-spec : {M : Type 1} → statement M
 switch-line-spec =
