@@ -15,7 +15,7 @@ use Rattle.network.specs.Answers.{accepted}
 use Rattle.network.specs.Faults.{switchId}
 use Rattle.states.specs.Live.{live}
 use Rattle.states.specs.Switches.{State, byte, branchOf, operable, GoodState}
-use Rattle.graph.specs.Graph.{Path, Loop, Tree}
+use Rattle.graph.specs.Graph.{Path, Connected, Loop, Tree}
 use Rattle.radiality.specs.Feeder.{feeder, LiveIn}
 use Rattle.changes.specs.Change.{checkPlan}
 use Rattle.plan.specs.Plan.{Moves, plan}
@@ -88,6 +88,8 @@ pub record Exchanged (N : Network) (s t : State) (e f : ℕ) : Type 0 where
 pub record OnLoop (N : Network) (s t : State) (e f : ℕ) : Type 0 where
   pub closing : (live N s e ≡ false) × (live N t e ≡ true)
   pub nothing-else : (k : ℕ) → k ≢ e → live N t k ≡ live N s k
+  -- no bus loses supply between the closing and the opening
+  pub connected : Connected (feeder N) (LiveIn N t)
   pub path : List ℕ
   pub joins : Path (feeder N) (LiveIn N s) (feeder N .from e) (feeder N .to e) path
   pub only-path : (l : List ℕ) → Path (feeder N) (LiveIn N s) (feeder N .from e) (feeder N .to e) l → l ≡ path

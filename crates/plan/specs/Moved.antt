@@ -12,9 +12,9 @@ use Rattle.numbers.specs.Tests.{clash}
 use Rattle.network.specs.Records.{Network}
 use Rattle.states.specs.Live.{live}
 use Rattle.states.specs.Switches.{State, byte, branchOf, operable, GoodState}
-use Rattle.graph.specs.Graph.{Net, Branches, Live, Plus, Path, Loop, Tree}
+use Rattle.graph.specs.Graph.{Net, Branches, Live, Plus, Path, Connected, Loop, Tree}
 use Rattle.radiality.specs.Feeder.{feeder, LiveIn}
-use Rattle.graph.specs.Chains.{_⊆_}
+use Rattle.graph.specs.Chains.{_⊆_, joined-more}
 use Rattle.graph.specs.Paths.{path-more}
 use Rattle.graph.specs.Forests.{path-unique}
 use Rattle.graph.specs.Trees.{tree-forest, tree-same}
@@ -168,6 +168,10 @@ module _ {N : Network} (regular : Regular N) {s : State} {E : ℕ → Bool} {q :
       go (yes p) = inr p
       go (no n) = inl (l, sym (mid-other k n) ∙ t)
 
+  mid-connected : Connected (feeder N) (LiveIn N (closed N m s))
+  unfolding Connected
+  mid-connected a b x y = joined-more (λ k l. mid-more k (inl l)) (shows-tree h (r .tree) .connected a b x y)
+
   joins : Path (feeder N) (LiveIn N s) (feeder N .from e) (feeder N .to e) (r .fits .path)
   joins = path-more (shows-more h) (r .fits .joins)
 
@@ -176,6 +180,7 @@ module _ {N : Network} (regular : Regular N) {s : State} {E : ℕ → Bool} {q :
   pair-on-loop = rw (closed-on, opened-on) (record {
     closing = (h .flags e ∙ r .fits .dead, mid-closed);
     nothing-else = mid-other;
+    connected = mid-connected;
     path = r .fits .path;
     joins = joins;
     only-path = λ l p. path-unique (tree-forest (shows-tree h (r .tree))) p joins;
