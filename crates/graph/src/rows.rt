@@ -2,9 +2,10 @@
 // The branches of a feeder by their buses, in place of the source's map of neighbours.
 ghost use mathlib.Core.Path.{_≡_};
 ghost use mathlib.Core.List.{List};
-ghost use Prim.Native.Nat.{ℕ, _<_, min};
+ghost use Prim.Native.Nat.{ℕ, _<_};
 ghost use lib.ListN.{length, getD, set};
 ghost use Rattle.graph.specs.Rows.{rows, putBranch, farOf, graphOf};
+use numbers::at_most;
 use numbers::wide8;
 use numbers::wide16;
 
@@ -59,31 +60,19 @@ fn far_ends(from: &[u8; 512], to: &[u8; 512]) -> [u8; 1024]
     far
 }
 
-// How many branches are listed: branch_count, but 512 at most.
-fn listed(branch_count: u16) -> u16
-    ensures { λ r. ⌜ r ≡ min «branch_count» 512 ⌝ }
-{
-    if branch_count < 512 {
-        branch_count
-    } else {
-        512
-    }
-}
-
 impl Graph {
     // From the last listed branch to the first, each in front of its buses' rows. Branches from branch_count on are in no row.
     pub fn new(bus_count: u16, branch_count: u16, from: [u8; 512], to: [u8; 512]) -> Graph
         ensures { λ r. ⌜ r ≡ graphOf «bus_count» «branch_count» from to ⌝ }
     {
         let far = far_ends(&from, &to);
-        let n = listed(branch_count);
+        let n = at_most(wide16(branch_count), 512);
         let mut first = [1024u16; 256];
         let mut next = [1024u16; 1024];
-        let mut i = 0u16;
+        let mut i = 0usize;
         while i < n {
             let k = n - (i + 1);
-            let at = wide16(k);
-            put_branch(&mut first, &mut next, k, from[at], to[at]);
+            put_branch(&mut first, &mut next, k as u16, from[k], to[k]);
             i += 1;
         }
         Graph {
