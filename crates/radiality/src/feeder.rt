@@ -30,6 +30,29 @@ fn end_at<'a>(
     0
 }
 
+// The positions of a branch's two ends.
+struct BranchEnds {
+    from: u8,
+    to: u8,
+}
+
+fn ends_of<'a>(
+    branch: Branch,
+    ids: &'a [u16; 512],
+    first: &'a [u16; 256],
+    next: &'a [u16; 512],
+    n: usize,
+) -> BranchEnds
+    requires { ⌜ n ≤ 256 ⌝ }
+    ensures { λ r. ⌜ ((l : List ℕ) → n ≡ length l → rows (now (ids .entry)) (now (first .entry)) (now (next .entry)) ≡ idRows l
+        → (r .from ≡ endAt l (branch .«from_bus»)) × (r .to ≡ endAt l (branch .«to_bus»))) ⌝ }
+{
+    BranchEnds {
+        from: end_at(ids, first, next, n, branch.from_bus),
+        to: end_at(ids, first, next, n, branch.to_bus),
+    }
+}
+
 // The positions of the ends of each branch.
 struct Ends {
     from: [u8; 512],
@@ -54,9 +77,9 @@ fn branch_ends<'a>(
     let mut to = [0u8; 512];
     let mut k: usize = 0;
     while k < m {
-        let branch = branches[k];
-        from[k] = end_at(ids, first, next, n, branch.from_bus);
-        to[k] = end_at(ids, first, next, n, branch.to_bus);
+        let ends = ends_of(branches[k], ids, first, next, n);
+        from[k] = ends.from;
+        to[k] = ends.to;
         k += 1;
     }
     Ends { from, to }

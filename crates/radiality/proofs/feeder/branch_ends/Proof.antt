@@ -26,20 +26,17 @@ loop-holds c =
     let branches = c .before .args .t1 in
     (omega arith, λ l long e. (ends-start (λ b. b .«from_bus») l branches, ends-start (λ b. b .«to_bus») l branches))
 
-mul-branch : tie.Need-mul-branch Inv-loop μ-loop
-mul-branch c = search needs
+mul-ends-of : tie.Need-mul-ends-of Inv-loop μ-loop
+mul-ends-of c = search needs
 
-array-copy-out-branch : tie.Need-array-copy-out-branch Inv-loop μ-loop
-array-copy-out-branch c = search needs
+array-copy-out-ends-of : tie.Need-array-copy-out-ends-of Inv-loop μ-loop
+array-copy-out-ends-of c = search needs
 
-end-at-requires : tie.Need-end-at-requires Inv-loop μ-loop
-end-at-requires c κs = search needs
+ends-of-requires : tie.Need-ends-of-requires Inv-loop μ-loop
+ends-of-requires c κs = search needs
 
 array-write-from : tie.Need-array-write-from Inv-loop μ-loop
 array-write-from c = search needs
-
-end-at-requires-2 : tie.Need-end-at-requires-2 Inv-loop μ-loop
-end-at-requires-2 c κs = search needs
 
 array-write-to : tie.Need-array-write-to Inv-loop μ-loop
 array-write-to c = search needs
@@ -52,16 +49,16 @@ loop-less c = search needs
 
 loop-again : tie.Need-loop-again Inv-loop μ-loop
 loop-again c =
-    let from = c .before in
-    let at = from .before .before .before in
+    let at = c .before .before .before in
     let start = at .before .before in
     let sized : length (start .args .t1) ≡ 512 = start .good .0 .1 .0 .1 in
     let small : at .loop .k < 512 = omega arith in (
       omega arith,
       λ l long e.
-          let ends = at .loop .inv .1 l long e in (
-            end-resolved (λ b. b .«from_bus») l (start .args .t1) sized _ (at .loop .k) _ (ends .0) small (from .end-at .ensures l long e),
-            end-resolved (λ b. b .«to_bus») l (start .args .t1) sized _ (at .loop .k) _ (ends .1) small (c .end-at2 .ensures l long e),
+          let ends = at .loop .inv .1 l long e in
+          let found = c .ends-of .ensures l long e in (
+            end-resolved (λ b. b .«from_bus») l (start .args .t1) sized _ (at .loop .k) _ (ends .0) small (found .0),
+            end-resolved (λ b. b .«to_bus») l (start .args .t1) sized _ (at .loop .k) _ (ends .1) small (found .1),
           ),
     )
 
@@ -83,11 +80,10 @@ branch-ends-spec =
     μ-loop
     at-most-requires
     loop-holds
-    mul-branch
-    array-copy-out-branch
-    end-at-requires
+    mul-ends-of
+    array-copy-out-ends-of
+    ends-of-requires
     array-write-from
-    end-at-requires-2
     array-write-to
     add-k
     loop-less
