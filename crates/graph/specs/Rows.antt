@@ -115,3 +115,7 @@ unfoldable pub rowPath : Graph → List Bool → ℕ → ℕ → List ℕ
 rowPath g live a b =
     let o = walkBy (rowNeighbours g live) a a in
     cond (reached b o) (reverse (back (rowNet g) o a 256 b)) []
+
+-- the same between the ends of branch k, from its from bus
+abbrev pub rowEndsPath : Graph → List Bool → ℕ → List ℕ
+rowEndsPath g live k = rowPath g live (rowNet g .from k) (rowNet g .to k)

@@ -44,29 +44,3 @@ module _ (path : Path) (wanted : List Bool) where
       pub one-unwanted : b ≡ false → (l : List ℕ) → path ≡ pathOf l → getD (path .branch) at 0 ≡ firstUnwanted wanted l
       unfolding firstOf
       one-unwanted t l e = sym (w .rest l e ∙ rw (next-branch l e, ← f, t))
-
--- ---- beyond the branches that a graph has room for
-back-own : (N : Net) (o : List Visit) (a n : ℕ) → back N o a n a ≡ []
-unfolding back
-back-own N o a zero = refl
-back-own N o a (suc n) = rw (eq-eqb a a refl)
-
-path-own : (graph : Graph) (live : List Bool) (a : ℕ) → rowPath graph live a a ≡ []
-unfolding rowPath
-path-own graph live a =
-    let o = walkBy (rowNeighbours graph live) a a in
-    ap (λ (l : List ℕ). cond (reached a o) (reverse l) []) (back-own (rowNet graph) o a 256) ∙ go (reached a o)
-  where
-    go : (b : Bool) → _≡_ {A = List ℕ} (cond b [] []) []
-    go true = refl
-    go false = refl
-
--- both ends are bus 0 there, so that the path is empty
-pub opening-beyond : (graph : Graph) (live wanted : List Bool) (k : ℕ) → length (graph .far) ≡ 1024 → 512 ≤ k → 0 ≡ rowOpening graph live wanted k
-unfolding rowOpening firstOf
-opening-beyond graph live wanted k e h =
-    let from : getD (graph .far) (2 * k + 1) 0 ≡ 0 = List·getD-eq-default (graph .far) 0 {n = 2 * k + 1} (omega (arith, e)) in
-    let to : getD (graph .far) (2 * k) 0 ≡ 0 = List·getD-eq-default (graph .far) 0 {n = 2 * k} (omega (arith, e)) in
-    sym (ap (λ (v : ℕ). firstUnwanted wanted (rowPath graph live v (getD (graph .far) (2 * k) 0))) from
-    ∙ ap (λ (v : ℕ). firstUnwanted wanted (rowPath graph live 0 v)) to
-    ∙ ap (firstUnwanted wanted) (path-own graph live 0))

@@ -4,7 +4,7 @@ use mathlib.Core.List.{List}
 use Prim.Native.Nat.{ℕ}
 use Rattle.numbers.specs.Choose.{firstOf}
 use Rattle.graph.specs.declared.rows.Graph.{Graph}
-use Rattle.graph.specs.Rows.{flag, rowNet, rowPath}
+use Rattle.graph.specs.Rows.{flag, rowEndsPath}
 
 -- the first branch of a path that is not wanted
 abbrev pub firstUnwanted : List Bool → List ℕ → ℕ
@@ -12,4 +12,4 @@ firstUnwanted wanted path = firstOf (λ k. not (flag wanted k)) 0 path
 
 -- the opening that goes with closing branch k, by the rows
 unfoldable pub rowOpening : Graph → List Bool → List Bool → ℕ → ℕ
-rowOpening g live wanted k = firstUnwanted wanted (rowPath g live (rowNet g .from k) (rowNet g .to k))
+rowOpening g live wanted k = firstUnwanted wanted (rowEndsPath g live k)

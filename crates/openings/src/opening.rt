@@ -8,7 +8,7 @@ use changes::flags::flagged;
 use graph::rows::Graph;
 use graph::walks::Path;
 use numbers::wide16;
-use paths::path::bfs_path;
+use paths::path::path_of_ends;
 
 // The first branch of a path that is not wanted; 0 where all are.
 fn first_unwanted(path: Path, wanted: &[bool]) -> u16
@@ -28,16 +28,10 @@ fn first_unwanted(path: Path, wanted: &[bool]) -> u16
     0
 }
 
-// The branch that is opened once branch k is closed: the first unwanted one on the path between its ends, from the from bus. Beyond the branches that a
-// graph has room for both ends are bus 0, and the path has none.
+// The branch that is opened once branch k is closed: the first unwanted one on the path between its ends, from the from bus.
 pub fn opening(graph: Graph, live: [bool; 512], wanted: [bool; 512], k: u16) -> u16
     ensures { λ r. ⌜ r ≡ rowOpening graph live wanted k ⌝ }
 {
-    if 512 <= k {
-        return 0;
-    }
-    let from_half = wide16(2 * k + 1);
-    let to_half = wide16(2 * k);
-    let path = bfs_path(graph, live, graph.far[from_half], graph.far[to_half]);
+    let path = path_of_ends(graph, live, k);
     first_unwanted(path, &wanted)
 }

@@ -5,7 +5,7 @@ ghost use mathlib.Core.List.{List, reverse};
 ghost use Prim.Native.Nat.{ℕ, _<_, _≤_};
 ghost use lib.ListN.{length, getD};
 ghost use Rattle.graph.specs.Walk.{Visit, byOf, back};
-ghost use Rattle.graph.specs.Rows.{walked, rowNet, acrossFar, rowPath, pathOf};
+ghost use Rattle.graph.specs.Rows.{walked, rowNet, acrossFar, rowPath, rowEndsPath, pathOf};
 ghost use Rattle.graph.specs.Walking.{WayOf};
 use bfs::walk::walk;
 use graph::rows::Graph;
@@ -108,4 +108,19 @@ pub fn bfs_path(graph: Graph, live: [bool; 512], from: u8, to: u8) -> Path
         count: 0,
         branch: [0u16; 256],
     }
+}
+
+// The path between the ends of branch k, beginning at its from bus. Beyond the branches that a graph has room for both ends are bus 0, and the path has none.
+pub fn path_of_ends(graph: Graph, live: [bool; 512], k: u16) -> Path
+    ensures { λ r. ⌜ r ≡ pathOf (rowEndsPath graph live k) ⌝ }
+{
+    if 512 <= k {
+        return Path {
+            count: 0,
+            branch: [0u16; 256],
+        };
+    }
+    let from_half = wide16(2 * k + 1);
+    let to_half = wide16(2 * k);
+    bfs_path(graph, live, graph.far[from_half], graph.far[to_half])
 }

@@ -8,9 +8,10 @@ use Rattle.network.specs.Records.{Network, noBranch}
 use Rattle.network.specs.Faults.{busId}
 use Rattle.states.specs.Live.{live}
 use Rattle.graph.specs.Graph.{Net, Branches, Live}
+use Rattle.graph.specs.Walk.{bfsPath}
 use Rattle.graph.specs.Radial.{radial}
 
--- the position of the bus with this id
+-- the position of the bus with this id; the number of buses where none has it, which refusal 6 rules out
 unfoldable pub position : Network → ℕ → ℕ
 position N id = indexOf id (map busId (N .buses))
 
@@ -22,6 +23,10 @@ feeder N =
       from = λ k. position N (getD (N .branches) k noBranch .«from_bus»);
       to = λ k. position N (getD (N .branches) k noBranch .«to_bus»);
     }
+
+-- the path that joins the ends of branch k over the flagged branches, from its from bus
+unfoldable pub endsPath : Network → (ℕ → Bool) → ℕ → List ℕ
+endsPath N E k = bfsPath (feeder N) E (feeder N .from k) (feeder N .to k)
 
 -- the live branches of a state, as a set
 abbrev pub LiveIn : Network → List ℕ → Branches

@@ -30,9 +30,9 @@ use Rattle.states.specs.Configuration.{configurationOf}
 use Rattle.graph.specs.Graph.{Net}
 use Rattle.graph.specs.Walk.{bfsPath}
 use Rattle.graph.specs.Radial.{radial}
-use Rattle.radiality.specs.Feeder.{position, feeder, radialIn}
-use Rattle.radiality.specs.FeederLaws.{feeder-few}
-use Rattle.graph.specs.Rows.{flag, netOf, rowNet, rowRadial, rowPath, graphOf}
+use Rattle.radiality.specs.Feeder.{position, feeder, endsPath, radialIn}
+use Rattle.radiality.specs.FeederLaws.{feeder-sound, feeder-small, feeder-few}
+use Rattle.graph.specs.Rows.{flag, netOf, rowNet, rowRadial, rowPath, rowEndsPath, graphOf}
 use Rattle.graph.specs.RowsHold.{far-hold}
 use Rattle.graph.specs.RowsWalk.{Positions, row-radial-is-radial, row-path-is-path}
 use Rattle.radiality.specs.FeederRows.{listedIds, endAt, endsOf, fromEnds, toEnds, feederGraph, liveFlags}
@@ -158,6 +158,15 @@ module _ (n : PowerNetwork) (sized : length (n .buses) ≡ 256) where
       feeder-row-path a b h =
           row-path-is-path _ _ (fromEnds n) (toEnds n) flags feeder-positions short a b h
           ∙ sym (path-same _ arrays (flag flags) _ same-buses same-branches (λ k l. refl) feeder-ends a b)
+
+      pub feeder-row-ends-path : (k : ℕ) → k < feeder (recordsOf n) .branches → rowEndsPath (feederGraph n) flags k ≡ endsPath (recordsOf n) (flag flags) k
+      unfolding endsPath
+      feeder-row-ends-path k h =
+          let ends = feeder-row-ends k h in
+          let small = feeder-sound (recordsOf n) inside k h .0 in
+          ap (λ (v : ℕ). rowPath (feederGraph n) flags v (rowNet (feederGraph n) .to k)) (ends .0)
+          ∙ ap (rowPath (feederGraph n) flags (feeder (recordsOf n) .from k)) (ends .1)
+          ∙ feeder-row-path _ _ (omega (arith, feeder-small (recordsOf n) inside))
 
     -- so for the live branches of a state
     module _ (s : List ℕ) where
