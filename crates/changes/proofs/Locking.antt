@@ -11,24 +11,24 @@ use Rattle.network.specs.declared.topology.PowerNetwork.{PowerNetwork}
 use Rattle.network.specs.Records.{noSwitch, recordsOf}
 use Rattle.network.specs.Answers.{accepted, refused}
 use Rattle.states.specs.Listed.{switches-listed, switch-at}
-use Rattle.states.specs.Switches.{State, byte, branchOf, operable}
+use Rattle.states.specs.Switches.{State, byte}
 use Rattle.graph.specs.Rows.{flag}
 use Rattle.radiality.specs.FeederRows.{liveFlags}
-use Rattle.changes.specs.Change.{differing, lockedDifferences, refuseLocked, checkLocked}
+use Rattle.changes.specs.Change.{differing, lockedDifference, lockedDifferences, refuseLocked, checkLocked}
 use Rattle.changes.specs.Onward.{onward, onward-all, onward-none, onward-yes, onward-no}
 use Rattle.changes.specs.Passing.{Checked, flag-live}
 
 module _ (n : PowerNetwork) (present wanted : State) where
   -- refusal 12's condition on the switch at position i
-  lockedAt : ℕ → Bool
-  lockedAt i = not (eqb (byte present i) (byte wanted i)) && (differing (recordsOf n) present wanted (branchOf (recordsOf n) i) && not (operable (recordsOf n) i))
+  abbrev lockedAt : ℕ → Bool
+  lockedAt = lockedDifference (recordsOf n) present wanted
 
   pub record NoneLocked (i : ℕ) : Type 0 where
     pub within : i ≤ n .«switch_count»
     rest : lockedDifferences (recordsOf n) present wanted ≡ onward lockedAt (n .«switch_count») i
 
   pub start-unlocked : NoneLocked 0
-  unfolding lockedDifferences lockedAt
+  unfolding lockedDifferences
   start-unlocked = record { within = omega arith; rest = rw (switches-listed n) (onward-all lockedAt (n .«switch_count»)) }
 
   module _ (i : ℕ) (u : NoneLocked i) where
@@ -48,7 +48,7 @@ module _ (n : PowerNetwork) (present wanted : State) where
         listed = switch-at n i h ∙ ap (λ (j : ℕ). getD (n .switches) j noSwitch) (sym here)
 
         locked : lockedAt i ≡ d
-        unfolding lockedAt differing
+        unfolding lockedDifference differing
         locked =
             ap (λ (x : Switch). not (eqb (byte present i) (byte wanted i)) && (differing (recordsOf n) present wanted (x .«branch_idx») && not (x .«can_operate»))) listed
             ∙ (rw (e, f, g, p, w, flag-live n (given .network) present, flag-live n (given .network) wanted, here))

@@ -25,10 +25,12 @@ checkRadial N s place = judge ((11 if not (radialIn N s)) ∷ []) place
 unfoldable pub differing : Network → State → State → ℕ → Bool
 differing N present wanted k = (live N present k && not (live N wanted k)) || (live N wanted k && not (live N present k))
 
--- the switches that differ on a branch that is live in one of the two states only, and are locked
+-- the switch at position i differs, on a branch that is live in one of the two states only, and is locked
+unfoldable pub lockedDifference : Network → State → State → ℕ → Bool
+lockedDifference N present wanted i = not (eqb (byte present i) (byte wanted i)) && (differing N present wanted (branchOf N i) && not (operable N i))
+
 unfoldable pub lockedDifferences : Network → State → State → List ℕ
-lockedDifferences N present wanted =
-    those (λ i. not (eqb (byte present i) (byte wanted i)) && (differing N present wanted (branchOf N i) && not (operable N i))) (length (N .switches))
+lockedDifferences N present wanted = those (lockedDifference N present wanted) (length (N .switches))
 
 -- refusal 12: "first such id in list order"
 abbrev pub refuseLocked : Network → List ℕ → Answer (Unit {0})

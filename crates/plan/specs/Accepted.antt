@@ -25,7 +25,7 @@ use Rattle.states.specs.Listed.{state-accepted}
 use Rattle.states.specs.Switches.{State, byte, branchOf, operable, GoodState}
 use Rattle.radiality.specs.Feeder.{feeder, radialIn}
 use Rattle.radiality.specs.FeederLaws.{feeder-sound, feeder-small, radial-in-tree}
-use Rattle.changes.specs.Change.{checkRadial, differing, lockedDifferences, checkLocked, refuseLocked, checkPlan}
+use Rattle.changes.specs.Change.{checkRadial, differing, lockedDifference, lockedDifferences, checkLocked, refuseLocked, checkPlan}
 use Rattle.plan.specs.Plan.{switchOn}
 use Rattle.plan.specs.Claim.{switchAt}
 use Rattle.plan.specs.LiveLaws.{On}
@@ -51,8 +51,8 @@ module _ (N : Network) where
   radial-accepted s place = judge-accepted 11 (radialIn N s) place
 
   module _ (present wanted : State) where
-    locked : ℕ → Bool
-    locked i = not (eqb (byte present i) (byte wanted i)) && (differing N present wanted (branchOf N i) && not (operable N i))
+    abbrev locked : ℕ → Bool
+    locked = lockedDifference N present wanted
 
     differs : (k : ℕ) → (differing N present wanted k ≡ true) ↔ (live N present k ≢ live N wanted k)
     unfolding differing
@@ -69,7 +69,7 @@ module _ (N : Network) where
     none-locked (i ∷ l) = (λ e. let z : _≡_ {A = ℕ} 0 1 = cc in absurd (omega arith), λ e. let z : _≡_ {A = ℕ} 0 1 = cc in absurd (omega arith))
 
     pub locked-accepted : (checkLocked N present wanted ≡ accepted tt) ↔ Free N present wanted
-    unfolding checkLocked lockedDifferences locked
+    unfolding checkLocked lockedDifferences lockedDifference
     locked-accepted = (λ e i l n d. fore (none-locked _ .0 e) i l n d (which (operable N i)), λ h. none-locked _ .1 (back h _ refl))
       where
         fore : those locked (length (N .switches)) ≡ [] → (i : ℕ) → i < length (N .switches) → byte present i ≢ byte wanted i → live N present (branchOf N i) ≢ live N wanted (branchOf N i)
