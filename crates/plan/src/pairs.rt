@@ -98,7 +98,7 @@ fn pair_done(stage: Stage, graph: Graph, wanted: [bool; 512], ids: [u16; 512], k
 }
 
 // Whether a pair closes branch k: it is live in the wanted state only.
-fn is_closed(present: &[bool], wanted: &[bool], k: u16) -> bool
+fn is_closing(present: &[bool], wanted: &[bool], k: u16) -> bool
     ensures { λ r. ⌜ r ≡ (flag (now (wanted .entry)) k && not (flag (now (present .entry)) k)) ⌝ }
 {
     if flagged(wanted, k) {
@@ -124,7 +124,7 @@ pub(crate) fn pairs_of(network: PowerNetwork, change: Change) -> PairList
     while i < n {
         let at = wide16(i);
         let k = network.switches[at].branch_idx;
-        if is_closed(&present_live, &wanted_live, k) {
+        if is_closing(&present_live, &wanted_live, k) {
             stage = pair_done(stage, change.graph, wanted_live, ids, k);
         }
         i += 1;

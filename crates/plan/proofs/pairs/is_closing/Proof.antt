@@ -1,7 +1,7 @@
--- `is_closed` meets its contract, test by test.
+-- `is_closing` meets its contract, test by test.
 use borrow.Author.Needs.{needs}
-use Rattle.plan.proofs.pairs.is_closed.Statement.{statement}
-use Rattle.plan.proofs.pairs.is_closed.Tie as tie
+use Rattle.plan.proofs.pairs.is_closing.Statement.{statement}
+use Rattle.plan.proofs.pairs.is_closing.Tie as tie
 
 flagged-requires : tie.Need-flagged-requires
 flagged-requires c κs = search needs
@@ -15,5 +15,5 @@ returns c = rw (← c .before .before .flagged .ensures, c .before .if1 .taken, 
 returns-2 : tie.Need-returns-2
 returns-2 c = rw (← c .before .flagged .ensures, c .if1 .left)
 
-pub is-closed-spec : {M : Type 1} → statement M
-is-closed-spec = tie.close (tie.spec flagged-requires flagged-requires-2 returns returns-2)
+pub is-closing-spec : {M : Type 1} → statement M
+is-closing-spec = tie.close (tie.spec flagged-requires flagged-requires-2 returns returns-2)

@@ -45,14 +45,14 @@ element-copy-out-k c =
     let h = few-switches _ (passed _ _ _ (s .pre .2)) in
     search needs
 
-slice-aggregate-is-closed : tie.Need-slice-aggregate-is-closed Inv-loop μ-loop
-slice-aggregate-is-closed c = search needs
+slice-aggregate-is-closing : tie.Need-slice-aggregate-is-closing Inv-loop μ-loop
+slice-aggregate-is-closing c = search needs
 
-slice-aggregate-is-closed-2 : tie.Need-slice-aggregate-is-closed-2 Inv-loop μ-loop
-slice-aggregate-is-closed-2 c = search needs
+slice-aggregate-is-closing-2 : tie.Need-slice-aggregate-is-closing-2 Inv-loop μ-loop
+slice-aggregate-is-closing-2 c = search needs
 
-is-closed-requires : tie.Need-is-closed-requires Inv-loop μ-loop
-is-closed-requires c κs = search needs
+is-closing-requires : tie.Need-is-closing-requires Inv-loop μ-loop
+is-closing-requires c κs = search needs
 
 -- the network has 256 entries for buses
 buses : (s : tie.Start Inv-loop μ-loop) → length (s .args .t1 .buses) ≡ 256
@@ -64,7 +64,7 @@ pair-done-requires c κs =
     let v = f .before .before .before in
     let l = v .before .before in
     let s = l .before .before .before .before .before in
-    pair-room _ _ _ (s .pre .2) _ (l .loop .inv _ _ (s .pre .2)) (v .before .loop-test .taken) (v .wide16 .ensures .0) (f .is-closed .ensures) (c .if1 .taken) (buses s)
+    pair-room _ _ _ (s .pre .2) _ (l .loop .inv _ _ (s .pre .2)) (v .before .loop-test .taken) (v .wide16 .ensures .0) (f .is-closing .ensures) (c .if1 .taken) (buses s)
 
 add-i : tie.Need-add-i Inv-loop μ-loop
 add-i c =
@@ -87,11 +87,11 @@ loop-again c = λ present wanted given.
     ⊎-elim
     (λ w.
     rw (w .2)
-    (one-made _ _ _ given _ (l .loop .inv _ _ given) (t .loop-test .taken) (v .wide16 .ensures .0) (f .is-closed .ensures) (w .0 .taken) (buses (b .before))
+    (one-made _ _ _ given _ (l .loop .inv _ _ given) (t .loop-test .taken) (v .wide16 .ensures .0) (f .is-closing .ensures) (w .0 .taken) (buses (b .before))
     (b .switch-ids .ensures)
     (w .1 .ensures .0)
     (w .1 .ensures .1)))
-    (λ w. rw (w .1) (not-closed _ _ _ given _ (l .loop .inv _ _ given) (t .loop-test .taken) (v .wide16 .ensures .0) (f .is-closed .ensures) (w .0 .left)))
+    (λ w. rw (w .1) (not-closed _ _ _ given _ (l .loop .inv _ _ given) (t .loop-test .taken) (v .wide16 .ensures .0) (f .is-closing .ensures) (w .0 .left)))
     (c .if1 .came)
 
 returns : tie.Need-returns Inv-loop μ-loop
@@ -112,9 +112,9 @@ pairs-of-spec =
     wide16-requires
     mul-k
     element-copy-out-k
-    slice-aggregate-is-closed
-    slice-aggregate-is-closed-2
-    is-closed-requires
+    slice-aggregate-is-closing
+    slice-aggregate-is-closing-2
+    is-closing-requires
     pair-done-requires
     add-i
     loop-less
