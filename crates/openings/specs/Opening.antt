@@ -1,4 +1,4 @@
--- The branch that a pair opens, read off the rows of a graph: `Plan.opening` where the network is accepted.
+-- The branch that a pair opens, read off the rows of a graph: `Plan.opening` where the network is accepted (crate plan's RowOpening).
 use mathlib.Core.Bool.{Bool, not}
 use mathlib.Core.List.{List}
 use Prim.Native.Nat.{ℕ}

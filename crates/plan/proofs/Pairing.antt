@@ -10,7 +10,6 @@ use lib.ListN.{length, getD, set, length-set, length-append}
 use lib.Seq.{getD-set-same, getD-set-other}
 use borrow.Author.Tests.{eq-eqb, ne-eqb}
 use Rattle.numbers.specs.UpTo.{table}
-use Rattle.numbers.specs.Choose.{firstOf}
 use Rattle.numbers.specs.TableLaws.{length-table, getD-table}
 use Rattle.network.specs.declared.switch.Switch.{Switch}
 use Rattle.network.specs.declared.topology.PowerNetwork.{PowerNetwork}
@@ -19,18 +18,18 @@ use Rattle.network.specs.Answers.{accepted}
 use Rattle.network.specs.Check.{checkRecords}
 use Rattle.states.specs.Live.{live}
 use Rattle.graph.specs.declared.rows.Graph.{Graph}
-use Rattle.graph.specs.Walk.{bfsPath}
 use Rattle.radiality.specs.Feeder.{feeder}
-use Rattle.radiality.specs.FeederLaws.{feeder-sound, feeder-small, feeder-few}
-use Rattle.graph.specs.Rows.{flag, rowNet, rowPath}
+use Rattle.radiality.specs.FeederLaws.{feeder-few}
+use Rattle.graph.specs.Rows.{flag}
 use Rattle.radiality.specs.FeederRows.{feederGraph, liveFlags}
-use Rattle.radiality.specs.FeederRowLaws.{flags-live, feeder-row-ends, feeder-row-path}
+use Rattle.radiality.specs.FeederRowLaws.{flags-live}
 use Rattle.plan.specs.declared.pairs.PairList.{PairList}
 use Rattle.states.specs.Switches.{State, branchOf}
 use Rattle.states.specs.Listed.{switches-listed, few-switches, switch-at}
 use Rattle.changes.specs.declared.refusals.Change.{Change}
 use Rattle.openings.specs.Opening.{rowOpening}
-use Rattle.plan.specs.Plan.{Pair, closings, pathBefore, opening, exchanged, pairsFrom, pairs, switchOn, movesOf, plan}
+use Rattle.plan.specs.Plan.{Pair, closings, opening, exchanged, pairsFrom, pairs, switchOn, movesOf, plan}
+use Rattle.plan.specs.RowOpening.{row-opening}
 use Rattle.plan.specs.Stored.{movesIn}
 use Rattle.changes.specs.Onward.{onward, onward-all, onward-none, onward-yes, onward-no}
 use Rattle.plan.specs.Exchanges.{opened-live}
@@ -175,23 +174,15 @@ module _ (n : PowerNetwork) (present wanted : State) where
           f-small : f < 512
           f-small = omega (arith, on .1, feeder-few N (inside n passed))
 
-          row-opening : rowOpening graph flags after k ≡ f
-          unfolding rowOpening opening pathBefore
-          row-opening =
-              let ins = inside n passed in
-              let ends = feeder-row-ends n buses passed k (on .0) in
-              let small = feeder-sound N ins k (on .0) .0 in
-              let from-path : rowPath (feederGraph n) flags (rowNet (feederGraph n) .from k) (rowNet (feederGraph n) .to k) ≡ bfsPath (feeder N) (flag flags) (feeder N .from k) (feeder N .to k)
-              = ap (λ (v : ℕ). rowPath (feederGraph n) flags v (rowNet (feederGraph n) .to k)) (ends .0)
-              ∙ ap (λ (v : ℕ). rowPath (feederGraph n) flags (feeder N .from k) v) (ends .1)
-              ∙ feeder-row-path n buses passed flags (omega (arith, m .sized)) _ _ (omega (arith, feeder-small N ins)) in
-              ap (λ (G : Graph). firstOf (λ j. not (flag after j)) 0 (rowPath G flags (rowNet G .from k) (rowNet G .to k))) (given .graph)
-              ∙ ap (λ (l : List ℕ). firstOf (λ j. not (flag after j)) 0 l) from-path
-              ∙ ap (λ (E : ℕ → Bool). firstOf (λ j. not (E j)) 0 (pathBefore N (flag flags) k)) (ap (λ (l : List Bool). flag l) (given .wanted-live) ∙ flags-live N wanted (ins .counts .1))
+          opens : rowOpening graph flags after k ≡ f
+          opens =
+              ap (λ (G : Graph). rowOpening G flags after k) (given .graph)
+              ∙ ap (λ (l : List Bool). rowOpening (feederGraph n) flags l k) (given .wanted-live)
+              ∙ row-opening n buses passed flags (omega (arith, m .sized)) wanted k (on .0)
 
           -- what making a pair asks for
           pub pair-room : (k < 512) × (rowOpening graph flags after k < 512) × (made .count < 512)
-          pair-room = (k-small, rw row-opening f-small, omega (arith, m .few, few-switches n passed))
+          pair-room = (k-small, rw opens f-small, omega (arith, m .few, few-switches n passed))
 
           pub one-made : {ids : List ℕ} → ids ≡ table (switchOn N) 512 → {flags′ : List Bool} {made′ : PairList}
               → flags′ ≡ set (set flags k true) (rowOpening graph flags after k) false
@@ -199,12 +190,12 @@ module _ (n : PowerNetwork) (present wanted : State) where
               → Made flags′ made′ (i + 1)
           unfolding left
           one-made {ids} t {flags′} {made′} z r =
-              let s : flags′ ≡ set (set flags k true) f false = z ∙ ap (λ (j : ℕ). set (set flags k true) j false) row-opening in
+              let s : flags′ ≡ set (set flags k true) f false = z ∙ ap (λ (j : ℕ). set (set flags k true) j false) opens in
               let a : k < length flags = omega (arith, m .sized, k-small) in
               let b : f < length flags = omega (arith, m .sized, f-small) in
               let same : flag flags′ ≡ exchanged (flag flags) q = ap (λ (l : List Bool). flag l) s ∙ flags-exchanged flags q a b in
               let ids-at : (j : ℕ) → j < 512 → getD ids j 0 ≡ switchOn N j = λ j l. rw t (getD-table (switchOn N) 512 j 0 l) in
-              let moved : movesIn made′ ≡ movesIn made ++ (movesOf N q ∷ []) = r ∙ rw (row-opening, ids-at k k-small, ids-at f f-small) in
+              let moved : movesIn made′ ≡ movesIn made ++ (movesOf N q ∷ []) = r ∙ rw (opens, ids-at k k-small, ids-at f f-small) in
               record {
                 within = omega arith;
                 few = omega (arith, length-moves made, length-moves made′, simp length-append at (ap length moved), m .few);

@@ -21,7 +21,7 @@ use Rattle.changes.specs.Change.{checkPlan}
 use Rattle.plan.specs.Plan.{Moves, plan}
 
 -- ---- the two kinds of step
--- the position of the switch with this id
+-- the position of the switch with this id: a plan names listed switches only (`Plannable.Regular.resolved`)
 abbrev pub switchAt : Network → ℕ → ℕ
 switchAt N id = indexOf id (map switchId (N .switches))
 

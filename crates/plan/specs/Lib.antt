@@ -1,4 +1,5 @@
 pub mod Plan
+pub mod RowOpening
 pub mod Stored
 pub mod Claim
 pub mod LiveLaws

@@ -12,8 +12,7 @@ use Rattle.network.specs.Faults.{on}
 use Rattle.states.specs.Live.{live}
 use Rattle.printing.specs.Printed.{pairText}
 use Rattle.printing.specs.Calls.{Call, called}
-use Rattle.graph.specs.Walk.{bfsPath}
-use Rattle.radiality.specs.Feeder.{feeder}
+use Rattle.radiality.specs.Feeder.{endsPath}
 use Rattle.changes.specs.Change.{checkPlan}
 use Rattle.plan.specs.declared.planner.PlanAnswer.{PlanAnswer}
 use Rattle.plan.specs.declared.planner.PlanAnswer.the-variants.{Pairs, Refused}
@@ -29,13 +28,10 @@ unfoldable pub closings : Network → State → State → List ℕ
 closings N present wanted =
     map (branchOf N) (those (λ i. live N wanted (branchOf N i) && not (live N present (branchOf N i))) (length (N .switches)))
 
--- "the path that joined its from bus to its to bus before the closing, beginning at the from bus", over the branches live then
-unfoldable pub pathBefore : Network → (ℕ → Bool) → ℕ → List ℕ
-pathBefore N E e = bfsPath (feeder N) E (feeder N .from e) (feeder N .to e)
-
--- "open the first branch there that the wanted state doesn't have live": between radial states there is one (`Planner.found`), so that no pair takes the 0
+-- "walk the path that joined its from bus to its to bus before the closing, beginning at the from bus; open the first branch there that the wanted state
+-- doesn't have live": E has the branches live before. Between radial states there is one (`Planner.found`), so that no pair takes the 0
 unfoldable pub opening : Network → State → (ℕ → Bool) → ℕ → ℕ
-opening N wanted E e = firstOf (λ k. not (live N wanted k)) 0 (pathBefore N E e)
+opening N wanted E e = firstOf (λ k. not (live N wanted k)) 0 (endsPath N E e)
 
 -- the live branches after a pair
 unfoldable pub exchanged : (ℕ → Bool) → Pair → ℕ → Bool
@@ -56,7 +52,7 @@ pub record Moves : Type 0 where
   pub closes : ℕ
   pub opens : ℕ
 
--- the id of the switch on branch k
+-- the id of the switch on branch k, 0 where there is none: a pair's branches have one (`Planner.wanted-only`, `present-only`)
 unfoldable pub switchOn : Network → ℕ → ℕ
 switchOn N k = getD (N .switches) (indexOf k (map on (N .switches))) noSwitch .id
 

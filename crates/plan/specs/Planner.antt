@@ -16,11 +16,11 @@ use Rattle.network.specs.Records.{Network}
 use Rattle.states.specs.Live.{live}
 use Rattle.states.specs.Switches.{State, branchOf}
 use Rattle.graph.specs.Graph.{Net, Branches, Live, Chain, stay, step, Path, Connected, Tree}
-use Rattle.radiality.specs.Feeder.{feeder}
+use Rattle.radiality.specs.Feeder.{feeder, endsPath}
 use Rattle.graph.specs.Chains.{_⊆_}
 use Rattle.graph.specs.Trees.{tree-forest, part-is-whole}
 use Rattle.graph.specs.WalkLaws.{bfs-path}
-use Rattle.plan.specs.Plan.{Pair, closings, pathBefore, opening, exchanged, pairsFrom, pairs}
+use Rattle.plan.specs.Plan.{Pair, closings, opening, exchanged, pairsFrom, pairs}
 use Rattle.plan.specs.LiveLaws.{live-one}
 use Rattle.plan.specs.Plannable.{Regular, Free, Plannable}
 use Rattle.plan.specs.Exchanges.{Fits, opened-live, closing-closed, opening-opened, exchanged-other, exchanged-tree}
@@ -107,28 +107,28 @@ module _ (N : Network) (present wanted : State) (given : Plannable N present wan
     e-in : e < G .branches
     e-in = regular .placed (e-free .on)
 
-    joins : Path G (Live G E) (G .from e) (G .to e) (pathBefore N E e)
-    unfolding pathBefore Connected
+    joins : Path G (Live G E) (G .from e) (G .to e) (endsPath N E e)
+    unfolding endsPath Connected
     joins =
         let b = regular .ends e e-in in
         bfs-path G E (regular .ends) (regular .few) (G .from e) (b .0) (G .to e) (t .tree .connected (G .from e) (G .to e) (b .0) (b .1))
 
     -- were all branches of the path wanted, they would be a loop with e in the wanted state
-    found : List·Memᴰ f (pathBefore N E e) × (W f ≡ false)
+    found : List·Memᴰ f (endsPath N E e) × (W f ≡ false)
     unfolding opening
-    found = go (first-cases (λ k. not (W k)) 0 (pathBefore N E e))
+    found = go (first-cases (λ k. not (W k)) 0 (endsPath N E e))
       where
         lives : (x : ℕ) → not (W x) ≡ false → W x ≡ true
         lives x h = not-false (W x) h
 
-        go : (List·Memᴰ f (pathBefore N E e) × (not (W f) ≡ true)) ⊎ ((x : ℕ) → List·Memᴰ x (pathBefore N E e) → not (W x) ≡ false)
-            → List·Memᴰ f (pathBefore N E e) × (W f ≡ false)
+        go : (List·Memᴰ f (endsPath N E e) × (not (W f) ≡ true)) ⊎ ((x : ℕ) → List·Memᴰ x (endsPath N E e) → not (W x) ≡ false)
+            → List·Memᴰ f (endsPath N E e) × (W f ≡ false)
         go (inl h) = (h .0, not-true _ (h .1))
         go (inr h) = absurd (tree-forest (given .wanted-tree) e (e-in, e-wanted)
-            (pathBefore N E e, chain-within (joins .0) (λ x m a. ((a .0, lives x (h x m)), λ p. clash (a .1) (ap E p ∙ e-dead)))))
+            (endsPath N E e, chain-within (joins .0) (λ x m a. ((a .0, lives x (h x m)), λ p. clash (a .1) (ap E p ∙ e-dead)))))
 
     fits : Fits G E q
-    fits = record { listed = e-in; dead = e-dead; path = pathBefore N E e; joins = joins; lies = found .0 }
+    fits = record { listed = e-in; dead = e-dead; path = endsPath N E e; joins = joins; lies = found .0 }
 
     ready : Ready N E q
     ready = record {
