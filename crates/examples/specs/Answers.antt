@@ -1,8 +1,8 @@
--- Document 01's worked example: what is printed for the triangle's text. And the reduction where the best loss is above the base's, and of a base loss that is not above 1e-12.
+-- Document 01's worked example: what is printed for the triangle's text, and a refusal's line. And the reduction where the best loss is above the base's, and of a base loss that is not above 1e-12.
 use mathlib.Core.Bool.{true}
 use mathlib.Core.List.{_++_, flatMap}
 use mathlib.Core.Path.{_≡_, refl}
-use lib.Ieee.{binary64, ofBits, toBits, le, lt, neg, add, sub, mul, div}
+use lib.Ieee.{ofBits, toBits, le, lt, neg, add, sub, mul, div}
 use Rattle.numbers.specs.Constants.{zero64, trillionth}
 use Rattle.numbers.specs.UpTo.{upTo, table}
 use Rattle.numbers.specs.Counts.{count}
@@ -11,13 +11,14 @@ use Rattle.states.specs.Live.{live, openOn, baseState}
 use Rattle.lines.specs.Hex.{digit, digits, writeFields}
 use Rattle.lines.specs.Frames.{frameText}
 use Rattle.frames.specs.Claim.{claim}
-use Rattle.examples.specs.Texts.{row, triangleText, triangle, triangle-read}
-use Rattle.printing.specs.Printed.{answerText, operationText, pairText}
+use Rattle.examples.specs.Texts.{row, triangleText, triangle-read, manyTies, many-ties}
+use Rattle.examples.specs.Feeders.{float, triangle}
+use Rattle.printing.specs.Printed.{answerText, operationText, pairText, refusalText}
 use Rattle.graph.specs.Walk.{far, neighbours, reached, enter, enterAll, turn, walkBy, walk, byOf, across, back, bfsPath}
 use Rattle.graph.specs.Radial.{radial}
-use Rattle.radiality.specs.Feeder.{feeder, position, radialIn}
+use Rattle.radiality.specs.Feeder.{feeder, position, endsPath, radialIn}
 use Rattle.losses.specs.Loss.{walkLoad, downstream, termOf, totalOf, loss, lossIn}
-use Rattle.plan.specs.Plan.{closings, pathBefore, opening, exchanged, pairsFrom, pairs, switchOn, plan, planText}
+use Rattle.plan.specs.Plan.{closings, opening, exchanged, pairsFrom, pairs, switchOn, plan, planText}
 use Rattle.plan.specs.Claim.{SwitchingPlan}
 use Rattle.states.specs.Switches.{swapped}
 use Rattle.exchange.specs.Exchange.{loopOf, sectionOf, swapWith, trial, improves, kept, roundOf, afterRound, exchangeRounds, exchange, exchangeBest}
@@ -32,8 +33,13 @@ triangle-printed : printed triangleText
     ++ (row 8 0x82000A00
     ++ (row 8 0x82000B01
     ++ row 10 0x83000B000A))
-unfolding printed networkText moveLines planLines operationLines resultText result resultBy reduction best bestBy exchangeBest exchange exchangeRounds afterRound roundOf kept improves trial swapWith sectionOf loopOf swapped operations operationTo operationsText plan planText pairs pairsFrom closings pathBefore opening exchanged switchOn lossIn loss totalOf termOf downstream walkLoad radialIn feeder position radial bfsPath back across byOf walk walkBy turn enterAll enter reached neighbours far baseState live openOn those least firstSome firstOf indexOf _orElse_ count upTo table answerText operationText pairText frameText writeFields digits digit flatMap ofBits toBits add sub mul div lt le neg
+unfolding printed networkText moveLines planLines operationLines resultText result resultBy reduction best bestBy exchangeBest exchange exchangeRounds afterRound roundOf kept improves trial swapWith sectionOf loopOf swapped operations operationTo operationsText plan planText pairs pairsFrom closings opening exchanged switchOn endsPath lossIn loss totalOf termOf downstream walkLoad radialIn feeder position radial bfsPath back across byOf walk walkBy turn enterAll enter reached neighbours far baseState live openOn those least firstSome firstOf indexOf _orElse_ count upTo table answerText operationText pairText frameText writeFields digits digit flatMap ofBits toBits add sub mul div lt le neg
 triangle-printed = rw triangle-read
+
+-- "A refusal prints one line": eleven ties are 9 at line 25
+eleven-ties-printed : printed (manyTies 11) ≡ row 8 0x8F090019
+unfolding printed refusalText frameText writeFields digits digit
+eleven-ties-printed = rw (many-ties .1)
 
 -- so the hypotheses of `search-has-plan` can be met
 triangle-radial : radialIn triangle (baseState triangle) ≡ true
@@ -45,7 +51,7 @@ triangle-has-plan = search-has-plan triangle (claim .passed triangleText triangl
 
 -- 1 to 2 is a reduction of -100 percent; of 1e-12 there is none
 reductions :
-    (reduction (ofBits binary64 0x3ff0_0000_0000_0000) (ofBits binary64 0x4000_0000_0000_0000) ≡ ofBits binary64 0xc059_0000_0000_0000)
+    (reduction (float 0x3FF0000000000000) (float 0x4000000000000000) ≡ float 0xC059000000000000)
     × (reduction trillionth zero64 ≡ zero64)
 unfolding reduction ofBits sub mul div lt
 reductions = (refl, refl)

@@ -3,7 +3,7 @@ use mathlib.Core.Bool.{true, false}
 use mathlib.Core.List.{List, [], _∷_}
 use mathlib.Core.Path.{_≡_, refl}
 use Prim.Native.Nat.{ℕ, zero, suc}
-use lib.Ieee.{Float, binary64, ofBits, le, neg}
+use lib.Ieee.{ofBits, le, neg}
 use Rattle.numbers.specs.Choose.{indexOf}
 use Rattle.numbers.specs.UpTo.{table}
 use Rattle.numbers.specs.Every.{every}
@@ -19,35 +19,9 @@ use Rattle.network.specs.Faults.{okBase, okLoad, okR, among, ties, headFaults, 
 use Rattle.network.specs.Check.{headOf, checkRun, checkRecords}
 use Rattle.states.specs.Live.{checkState, openOn, live, baseState}
 use Rattle.network.specs.Lookups.{busIndex}
+use Rattle.examples.specs.Feeders.{float, bus, branch, section, tie, network, records, buses, branches, triangle}
 
 -- ---- the triangle
-abbrev float : ℕ → Float
-float bits = ofBits binary64 bits
-
-abbrev bus : ℕ → ℕ → Bus
-bus id pd = record { id = id; pd = record { 0 = float pd } }
-
-abbrev branch : ℕ → ℕ → ℕ → Branch
-branch from to r = record { «from_bus» = from; «to_bus» = to; r = float r; status = true }
-
-abbrev section : ℕ → ℕ → Switch
-section id k = record { id = id; «branch_idx» = k; «normally_open» = false; «can_operate» = true }
-
-abbrev tie : ℕ → ℕ → Switch
-tie id k = record { id = id; «branch_idx» = k; «normally_open» = true; «can_operate» = true }
-
-abbrev feeder : List Bus → List Branch → List Switch → Network
-feeder buses branches switches = record { base = float 0x3FF0000000000000; algorithm = BranchExchange; iterations = 100; buses = buses; branches = branches; switches = switches }
-
-abbrev buses : List Bus
-buses = bus 1 0 ∷ bus 2 0x3FF0000000000000 ∷ bus 3 0x4000000000000000 ∷ []
-
-abbrev branches : List Branch
-branches = branch 1 2 0x3FD0000000000000 ∷ branch 2 3 0x3FDC000000000000 ∷ branch 1 3 0x3FC8000000000000 ∷ []
-
-abbrev triangle : Network
-triangle = feeder buses branches (section 10 1 ∷ tie 11 2 ∷ [])
-
 triangle-passes : checkRecords triangle ≡ accepted tt
 unfolding checkRecords checkRun judge _andThen_ headOf headFaults busFaults branchFaults switchFaults okBase okLoad okR among ties ofBits le neg
 triangle-passes = refl
@@ -66,7 +40,7 @@ live-in-the-base = (refl, refl, refl)
 
 -- one open switch of two on a branch is enough, wherever it stands in the list
 abbrev twice : Network
-twice = feeder buses branches (section 10 1 ∷ section 12 1 ∷ [])
+twice = records buses branches (section 10 1 ∷ section 12 1 ∷ [])
 
 live-with-two-switches :
     (live twice (0 ∷ 0 ∷ []) 1 ≡ true) × (live twice (1 ∷ 0 ∷ []) 1 ≡ false) × (live twice (0 ∷ 1 ∷ []) 1 ≡ false) × (live twice (1 ∷ 1 ∷ []) 1 ≡ false)
@@ -88,15 +62,15 @@ lookups = (refl, refl, refl)
 
 -- ---- records that are refused, at the place of their line
 refusals :
-    (checkRecords (feeder (bus 1 0 ∷ bus 2 0x7FF0000000000000 ∷ []) [] []) ≡ refused 5 3)
-    × (checkRecords (feeder (bus 1 0 ∷ bus 2 0 ∷ []) (branch 1 9 0 ∷ []) []) ≡ refused 6 4)
-    × (checkRecords (feeder (bus 1 0 ∷ bus 1 0 ∷ []) [] []) ≡ refused 7 3)
-    × (checkRecords (feeder buses branches (section 10 3 ∷ [])) ≡ refused 6 8)
-    × (checkRecords (feeder buses branches (section 10 1 ∷ tie 10 2 ∷ [])) ≡ refused 7 9)
+    (checkRecords (records (bus 1 0 ∷ bus 2 0x7FF0000000000000 ∷ []) [] []) ≡ refused 5 3)
+    × (checkRecords (records (bus 1 0 ∷ bus 2 0 ∷ []) (branch 1 9 0 ∷ []) []) ≡ refused 6 4)
+    × (checkRecords (records (bus 1 0 ∷ bus 1 0 ∷ []) [] []) ≡ refused 7 3)
+    × (checkRecords (records buses branches (section 10 3 ∷ [])) ≡ refused 6 8)
+    × (checkRecords (records buses branches (section 10 1 ∷ tie 10 2 ∷ [])) ≡ refused 7 9)
     × (checkRecords twice ≡ refused 8 9)
     -- two conditions on a line: the lower number wins; two lines: the first decides
-    × (checkRecords (feeder (bus 1 0 ∷ bus 1 0x7FF0000000000000 ∷ []) [] []) ≡ refused 5 3)
-    × (checkRecords (feeder (bus 1 0 ∷ bus 1 0 ∷ []) (branch 1 1 0x7FF0000000000000 ∷ []) []) ≡ refused 7 3)
+    × (checkRecords (records (bus 1 0 ∷ bus 1 0x7FF0000000000000 ∷ []) [] []) ≡ refused 5 3)
+    × (checkRecords (records (bus 1 0 ∷ bus 1 0 ∷ []) (branch 1 1 0x7FF0000000000000 ∷ []) []) ≡ refused 7 3)
 unfolding checkRecords checkRun judge _andThen_ headOf headFaults busFaults branchFaults switchFaults okBase okLoad okR among ties ofBits le neg
 refusals = (refl, refl, refl, refl, refl, refl, refl, refl)
 
@@ -114,18 +88,18 @@ manyBuses zero = []
 manyBuses (suc n) = bus n 0 ∷ manyBuses n
 
 abbrev withTies : ReconfigAlgorithm → ℕ → Network
-withTies method n = record { base = float 0x3FF0000000000000; algorithm = method; iterations = 0; buses = bus 1 0 ∷ bus 2 0 ∷ []; branches = manyBranches n; switches = manyTies n }
+withTies method n = network method 0 (bus 1 0 ∷ bus 2 0 ∷ []) (manyBranches n) (manyTies n)
 
 abbrev withIterations : ℕ → Network
-withIterations n = record { base = float 0x3FF0000000000000; algorithm = Exhaustive; iterations = n; buses = []; branches = []; switches = [] }
+withIterations n = network Exhaustive n [] [] []
 
 -- "Ten ties pass, eleven are 9; 256 buses pass, 257 are 4"
 limits :
     (checkRecords (withTies Exhaustive 10) ≡ accepted tt)
     × (checkRecords (withTies Exhaustive 11) ≡ refused 9 25)
     × (checkRecords (withTies BranchExchange 11) ≡ accepted tt)
-    × (checkRecords (feeder (manyBuses 256) [] []) ≡ accepted tt)
-    × (checkRecords (feeder (manyBuses 257) [] []) ≡ refused 4 1)
+    × (checkRecords (records (manyBuses 256) [] []) ≡ accepted tt)
+    × (checkRecords (records (manyBuses 257) [] []) ≡ refused 4 1)
     × (checkRecords (withIterations 1000) ≡ accepted tt)
     × (checkRecords (withIterations 1001) ≡ refused 3 1)
 unfolding checkRecords checkRun judge _andThen_ headOf headFaults busFaults branchFaults switchFaults okBase okLoad okR among ties ofBits le neg

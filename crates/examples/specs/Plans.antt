@@ -1,19 +1,17 @@
 -- Worked examples of the planner: document 01's triangle, and a feeder on which another order of the closings, or the path
 -- walked from its other end, would give another plan.
 use mathlib.Core.Path.{_≡_, refl}
-use mathlib.Core.Bool.{Bool, true, false}
+use mathlib.Core.Bool.{false}
 use mathlib.Core.List.{List, [], _∷_, flatMap}
 use Prim.Native.Nat.{ℕ}
-use lib.Ieee.{binary64, ofBits, le, neg}
+use lib.Ieee.{ofBits, le, neg}
 use lib.ListN.{drop, replicate}
 use Rattle.numbers.specs.UpTo.{upTo}
 use Rattle.numbers.specs.Counts.{count}
 use Rattle.numbers.specs.Choose.{those, firstOf, indexOf}
 use Rattle.numbers.specs.Every.{every}
-use Rattle.network.specs.declared.bus.Bus.{Bus}
 use Rattle.network.specs.declared.branch.Branch.{Branch}
 use Rattle.network.specs.declared.switch.Switch.{Switch}
-use Rattle.network.specs.declared.switch.ReconfigAlgorithm.the-variants.{BranchExchange}
 use Rattle.network.specs.Records.{Network}
 use Rattle.network.specs.Answers.{accepted, refused, _andThen_, judge}
 use Rattle.network.specs.Faults.{okBase, okLoad, okR, among, ties, headFaults, busFaults, branchFaults, switchFaults}
@@ -28,59 +26,40 @@ use Rattle.printing.specs.Calls.{checkRoom, called}
 use Rattle.graph.specs.Walk.{far, neighbours, reached, enter, enterAll, turn, walkBy, walk, byOf, across, bfsPath}
 use Rattle.graph.specs.Walk as Walk
 use Rattle.graph.specs.Radial.{radial}
-use Rattle.radiality.specs.Feeder.{position, feeder, radialIn}
-use Rattle.changes.specs.Change.{checkRadial, differing, lockedDifferences, checkLocked, checkPlan}
-use Rattle.plan.specs.Plan.{closings, pathBefore, opening, exchanged, pairsFrom, pairs, switchOn, plan, planText, planned}
+use Rattle.radiality.specs.Feeder.{position, feeder, endsPath, radialIn}
+use Rattle.changes.specs.Change.{checkRadial, differing, lockedDifference, lockedDifferences, checkLocked, checkPlan}
+use Rattle.plan.specs.Plan.{closings, opening, exchanged, pairsFrom, pairs, switchOn, plan, planText, planned}
 use Rattle.plan.specs.Proof.{demand3}
 use Rattle.plan.specs.Claim.{closed, carriedOut, Step, forward, back, found, taken, run, after, SwitchingPlan}
+use Rattle.examples.specs.Feeders.{bus, branch, section, tie, records, buses, branches, triangle}
 
--- records with loads and resistances by their bits
-bus : ℕ → ℕ → Bus
-bus id bits = record { id = id; pd = record { 0 = ofBits binary64 bits } }
+abbrev outOfService : Branch → Branch
+outOfService b = record { «from_bus» = b .«from_bus»; «to_bus» = b .«to_bus»; r = b .r; status = false }
 
-branch : ℕ → ℕ → ℕ → Bool → Branch
-branch from to bits status = record { «from_bus» = from; «to_bus» = to; r = ofBits binary64 bits; status = status }
-
-switch : ℕ → ℕ → Bool → Bool → Switch
-switch id on tie operable = record { id = id; «branch_idx» = on; «normally_open» = tie; «can_operate» = operable }
-
--- document 01's triangle: switch 10 closed on branch 1, switch 11 open on branch 2
-triangle : Network
-triangle =
-    record {
-      base = ofBits binary64 0x3ff0_0000_0000_0000;
-      algorithm = BranchExchange;
-      iterations = 100;
-      buses = bus 1 0 ∷ bus 2 0x3ff0_0000_0000_0000 ∷ bus 3 0x4000_0000_0000_0000 ∷ [];
-      branches = branch 1 2 0x3fd0_0000_0000_0000 true ∷ branch 2 3 0x3fdc_0000_0000_0000 true ∷ branch 1 3 0x3fc8_0000_0000_0000 true ∷ [];
-      switches = switch 10 1 false true ∷ switch 11 2 true true ∷ [];
-    }
+abbrev locked : Switch → Switch
+locked s = record { id = s .id; «branch_idx» = s .«branch_idx»; «normally_open» = s .«normally_open»; «can_operate» = false }
 
 -- the base, and the state in which the two switches have changed places
-present : State
+abbrev present : State
 present = 0 ∷ 1 ∷ []
 
-wanted : State
+abbrev wanted : State
 wanted = 1 ∷ 0 ∷ []
 
 -- Four buses in a row by branches 0, 1 and 2; branch 3 from the first to the third, branch 4 from the first to the last, and branch 5, out of service.
 -- The switch of branch 4 is listed before that of branch 3; the switch of branch 5 is locked
-row : Network
+abbrev row : Network
 row =
-    record {
-      base = ofBits binary64 0x3ff0_0000_0000_0000;
-      algorithm = BranchExchange;
-      iterations = 100;
-      buses = bus 1 0 ∷ bus 2 0 ∷ bus 3 0 ∷ bus 4 0 ∷ [];
-      branches = branch 1 2 0 true ∷ branch 2 3 0 true ∷ branch 3 4 0 true ∷ branch 1 3 0 true ∷ branch 1 4 0 true ∷ branch 2 4 0 false ∷ [];
-      switches = switch 20 4 true true ∷ switch 21 3 true true ∷ switch 22 2 false true ∷ switch 23 1 false true ∷ switch 24 5 true false ∷ [];
-    }
+    records
+    (bus 1 0 ∷ bus 2 0 ∷ bus 3 0 ∷ bus 4 0 ∷ [])
+    (branch 1 2 0 ∷ branch 2 3 0 ∷ branch 3 4 0 ∷ branch 1 3 0 ∷ branch 1 4 0 ∷ outOfService (branch 2 4 0) ∷ [])
+    (tie 20 4 ∷ tie 21 3 ∷ section 22 2 ∷ section 23 1 ∷ locked (tie 24 5) ∷ [])
 
 -- all five switches differ
-row-present : State
+abbrev row-present : State
 row-present = 1 ∷ 1 ∷ 0 ∷ 0 ∷ 1 ∷ []
 
-row-wanted : State
+abbrev row-wanted : State
 row-wanted = 0 ∷ 0 ∷ 1 ∷ 1 ∷ 0 ∷ []
 
 -- The triangle's pair is document 01's line 83000B000A. In the row, branch 4 comes first by switch order, and on the path 0, 1, 2 between its ends branch 1 is the first
@@ -91,12 +70,14 @@ computed : (baseState triangle ≡ present)
     × (plan triangle present wanted ≡ record { closes = 11; opens = 10 } ∷ [])
     × (checkPlan row row-present row-wanted ≡ accepted tt)
     × (plan row row-present row-wanted ≡ record { closes = 20; opens = 23 } ∷ record { closes = 21; opens = 22 } ∷ [])
-unfolding triangle present wanted row row-present row-wanted bus branch switch le ofBits neg upTo those firstOf indexOf count _andThen_ judge okBase okLoad okR among ties headFaults busFaults branchFaults switchFaults headOf checkRun checkRecords live openOn every checkState baseState far neighbours reached enter enterAll turn walkBy walk byOf across Walk.back bfsPath radial position feeder radialIn closings pathBefore opening exchanged pairsFrom pairs switchOn plan checkRadial differing lockedDifferences checkLocked checkPlan
-computed = (refl, refl, refl, refl, refl)
+    × (endsPath triangle (live triangle present) 2 ≡ 0 ∷ 1 ∷ [])
+    × (endsPath row (live row row-present) 4 ≡ 0 ∷ 1 ∷ 2 ∷ [])
+unfolding le ofBits neg upTo those firstOf indexOf count _andThen_ judge okBase okLoad okR among ties headFaults busFaults branchFaults switchFaults headOf checkRun checkRecords live openOn every checkState baseState far neighbours reached enter enterAll turn walkBy walk byOf across Walk.back bfsPath radial position feeder radialIn endsPath closings opening exchanged pairsFrom pairs switchOn plan checkRadial differing lockedDifference lockedDifferences checkLocked checkPlan
+computed = (refl, refl, refl, refl, refl, refl, refl)
 
 -- forward, forward (all done: none found), back, back (none done: none found), forward
 triangle-steps : after triangle present wanted (forward ∷ forward ∷ back ∷ back ∷ forward ∷ []) ≡ record { state = wanted; done = 1 }
-unfolding triangle present wanted bus branch switch indexOf after run taken found carriedOut closed
+unfolding indexOf after run taken found carriedOut closed
 triangle-steps = rw (computed .2)
 
 -- so the hypothesis of demand 3 can be met
@@ -105,16 +86,15 @@ triangle-holds = demand3 triangle present wanted (computed .1)
 
 -- switch 24 stands as the present state has it after every list of steps, and not as the wanted one has it
 row-as-found : (xs : List Step) → byte (after row row-present row-wanted xs .state) 4 ≡ 1
-unfolding row row-present branch switch
 row-as-found xs = demand3 row row-present row-wanted (computed .3) .as-found xs 4 refl
 
 -- ---- the call
 -- the triangle with switch 10 locked
-locked : Network
-locked = record { base = triangle .base; algorithm = triangle .algorithm; iterations = triangle .iterations; buses = triangle .buses; branches = triangle .branches; switches = switch 10 1 false false ∷ switch 11 2 true true ∷ [] }
+abbrev lockedTriangle : Network
+lockedTriangle = records buses branches (locked (section 10 1) ∷ tie 11 2 ∷ [])
 
 -- eleven sevens
-full : List ℕ
+abbrev full : List ℕ
 full = replicate 11 7
 
 -- A slice of 11 bytes is full with the line 83000B000A, one of 12 keeps its last byte, one of 10 keeps them all. From a state to itself there is no pair, and nothing is written.
@@ -127,6 +107,6 @@ calls :
     × (planned triangle (0 ∷ 2 ∷ []) wanted full ≡ record { answer = refused 10 0; out = full })
     × (planned triangle (0 ∷ 0 ∷ []) (1 ∷ []) full ≡ record { answer = refused 10 1; out = full })
     × (planned triangle present (0 ∷ 0 ∷ []) full ≡ record { answer = refused 11 1; out = full })
-    × (planned locked present wanted full ≡ record { answer = refused 12 10; out = full })
-unfolding locked full triangle present wanted bus branch switch le ofBits neg upTo those firstOf indexOf count _andThen_ judge okBase okLoad okR among ties headFaults busFaults branchFaults switchFaults headOf checkRun checkRecords live openOn every checkState baseState far neighbours reached enter enterAll turn walkBy walk byOf across Walk.back bfsPath radial position feeder radialIn closings pathBefore opening exchanged pairsFrom pairs switchOn plan checkRadial differing lockedDifferences checkLocked checkPlan flatMap written pairText frameText writeFields digits digit planText checkRoom called planned
+    × (planned lockedTriangle present wanted full ≡ record { answer = refused 12 10; out = full })
+unfolding le ofBits neg upTo those firstOf indexOf count _andThen_ judge okBase okLoad okR among ties headFaults busFaults branchFaults switchFaults headOf checkRun checkRecords live openOn every checkState baseState far neighbours reached enter enterAll turn walkBy walk byOf across Walk.back bfsPath radial position feeder radialIn endsPath closings opening exchanged pairsFrom pairs switchOn plan checkRadial differing lockedDifference lockedDifferences checkLocked checkPlan flatMap written pairText frameText writeFields digits digit planText checkRoom called planned
 calls = (refl, refl, refl, refl, refl, refl, refl, refl)

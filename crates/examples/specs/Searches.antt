@@ -3,11 +3,9 @@ use mathlib.Core.Bool.{Bool, true, false}
 use mathlib.Core.List.{List, [], _∷_, map}
 use mathlib.Core.Path.{_≡_, refl}
 use Prim.Native.Nat.{ℕ}
-use lib.Ieee.{Float, binary64, ofBits, add, sub, mul, div, lt, le}
+use lib.Ieee.{Float, ofBits, add, sub, mul, div, lt, le}
 use Rattle.network.specs.declared.bus.Bus.{Bus}
 use Rattle.network.specs.declared.branch.Branch.{Branch}
-use Rattle.network.specs.declared.switch.Switch.{Switch}
-use Rattle.network.specs.declared.switch.ReconfigAlgorithm.{ReconfigAlgorithm}
 use Rattle.network.specs.declared.switch.ReconfigAlgorithm.the-variants.{BranchExchange, TabuSearch, Exhaustive}
 use Rattle.numbers.specs.UpTo.{upTo, table}
 use Rattle.numbers.specs.Counts.{count}
@@ -25,41 +23,11 @@ use Rattle.tabu.specs.Tabu.{allowed, lesser, bestMove, lastSeven, afterMove, ta
 use Rattle.exhaustive.specs.Exhaustive as Ex
 use Rattle.exhaustive.specs.Exhaustive.{masked, tryMask, exhaustive, leastOrBase, exhaustiveBest}
 use Rattle.reconfiguration.specs.Solve.{bestBy, best}
-
--- floats by their patterns, loads in MW and r in per unit
-abbrev pub float : ℕ → Float
-float bits = ofBits binary64 bits
-
-abbrev pub bus : ℕ → ℕ → Bus
-bus id pd = record { id = id; pd = record { 0 = float pd } }
-
-abbrev pub branch : ℕ → ℕ → ℕ → Branch
-branch from to r = record { «from_bus» = from; «to_bus» = to; r = float r; status = true }
-
-abbrev pub section : ℕ → ℕ → Switch
-section id k = record { id = id; «branch_idx» = k; «normally_open» = false; «can_operate» = true }
-
-abbrev pub tie : ℕ → ℕ → Switch
-tie id k = record { id = id; «branch_idx» = k; «normally_open» = true; «can_operate» = true }
-
--- base_mva is 1
-abbrev pub network : ReconfigAlgorithm → ℕ → List Bus → List Branch → List Switch → Network
-network algorithm iterations buses branches switches =
-    record { base = float 0x3FF0000000000000; algorithm = algorithm; iterations = iterations; buses = buses; branches = branches; switches = switches }
+use Rattle.examples.specs.Feeders.{float, bus, branch, section, tie, network, records, buses, branchesWith, switches, triangleWith, triangle}
 
 -- without switches the one state has no byte
 abbrev pub plain : List Bus → List Branch → Network
-plain buses branches = network BranchExchange 0 buses branches []
-
-abbrev pub triangleWith : Branch → ReconfigAlgorithm → ℕ → Network
-triangleWith first algorithm iterations =
-    network algorithm iterations
-    (bus 1 0 ∷ bus 2 0x3FF0000000000000 ∷ bus 3 0x4000000000000000 ∷ [])
-    (first ∷ branch 2 3 0x3FDC000000000000 ∷ branch 1 3 0x3FC8000000000000 ∷ [])
-    (section 10 1 ∷ tie 11 2 ∷ [])
-
-abbrev pub triangle : ReconfigAlgorithm → ℕ → Network
-triangle = triangleWith (branch 1 2 0x3FD0000000000000)
+plain buses branches = records buses branches []
 
 -- a state of a feeder's switches, or a search
 pub data Case : Type 0 where
@@ -96,20 +64,20 @@ marked =
     ∷ inState (plain (bus 1 0 ∷ bus 2 0 ∷ []) (branch 1 2 0 ∷ [])) [] gives stands true (float 0)
     ∷ inState (plain (bus 1 0 ∷ bus 2 0 ∷ []) (branch 1 2 0 ∷ branch 1 2 0 ∷ [])) [] gives stands false (float 0)
     -- "triangle base loss 4", "exchanged 1", "all closed: not radial, loss 5.6875"
-    ∷ inState (triangle Exhaustive 100) (0 ∷ 1 ∷ []) gives stands true (float 0x4010000000000000)
-    ∷ inState (triangle Exhaustive 100) (1 ∷ 0 ∷ []) gives stands true (float 0x3FF0000000000000)
-    ∷ inState (triangle Exhaustive 100) (0 ∷ 0 ∷ []) gives stands false (float 0x4016C00000000000)
+    ∷ inState triangle (0 ∷ 1 ∷ []) gives stands true (float 0x4010000000000000)
+    ∷ inState triangle (1 ∷ 0 ∷ []) gives stands true (float 0x3FF0000000000000)
+    ∷ inState triangle (0 ∷ 0 ∷ []) gives stands false (float 0x4016C00000000000)
     -- "branch 0 turned (2 to 1): base loss 1.75"
-    ∷ inState (triangleWith (branch 2 1 0x3FD0000000000000) Exhaustive 100) (0 ∷ 1 ∷ []) gives stands true (float 0x3FFC000000000000)
+    ∷ inState (records buses (branchesWith (branch 2 1 0x3FD0000000000000)) switches) (0 ∷ 1 ∷ []) gives stands true (float 0x3FFC000000000000)
     -- "exchange with 0 rounds: base, 0, not converged", "1: loss 1, 1, not", "2: 2, not", "3: 2, converged"
-    ∷ searched (triangle BranchExchange 0) gives finds (0 ∷ 1 ∷ []) (float 0x4010000000000000) 0 false
-    ∷ searched (triangle BranchExchange 1) gives finds (1 ∷ 0 ∷ []) (float 0x3FF0000000000000) 1 false
-    ∷ searched (triangle BranchExchange 2) gives finds (1 ∷ 0 ∷ []) (float 0x3FF0000000000000) 2 false
-    ∷ searched (triangle BranchExchange 3) gives finds (1 ∷ 0 ∷ []) (float 0x3FF0000000000000) 2 true
+    ∷ searched (triangleWith BranchExchange 0) gives finds (0 ∷ 1 ∷ []) (float 0x4010000000000000) 0 false
+    ∷ searched (triangleWith BranchExchange 1) gives finds (1 ∷ 0 ∷ []) (float 0x3FF0000000000000) 1 false
+    ∷ searched (triangleWith BranchExchange 2) gives finds (1 ∷ 0 ∷ []) (float 0x3FF0000000000000) 2 false
+    ∷ searched (triangleWith BranchExchange 3) gives finds (1 ∷ 0 ∷ []) (float 0x3FF0000000000000) 2 true
     -- "exhaustive: base, count 1"
-    ∷ searched (triangle Exhaustive 100) gives finds (0 ∷ 1 ∷ []) (float 0x4010000000000000) 1 true
+    ∷ searched (triangleWith Exhaustive 100) gives finds (0 ∷ 1 ∷ []) (float 0x4010000000000000) 1 true
     -- "tabu with 100: base, 100, converged"
-    ∷ searched (triangle TabuSearch 100) gives finds (0 ∷ 1 ∷ []) (float 0x4010000000000000) 100 true
+    ∷ searched (triangleWith TabuSearch 100) gives finds (0 ∷ 1 ∷ []) (float 0x4010000000000000) 100 true
     ∷ []
 
 -- document 01: "One proved table holds the marked (*) cases under one theorem"

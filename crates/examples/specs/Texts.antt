@@ -1,11 +1,9 @@
 -- Document 01's triangle, and an example for each refusal that a text can get; all hold by computation.
-use mathlib.Core.Bool.{true, false}
 use mathlib.Core.List.{List, [], _∷_, _++_, flatMap}
 use mathlib.Core.Path.{_≡_, refl}
 use Prim.Native.Nat.{ℕ, zero, suc, _+_, _*_}
-use lib.Ieee.{binary64, ofBits, toBits, le, neg}
+use lib.Ieee.{ofBits, toBits, le, neg}
 use Rattle.numbers.specs.Every.{every}
-use Rattle.network.specs.declared.switch.ReconfigAlgorithm.the-variants.{BranchExchange}
 use Rattle.network.specs.Answers.{accepted, refused, _andThen_, judge}
 use Rattle.network.specs.Records.{Network}
 use Rattle.network.specs.Faults.{okBase, okLoad, okR, among, ties, headFaults, busFaults, branchFaults, switchFaults}
@@ -17,6 +15,7 @@ use Rattle.record_lines.specs.Kinds.{isFrame, fieldsOf, methodOf, readOne, with
 use Rattle.frames.specs.Text.{follow, pure, readRun, readEnd, readLines, readText}
 use Rattle.frames.specs.Acceptable.{textOf}
 use Rattle.frames.specs.Conditions.{verdictOf}
+use Rattle.examples.specs.Feeders.{bus, records, triangle}
 
 -- a line of w digits, written as one number, and its line feed
 abbrev pub row : ℕ → ℕ → List ℕ
@@ -42,27 +41,6 @@ switchLines = row 12 0x04000A000102 ++ row 12 0x04000B000203
 abbrev pub triangleText : List ℕ
 triangleText = headLine ++ (busLines ++ (branchLines ++ switchLines))
 
-abbrev pub triangle : Network
-triangle = record {
-  base = ofBits binary64 0x3FF0000000000000;
-  algorithm = BranchExchange;
-  iterations = 100;
-  buses =
-      record { id = 1; pd = record { 0 = ofBits binary64 0 } }
-      ∷ record { id = 2; pd = record { 0 = ofBits binary64 0x3FF0000000000000 } }
-      ∷ record { id = 3; pd = record { 0 = ofBits binary64 0x4000000000000000 } }
-      ∷ [];
-  branches =
-      record { «from_bus» = 1; «to_bus» = 2; r = ofBits binary64 0x3FD0000000000000; status = true }
-      ∷ record { «from_bus» = 2; «to_bus» = 3; r = ofBits binary64 0x3FDC000000000000; status = true }
-      ∷ record { «from_bus» = 1; «to_bus» = 3; r = ofBits binary64 0x3FC8000000000000; status = true }
-      ∷ [];
-  switches =
-      record { id = 10; «branch_idx» = 1; «normally_open» = false; «can_operate» = true }
-      ∷ record { id = 11; «branch_idx» = 2; «normally_open» = true; «can_operate» = true }
-      ∷ [];
-}
-
 pub triangle-read : readText triangleText ≡ accepted triangle
 unfolding readText readLines readOne readRun readEnd without judge _andThen_ follow pure cut put every lineFaults isFrame fieldsOf methodOf number value digit digits isDigit readFields headFaults busFaults branchFaults switchFaults okBase okLoad okR among ties ofBits le neg
 triangle-read = refl
@@ -76,21 +54,14 @@ abbrev minusZeroText : List ℕ
 minusZeroText = row 36 0x010001000000003FF0000000000000000064 ++ row 22 0x0200018000000000000000
 
 abbrev minusZero : Network
-minusZero = record {
-  base = ofBits binary64 0x3FF0000000000000;
-  algorithm = BranchExchange;
-  iterations = 100;
-  buses = record { id = 1; pd = record { 0 = ofBits binary64 0x8000000000000000 } } ∷ [];
-  branches = [];
-  switches = [];
-}
+minusZero = records (bus 1 0x8000000000000000 ∷ []) [] []
 
 minus-zero : (readText minusZeroText ≡ accepted minusZero) × (textOf minusZero ≡ minusZeroText)
 unfolding readText readLines readOne readRun readEnd without judge _andThen_ follow pure cut put every lineFaults isFrame fieldsOf methodOf number value digit digits isDigit readFields headFaults busFaults branchFaults switchFaults okBase okLoad okR among ties ofBits le neg textOf frameText flatMap check.headOf writeFields toBits
 minus-zero = (refl, refl)
 
 -- ---- refused texts
-abbrev refusedAs : ℕ → ℕ → List ℕ → Type 0
+abbrev pub refusedAs : ℕ → ℕ → List ℕ → Type 0
 refusedAs n place t = readText t ≡ refused n place
 
 -- the triangle up to the last line of a kind, then this text
@@ -174,9 +145,9 @@ abbrev tieLines : ℕ → List ℕ
 tieLines zero = []
 tieLines (suc n) = row 12 (0x040000000001 + n * 0x1000100) ++ tieLines n
 
-abbrev manyTies : ℕ → List ℕ
+abbrev pub manyTies : ℕ → List ℕ
 manyTies n = row 36 (0x010002000000003FF0000000000000020000 + n * 0x100010000000000000000000000) ++ (row 22 0x0200010000000000000000 ++ (row 22 0x0200020000000000000000 ++ (parallels n ++ tieLines n)))
 
-many-ties : (verdictOf (readText (manyTies 10)) ≡ accepted tt) × refusedAs 9 25 (manyTies 11)
+pub many-ties : (verdictOf (readText (manyTies 10)) ≡ accepted tt) × refusedAs 9 25 (manyTies 11)
 unfolding readText readLines readOne readRun readEnd without judge _andThen_ follow pure cut put every lineFaults isFrame fieldsOf methodOf number value digit digits isDigit readFields headFaults busFaults branchFaults switchFaults okBase okLoad okR among ties ofBits le neg verdictOf
 many-ties = (refl, refl)

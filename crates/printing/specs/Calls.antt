@@ -8,7 +8,7 @@ use Rattle.slices.specs.Written.{written}
 
 -- refusal 13: "lent slice shorter than the answer"
 unfoldable pub checkRoom : ℕ → ℕ → Answer (Unit {0})
-checkRoom needed lent = judge ((13 if ltb lent needed) ∷ []) 0
+checkRoom needed room = judge ((13 if ltb room needed) ∷ []) 0
 
 pub record Call (A : Type 0) : Type 0 where
   pub answer : Answer A

@@ -2,4 +2,3 @@ pub mod Printed
 pub mod LineTexts
 pub mod Calls
 pub mod CallLaws
-pub mod PrintedExamples
