@@ -45,7 +45,7 @@ use Rattle.searches.specs.States.{stateOf}
 use Rattle.searches.specs.StateLaws.{state-held}
 use Rattle.searches.specs.Results.{Result, resultBy, solvedBy, resultOf, solveAnswerOf}
 use Rattle.reconfiguration.specs.Solve.{result, best, solved}
-use Rattle.operations.specs.Operations.{operations, operationsText, listed, operationsAnswerOf}
+use Rattle.operations.specs.Operations.{operations, operationsText, operationsCall, operationsAnswerOf}
 use Rattle.operations.specs.OperationLines as Operations
 use Rattle.answers.specs.Printing.{resultText, operationLines, planLines, moveLines, networkText, printedOf, printed, answeredText}
 use Rattle.answers.specs.PrintingValues.{HasBits}
@@ -78,8 +78,8 @@ module _ (n : PowerNetwork) (ok : checkRecords (recordsOf n) ≡ accepted tt) (o
 
   -- ---- the operations
   pub operations-printed : 4608 ≤ length out → (a : OperationsAnswer) {after : List ℕ} {from to : List ℕ} → from ≡ baseState N → to ≡ best N .state
-      → record { answer = operationsAnswerOf a; out = after } ≡ listed N from to out → (operationBytes a ≡ length (operationLines N)) × (after ≡ written (operationLines N) out)
-  unfolding operationLines listed
+      → record { answer = operationsAnswerOf a; out = after } ≡ operationsCall N from to out → (operationBytes a ≡ length (operationLines N)) × (after ≡ written (operationLines N) out)
+  unfolding operationLines operationsCall
   operations-printed room a {after} f t e =
       let l = operations N (baseState N) (best N .state) in
       let c = call-is (length l) (operationsText l) out states-pass (omega (arith, operations-short N ok)) (rw (f, t) at e) in

@@ -31,7 +31,7 @@ use Rattle.plan.specs.Length as PlanLength
 use Rattle.searches.specs.Results.{solvedBy}
 use Rattle.reconfiguration.specs.Solve.{best, result, solved}
 use Rattle.reconfiguration.specs.Answers.{best-good}
-use Rattle.operations.specs.Operations.{operations, operationsText, listed}
+use Rattle.operations.specs.Operations.{operations, operationsText, operationsCall}
 use Rattle.operations.specs.OperationLines as Operations
 use Rattle.answers.specs.Printing.{networkText, printedOf, printed, answeredText}
 use Rattle.answers.specs.PrintingLaws.{printed-short}
@@ -67,11 +67,11 @@ module _ (N : Network) (inside : Inside N) where
       in-full (result N) (best N .state) out checked (rw long room) ∙ rw long
 
   -- `compute_switch_operations`: 9 bytes for each operation
-  pub listed-in-full : (from to : State) → GoodState N from → GoodState N to → (out : List ℕ)
+  pub operations-in-full : (from to : State) → GoodState N from → GoodState N to → (out : List ℕ)
       → let l = operations N from to in
-      9 * length l ≤ length out → listed N from to out ≡ record { answer = accepted (length l); out = operationsText l ++ drop (9 * length l) out }
-  unfolding listed
-  listed-in-full from to f t out room =
+      9 * length l ≤ length out → operationsCall N from to out ≡ record { answer = accepted (length l); out = operationsText l ++ drop (9 * length l) out }
+  unfolding operationsCall
+  operations-in-full from to f t out room =
       let l = operations N from to in
       let passed = then-iff (checkRecords N) _ .1 (checked, then-iff (checkState N from 0) (checkState N to 1) .1 (state-accepted N from 0 .1 f, state-accepted N to 1 .1 t)) in
       in-full (length l) (operationsText l) out passed (rw (Operations.length-text l) room) ∙ rw (Operations.length-text l)

@@ -17,7 +17,7 @@ use Rattle.slices.specs.Written.{written}
 use Rattle.printing.specs.CallLaws.{call-refused, call-short, call-done}
 use Rattle.states.specs.Switches.{State}
 use Rattle.states.specs.Listed.{state-accepted, switches-listed, few-switches}
-use Rattle.operations.specs.Operations.{operations, operationsText, listed}
+use Rattle.operations.specs.Operations.{operations, operationsText, operationsCall}
 use Rattle.operations.specs.OperationValues.{Stated, differs}
 use Rattle.operations.specs.OperationLines.{length-text, length-operations}
 
@@ -28,8 +28,8 @@ module _ (n : PowerNetwork) (from to : State) where
   abbrev tests : Answer (Unit {0})
   tests = checkRecords N andThen checkState N from 0 andThen checkState N to 1
 
-  pub not-listed : (out : List ℕ) {v : Verdict} {number place : ℕ} → v ≡ Refused number place → answerOf v ≡ tests → record { answer = refused number place; out = out } ≡ listed N from to out
-  unfolding listed
+  pub not-listed : (out : List ℕ) {v : Verdict} {number place : ℕ} → v ≡ Refused number place → answerOf v ≡ tests → record { answer = refused number place; out = out } ≡ operationsCall N from to out
+  unfolding operationsCall
   not-listed out r e = call-refused (length (operations N from to)) (operationsText (operations N from to)) out (sym e ∙ ap answerOf r)
 
   module _ (passed : tests ≡ accepted tt) where
@@ -49,11 +49,11 @@ module _ (n : PowerNetwork) (from to : State) where
       pub lines-fit : (room : ℕ) → 9 * total ≤ room → 9 * length (operations N from to) ≤ room
       lines-fit room h = omega (arith, total-operations)
 
-      pub no-room : (out : List ℕ) → length out < 9 * total → record { answer = refused 13 0; out = out } ≡ listed N from to out
-      unfolding listed
+      pub no-room : (out : List ℕ) → length out < 9 * total → record { answer = refused 13 0; out = out } ≡ operationsCall N from to out
+      unfolding operationsCall
       no-room out h = call-short (length (operations N from to)) (operationsText (operations N from to)) out passed needed h
 
       pub all-listed : (out : List ℕ) → 9 * total ≤ length out → {after : List ℕ} → after ≡ written (operationsText (operations N from to)) out
-          → record { answer = accepted total; out = after } ≡ listed N from to out
-      unfolding listed
+          → record { answer = accepted total; out = after } ≡ operationsCall N from to out
+      unfolding operationsCall
       all-listed out h w = rw total-operations (call-done (length (operations N from to)) (operationsText (operations N from to)) out passed needed h w)

@@ -34,8 +34,8 @@ unfoldable pub operationsText : List SwitchOperation → List ℕ
 operationsText operations = flatMap operationText operations
 
 -- how many operations, and a line for each at the front of the slice. "Calls test the network, then 10 (present first)"
-unfoldable pub listed : Network → State → State → List ℕ → Call ℕ
-listed N from to out =
+unfoldable pub operationsCall : Network → State → State → List ℕ → Call ℕ
+operationsCall N from to out =
     let l = operations N from to in
     called (checkRecords N andThen checkState N from 0 andThen checkState N to 1) (length l) (operationsText l) out
 

@@ -10,7 +10,7 @@ ghost use Rattle.network.specs.Answers.{answerOf, _andThen_};
 ghost use Rattle.network.specs.Check.{checkRecords};
 ghost use Rattle.states.specs.Live.{checkState};
 ghost use Rattle.network.specs.Records.{recordsOf};
-ghost use Rattle.operations.specs.Operations.{operationTo, operations, operationsText, listed, operationsAnswerOf};
+ghost use Rattle.operations.specs.Operations.{operationTo, operations, operationsText, operationsCall, operationsAnswerOf};
 ghost use Rattle.operations.specs.OperationValues.{Stated, differs, lineOf};
 use checks::check::check;
 use network::error::Verdict;
@@ -114,7 +114,7 @@ pub fn compute_switch_operations(
     out: &mut [u8],
 ) -> OperationsAnswer
     ensures { λ r. ⌜ record { answer = operationsAnswerOf r; out = now (out .exit) }
-        ≡ listed (recordsOf network) (now (from .entry)) (now (to .entry)) (now (out .entry)) ⌝ }
+        ≡ operationsCall (recordsOf network) (now (from .entry)) (now (to .entry)) (now (out .entry)) ⌝ }
 {
     match check_states(network, from, to) {
         Verdict::Refused { number, place } => OperationsAnswer::Refused { number, place },
