@@ -18,12 +18,7 @@ use Rattle.losses.specs.Accepted.{loss-finite}
 use Rattle.losses.specs.Loss.{lossIn}
 use Rattle.plan.specs.Plan.{planned}
 use Rattle.controller.specs.declared.answer.CallAnswer.{CallAnswer}
-use Rattle.controller.specs.Calls.{numbersOf, onRecords, textRadiality, textLoss, planOn, textPlan, planNumbers}
-
--- what was asked for, as a number; a refusal stays
-unfoldable pub numbered : {A : Type 0} → (A → ℕ) → Answer A → Answer ℕ
-numbered f (accepted a) = accepted (f a)
-numbered f (refused n p) = refused n p
+use Rattle.controller.specs.Calls.{numbered, numbersOf, onRecords, textRadiality, textLoss, planOn, textPlan, writtenNumbers}
 
 numbered-then : {A : Type 0} (f : A → ℕ) (c : Answer (Unit {0})) (a : A) → numbered f (c andThen accepted a) ≡ (c andThen accepted (f a))
 unfolding numbered _andThen_
@@ -89,5 +84,5 @@ module _ (t : List ℕ) (N : Network) (so : readText t ≡ accepted N) where
 
 -- the answer's numbers beside what the slice holds
 pub numbers-beside : (a : CallAnswer) (x : Answer ℕ) (held : List ℕ) (p : Call ℕ) → a ≡ numbersOf x → record { answer = x; out = held } ≡ p
-    → record { answer = a; out = held } ≡ planNumbers p
-numbers-beside a x held p q h = ap (λ b. record { answer = b; out = held }) q ∙ ap planNumbers h
+    → record { answer = a; out = held } ≡ writtenNumbers p
+numbers-beside a x held p q h = ap (λ b. record { answer = b; out = held }) q ∙ ap writtenNumbers h

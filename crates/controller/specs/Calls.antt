@@ -13,6 +13,11 @@ use Rattle.losses.specs.Loss.{lossIn}
 use Rattle.plan.specs.Plan.{planned}
 use Rattle.controller.specs.declared.answer.CallAnswer.{CallAnswer}
 
+-- what was asked for, as a number; a refusal stays
+unfoldable pub numbered : {A : Type 0} → (A → ℕ) → Answer A → Answer ℕ
+numbered f (accepted a) = accepted (f a)
+numbered f (refused n p) = refused n p
+
 -- number 0, place 0 and the value, or document 01's number and place and the value 0
 abbrev pub numbersOf : Answer ℕ → CallAnswer
 numbersOf (accepted value) = record { number = 0; place = 0; value = value }
@@ -44,5 +49,6 @@ planOn (refused number place) present wanted out = record { answer = refused num
 unfoldable pub textPlan : List ℕ → List ℕ → List ℕ → List ℕ → Call ℕ
 textPlan text present wanted out = planOn (readText text) present wanted out
 
-abbrev pub planNumbers : Call ℕ → CallWritten
-planNumbers p = record { answer = numbersOf (p .answer); out = p .out }
+-- what a call that writes answers, in numbers, beside the slice
+abbrev pub writtenNumbers : Call ℕ → CallWritten
+writtenNumbers p = record { answer = numbersOf (p .answer); out = p .out }

@@ -7,11 +7,12 @@ ghost use Rattle.radiality.specs.Answers.{radialityOf};
 ghost use Rattle.losses.specs.Answers.{lossAnswerOf};
 ghost use Rattle.plan.specs.Plan.{planAnswerOf};
 ghost use Rattle.answers.specs.Printing.{textAnswerOf};
-ghost use Rattle.controller.specs.Calls.{numbersOf};
-ghost use Rattle.controller.specs.CallLaws.{numbered, NoNan};
+ghost use Rattle.controller.specs.Calls.{numbered, numbersOf};
+ghost use Rattle.controller.specs.CallLaws.{NoNan};
 use answers::printer::TextAnswer;
 use losses::evaluation::LossAnswer;
 use plan::planner::PlanAnswer;
+use printing::writer::truth_byte;
 use radiality::radiality::Radiality;
 
 // Number 0 with what was asked for, or document 01's refusal number and place.
@@ -42,21 +43,12 @@ pub(crate) fn refusal(number: u8, place: u16) -> CallAnswer
     }
 }
 
-fn truth_value(b: bool) -> u64
-    ensures { λ r. ⌜ r ≡ truthByte b ⌝ }
-{
-    if b {
-        return 1;
-    }
-    0
-}
-
 pub(crate) fn radiality_numbers(answer: Radiality) -> CallAnswer
     ensures { λ r. ⌜ r ≡ numbersOf (numbered truthByte (radialityOf answer)) ⌝ }
 {
     match answer {
         Radiality::Refused { number, place } => refusal(number, place),
-        Radiality::Radial(radial) => answered(truth_value(radial)),
+        Radiality::Radial(radial) => answered(truth_byte(radial) as u64),
     }
 }
 

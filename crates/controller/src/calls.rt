@@ -1,7 +1,7 @@
 // The calls on a frame text. A refusal of the text comes first, then those of the call itself.
 ghost use mathlib.Core.Path.{_≡_};
 ghost use Rattle.answers.specs.Printing.{answeredText};
-ghost use Rattle.controller.specs.Calls.{numbersOf, textRadiality, textLoss, textPlan, planNumbers};
+ghost use Rattle.controller.specs.Calls.{numbersOf, textRadiality, textLoss, textPlan, writtenNumbers};
 use crate::answer::CallAnswer;
 use crate::answer::loss_numbers;
 use crate::answer::plan_numbers;
@@ -53,7 +53,7 @@ pub extern "C" fn feeder_plan(
     out: &mut [u8],
 ) -> CallAnswer
     ensures { λ r. ⌜ record { answer = r; out = now (out .exit) }
-        ≡ planNumbers (textPlan (now (text .entry)) (now (present .entry)) (now (wanted .entry)) (now (out .entry))) ⌝ }
+        ≡ writtenNumbers (textPlan (now (text .entry)) (now (present .entry)) (now (wanted .entry)) (now (out .entry))) ⌝ }
 {
     let reading = read_text(text);
     let verdict = reading.verdict;
@@ -68,7 +68,7 @@ pub extern "C" fn feeder_plan(
 // text that is refused has its 8F line printed, so that of the refusals only 13 is answered.
 #[no_mangle]
 pub extern "C" fn feeder_answer_text(text: &[u8], out: &mut [u8]) -> CallAnswer
-    ensures { λ r. ⌜ record { answer = r; out = now (out .exit) } ≡ planNumbers (answeredText (now (text .entry)) (now (out .entry))) ⌝ }
+    ensures { λ r. ⌜ record { answer = r; out = now (out .exit) } ≡ writtenNumbers (answeredText (now (text .entry)) (now (out .entry))) ⌝ }
 {
     text_numbers(answer_text(text, out))
 }

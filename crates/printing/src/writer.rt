@@ -32,7 +32,8 @@ pub const PAIR_LENGTH: usize = 11;
 
 pub const REFUSAL_LENGTH: usize = 9;
 
-fn truth_byte(b: bool) -> u8
+// The byte of a field that says whether it is so.
+pub fn truth_byte(b: bool) -> u8
     ensures { λ r. ⌜ r ≡ truthByte b ⌝ }
 {
     if b {
@@ -76,10 +77,10 @@ pub fn write_answer(
         return;
     }
     let head = 0x8100 + truth_byte(radial) as u64;
-    let tail = 0x100 * iterations as u64 + truth_byte(converged) as u64;
+    let last_fields = 0x100 * iterations as u64 + truth_byte(converged) as u64;
     write_digits(out, 4, head);
     write_losses(&mut out[4..], base, best, reduction);
-    write_line(&mut out[52..], 6, tail);
+    write_line(&mut out[52..], 6, last_fields);
 }
 
 // The frame 82: a switch, and what is done to it.

@@ -25,8 +25,8 @@ use Rattle.plan.specs.Plan.{planned}
 use Rattle.reconfiguration.specs.Answers.{best-loss}
 use Rattle.searches.specs.Results.{Result, resultBy, solvedBy}
 use Rattle.reconfiguration.specs.Solve.{best, result, solved}
-use Rattle.controller.specs.Calls.{onRecords}
-use Rattle.controller.specs.CallLaws.{numbered, NoNan, radiality-answered, loss-answered, plan-answered, radiality-refused, loss-refused, plan-refused}
+use Rattle.controller.specs.Calls.{numbered, onRecords}
+use Rattle.controller.specs.CallLaws.{NoNan, radiality-answered, loss-answered, plan-answered, radiality-refused, loss-refused, plan-refused}
 use Rattle.timing.specs.Rounds.{valueOf, recordCount, searchValue, textSearch, asked, total}
 
 -- ---- how many records a text has
@@ -47,7 +47,7 @@ module _ (kind : ℕ) (t a b : List ℕ) where
   unfolding asked
   asked-reading e = ap (λ k. asked k t a b) (sym e)
 
-  pub asked-nothing : (kind ≡ 0 → ⊥) → (kind ≡ 1 → ⊥) → (kind ≡ 2 → ⊥) → (kind ≡ 3 → ⊥) → refused 0 0 ≡ asked kind t a b
+  pub asked-nothing : (kind ≡ 0 → ⊥) → (kind ≡ 1 → ⊥) → (kind ≡ 2 → ⊥) → (kind ≡ 3 → ⊥) → accepted 0 ≡ asked kind t a b
   unfolding asked
   asked-nothing n₀ n₁ n₂ n₃ = rw (ne-eqb kind 0 n₀, ne-eqb kind 1 n₁, ne-eqb kind 2 n₂, ne-eqb kind 3 n₃)
 

@@ -11,8 +11,7 @@ ghost use Rattle.frames.specs.Text.{readText};
 ghost use Rattle.radiality.specs.Feeder.{radialIn};
 ghost use Rattle.losses.specs.Loss.{lossIn};
 ghost use Rattle.plan.specs.Plan.{planned};
-ghost use Rattle.controller.specs.Calls.{onRecords};
-ghost use Rattle.controller.specs.CallLaws.{numbered};
+ghost use Rattle.controller.specs.Calls.{numbered, onRecords};
 ghost use Rattle.timing.specs.Rounds.{valueOf, recordCount, searchValue};
 use frames::reader::read_text;
 use losses::evaluation::LossAnswer;
@@ -21,6 +20,7 @@ use network::error::Verdict;
 use network::topology::PowerNetwork;
 use plan::planner::PlanAnswer;
 use plan::planner::plan;
+use printing::writer::truth_byte;
 use radiality::radiality::Radiality;
 use radiality::radiality::verify_radiality;
 use reconfiguration::solve::solve;
@@ -39,15 +39,6 @@ pub(crate) fn reading(text: &[u8]) -> u64
     network.bus_count as u64 + network.branch_count as u64 + network.switch_count as u64
 }
 
-fn truth_value(b: bool) -> u64
-    ensures { λ r. ⌜ r ≡ truthByte b ⌝ }
-{
-    if b {
-        return 1;
-    }
-    0
-}
-
 // 1 for a radial state.
 pub(crate) fn radiality(network: PowerNetwork, state: &[u8]) -> u64
     ensures { λ r. ⌜ r ≡ valueOf (numbered truthByte (checkRecords (recordsOf network) andThen checkState (recordsOf network) (now (state .entry)) 0
@@ -55,7 +46,7 @@ pub(crate) fn radiality(network: PowerNetwork, state: &[u8]) -> u64
 {
     match verify_radiality(network, state) {
         Radiality::Refused { number, place } => 0,
-        Radiality::Radial(radial) => truth_value(radial),
+        Radiality::Radial(radial) => truth_byte(radial) as u64,
     }
 }
 

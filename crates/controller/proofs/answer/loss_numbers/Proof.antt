@@ -2,8 +2,8 @@
 use mathlib.Core.Path.{ap, sym, subst, _∙_}
 use lib.Ieee.{binary64, toBits}
 use Rattle.losses.specs.Answers.{lossAnswerOf}
-use Rattle.controller.specs.Calls.{numbersOf}
-use Rattle.controller.specs.CallLaws.{numbered, NoNan}
+use Rattle.controller.specs.Calls.{numbered, numbersOf}
+use Rattle.controller.specs.CallLaws.{NoNan}
 use borrow.Author.Needs.{needs}
 use Rattle.controller.proofs.answer.loss_numbers.Statement.{statement}
 use Rattle.controller.proofs.answer.loss_numbers.Tie as tie

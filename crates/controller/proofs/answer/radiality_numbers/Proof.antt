@@ -3,8 +3,7 @@ use mathlib.Core.Path.{ap, sym, _∙_}
 use Rattle.network.specs.Answers.{accepted}
 use Rattle.printing.specs.Printed.{truthByte}
 use Rattle.radiality.specs.Answers.{radialityOf}
-use Rattle.controller.specs.Calls.{numbersOf}
-use Rattle.controller.specs.CallLaws.{numbered}
+use Rattle.controller.specs.Calls.{numbered, numbersOf}
 use borrow.Author.Needs.{needs}
 use Rattle.controller.proofs.answer.radiality_numbers.Statement.{statement}
 use Rattle.controller.proofs.answer.radiality_numbers.Tie as tie
@@ -18,8 +17,11 @@ refusal-requires c κs = search needs
 enum-known-answer-2 : tie.Need-enum-known-answer-2
 enum-known-answer-2 c = search needs
 
-truth-value-requires : tie.Need-truth-value-requires
-truth-value-requires c κs = search needs
+truth-byte-requires : tie.Need-truth-byte-requires
+truth-byte-requires c κs = search needs
+
+cast-answered : tie.Need-cast-answered
+cast-answered c = search needs
 
 answered-requires : tie.Need-answered-requires
 answered-requires c κs = search needs
@@ -32,7 +34,7 @@ returns-2 : tie.Need-returns-2
 unfolding numbered
 returns-2 c =
     c .answered .ensures
-    ∙ ap (λ v. numbersOf (accepted v)) (c .before .truth-value .ensures)
+    ∙ ap (λ v. numbersOf (accepted v)) (c .before .truth-byte .ensures)
     ∙ ap (λ a. numbersOf (numbered truthByte (radialityOf a))) (sym (c .before .before .before .answer2 .given .1))
 
 pub radiality-numbers-spec : {M : Type 1} → statement M
@@ -42,7 +44,8 @@ radiality-numbers-spec =
     enum-known-answer
     refusal-requires
     enum-known-answer-2
-    truth-value-requires
+    truth-byte-requires
+    cast-answered
     answered-requires
     returns
     returns-2)

@@ -19,17 +19,17 @@ cast-head c = search needs
 add-head : tie.Need-add-head
 add-head c = search needs
 
-mul-tail : tie.Need-mul-tail
-mul-tail c = search needs
+mul-last-fields : tie.Need-mul-last-fields
+mul-last-fields c = search needs
 
 truth-byte-requires-2 : tie.Need-truth-byte-requires-2
 truth-byte-requires-2 c κs = search needs
 
-cast-tail : tie.Need-cast-tail
-cast-tail c = search needs
+cast-last-fields : tie.Need-cast-last-fields
+cast-last-fields c = search needs
 
-add-tail : tie.Need-add-tail
-add-tail c = search needs
+add-last-fields : tie.Need-add-last-fields
+add-last-fields c = search needs
 
 write-digits-requires : tie.Need-write-digits-requires
 write-digits-requires c κs = search needs
@@ -81,10 +81,10 @@ write-answer-spec =
     truth-byte-requires
     cast-head
     add-head
-    mul-tail
+    mul-last-fields
     truth-byte-requires-2
-    cast-tail
-    add-tail
+    cast-last-fields
+    add-last-fields
     write-digits-requires
     sub-write-losses
     part-write-losses-start

@@ -2,7 +2,8 @@
 use mathlib.Core.Path.{ap, sym, subst, _∙_}
 use lib.Ieee.{binary64, toBits}
 use Rattle.losses.specs.Answers.{lossAnswerOf}
-use Rattle.controller.specs.CallLaws.{numbered, NoNan, loss-no-nan}
+use Rattle.controller.specs.Calls.{numbered}
+use Rattle.controller.specs.CallLaws.{NoNan, loss-no-nan}
 use Rattle.timing.specs.Rounds.{valueOf}
 use borrow.Author.Needs.{needs}
 use Rattle.timing.proofs.values.loss.Statement.{statement}

@@ -2,7 +2,7 @@
 use mathlib.Core.Path.{ap, sym, _∙_}
 use Rattle.printing.specs.Printed.{truthByte}
 use Rattle.radiality.specs.Answers.{radialityOf}
-use Rattle.controller.specs.CallLaws.{numbered}
+use Rattle.controller.specs.Calls.{numbered}
 use Rattle.timing.specs.Rounds.{valueOf}
 use borrow.Author.Needs.{needs}
 use Rattle.timing.proofs.values.radiality.Statement.{statement}
@@ -17,8 +17,11 @@ enum-known-number c = search needs
 enum-known-radial : tie.Need-enum-known-radial
 enum-known-radial c = search needs
 
-truth-value-requires : tie.Need-truth-value-requires
-truth-value-requires c κs = search needs
+truth-byte-requires : tie.Need-truth-byte-requires
+truth-byte-requires c κs = search needs
+
+cast-result : tie.Need-cast-result
+cast-result c = search needs
 
 returns : tie.Need-returns
 unfolding numbered
@@ -31,7 +34,7 @@ returns-2 : tie.Need-returns-2
 unfolding numbered
 returns-2 c =
     let answer = c .before .before in
-    c .truth-value .ensures
+    c .truth-byte .ensures
     ∙ ap (λ a. valueOf (numbered truthByte (radialityOf a))) (sym (answer .radial .given .1))
     ∙ ap (λ a. valueOf (numbered truthByte a)) (answer .before .before .verify-radiality .ensures)
 
@@ -42,6 +45,7 @@ radiality-spec =
     verify-radiality-requires
     enum-known-number
     enum-known-radial
-    truth-value-requires
+    truth-byte-requires
+    cast-result
     returns
     returns-2)

@@ -3,7 +3,8 @@ use mathlib.Core.Path.{ap, sym, subst, _∙_}
 use lib.Ieee.{binary64, toBits}
 use Rattle.printing.specs.Calls.{Call}
 use Rattle.searches.specs.Results.{Result, solveAnswerOf}
-use Rattle.controller.specs.CallLaws.{numbered, NoNan}
+use Rattle.controller.specs.Calls.{numbered}
+use Rattle.controller.specs.CallLaws.{NoNan}
 use Rattle.timing.specs.Rounds.{valueOf, searchValue}
 use Rattle.timing.specs.RoundLaws.{lossOf, search-no-nan}
 use borrow.Author.Needs.{needs}
