@@ -17,8 +17,8 @@ const MOST_OUTPUT: usize = 7472;
 // More entries are not read, so that the replay ends on any input.
 const MOST_ENTRIES: u64 = 65535;
 
-// What each byte holds that is lent for an answer: no answer has such a byte.
-const LENT: u8 = 170;
+// What each byte holds before an answer is written: no answer has such a byte.
+const UNWRITTEN: u8 = 170;
 
 // The next entry of the list: it is replayed, and the answer is its output or not; or there is none, as the list ends, or is damaged: broken off
 // inside an entry, or with a head that is none.
@@ -75,11 +75,11 @@ fn equal(a: &[u8], b: &[u8]) -> bool {
     true
 }
 
-// Whether all bytes are as they were before they were lent.
+// Whether no byte was written.
 fn kept(bytes: &[u8]) -> bool {
     let mut i = 0usize;
     while i < bytes.len() {
-        if bytes[i] != LENT {
+        if bytes[i] != UNWRITTEN {
             return false;
         }
         i += 1;
@@ -95,16 +95,16 @@ fn prints(out: &[u8], n: usize, output: &[u8]) -> bool {
     equal(&out[0..n], output) && kept(&out[n..])
 }
 
-// The bytes that are lent for an answer.
-fn lent() -> [u8; 7472]
+// The slice that an answer is written to.
+fn unwritten() -> [u8; 7472]
     ensures { λ r. ⌜ 7472 ≡ length r ⌝ }
 {
-    [LENT; 7472]
+    [UNWRITTEN; 7472]
 }
 
 // Whether a text's answer is the output. No refusal is: the slice has room for the longest.
 fn answers_with(text: &[u8], output: &[u8]) -> bool {
-    let mut out = lent();
+    let mut out = unwritten();
     match answer_text(text, &mut out) {
         TextAnswer::Printed(n) => prints(&out, wide16(n), output),
         TextAnswer::Refused { .. } => false,
