@@ -1,24 +1,23 @@
 -- Buses listed one by one, and entered from their list: from the stores of the code to the lists.
 use mathlib.Core.Path.{_≡_, refl, sym, ap, _∙_}
-use mathlib.Core.Logic.{_⊎_, inl, inr}
 use mathlib.Core.Bool.{Bool, true, false, cond}
-use mathlib.Core.List.{List, [], _∷_, _++_, map, append-nil, append-assoc}
+use mathlib.Core.List.{List, [], _∷_, _++_, append-nil, append-assoc}
 use Prim.Native.Nat.{ℕ, zero, suc, _+_, _-_, _/_, _<_, _≤_, min}
 use native.Mathlib.Decide.{ℕ-discrete}
 use native.Mathlib.Omega.{arith}
-use borrow.Author.Tests.{lt-ltb, le-ltb, le-leb, lt-leb}
-use lib.Dec.{leb, ltb}
-use lib.ListN.{length, getD, set, replicate, length-append, length-map, length-set, List·getD-map}
+use borrow.Author.Tests.{le-ltb}
+use lib.Dec.{ltb}
+use lib.ListN.{length, getD, set, replicate, length-append, length-set}
 use lib.Seq.{getD-set-same, getD-set-other, getD-append-seam}
 use Rattle.numbers.specs.UpTo.{upTo, table}
 use Rattle.numbers.specs.TableLaws.{length-table, getD-table, table-more, as-table, table-cong, replicate-table, filled, filled-more}
-use Rattle.graph.specs.Walk.{Visit, startAt, enter, enterAll}
+use Rattle.graph.specs.Walk.{Visit, enter, enterAll}
 use Rattle.graph.specs.Visits.{visit, busesOf}
 use Rattle.graph.specs.Rows.{rowFrom, leads, rowLeads}
 use Rattle.bfs.proofs.Along.{along, Along, one-along}
 use Rattle.bfs.proofs.Along as Along
 use Rattle.lists.specs.declared.lists.LiveLists.{LiveLists}
-use Rattle.lists.specs.Lists.{listsTo, arrayOf, startOf, listsOf, liveLists, forget, listFrom, listedOr, listLive, Listing, Reaching}
+use Rattle.lists.specs.Lists.{listsTo, arrayOf, startOf, listsOf, liveLists, listFrom, listed, listLive, Listing, Reaching}
 use Rattle.lists.specs.ListLaws.{lists-more}
 
 -- ---- one bus
@@ -35,7 +34,7 @@ module _ (live : Bool) (x : ℕ) {near : List ℕ} {end : ℕ} where
   dead-stays e l w = rw e w
 
   -- there is no room
-  pub full-stays : live ≡ true → 1024 ≤ end → (l : List ℕ) → Listing l near end → Listing (listLive live l x) near 1025
+  pub full-stays : live ≡ true → 1024 ≤ end → (l : List ℕ) → Listing l near end → Listing (listLive live l x) near end
   unfolding listLive
   full-stays e h l w =
       rw e
@@ -127,72 +126,9 @@ module _ (far first next : List ℕ) (live : List Bool) where
         let w : Listing (listsTo row (u + 1)) near′ end′ = rw more (step (listsTo row u) (r .listing)) in
         record { listing = w; begins = rw (r .begins, w .ends) (filled-more (startOf row) 0 257 (u + 1) (omega arith)) }
 
-    -- with room for all of them, and without
-    pub all-rowed : (n : ℕ) → u ≡ n → end ≤ 1024 → _≡_ {A = LiveLists} (record { listed = n; at = at; near = near }) (liveLists far first next live n)
+    pub all-rowed : (n : ℕ) → u ≡ n → _≡_ {A = LiveLists} (record { at = at; near = near }) (liveLists far first next live n)
     unfolding liveLists listsOf
-    all-rowed n e h =
-        let ends : end ≡ min (length (listsTo row n)) 1025 = rw e at (r .listing .ends) in
-        let fits : leb (length (listsTo row n)) 1024 ≡ true = le-leb (length (listsTo row n)) 1024 (omega arith) in
-        rw (r .begins, r .listing .entries, e, fits)
-
-    pub some-left-out : (n : ℕ) → u ≡ n → 1024 < end → _≡_ {A = LiveLists} (record { listed = 0; at = at; near = near }) (liveLists far first next live n)
-    unfolding liveLists listsOf
-    some-left-out n e h =
-        let ends : end ≡ min (length (listsTo row n)) 1025 = rw e at (r .listing .ends) in
-        let over : leb (length (listsTo row n)) 1024 ≡ false = lt-leb (length (listsTo row n)) 1024 (omega arith) in
-        rw (r .begins, r .listing .entries, e, over)
-
--- ---- a row listed by itself
-row-short : (next : List ℕ) (n h : ℕ) → length (rowFrom next n h) ≤ n
-unfolding rowFrom
-row-short next zero h = omega arith
-row-short next (suc n) h = go (ltb h 1024) (row-short next n (getD next h 0))
-  where
-    go : (b : Bool) → length (rowFrom next n (getD next h 0)) ≤ n → length {A = ℕ} (elim b [ true ↦ h ∷ rowFrom next n (getD next h 0) | false ↦ [] ]) ≤ suc n
-    go true l = omega arith
-    go false l = omega arith
-
-leads-short : (far : List ℕ) (live : List Bool) (l : List ℕ) → length (leads far live l) ≤ length l
-unfolding leads
-leads-short far live [] = omega arith
-leads-short far live (h ∷ l) = go (getD live (h / 2) false) (leads-short far live l)
-  where
-    go : (b : Bool) → length (leads far live l) ≤ length l → length (cond b (record { bus = getD far h 0; by = h / 2 } ∷ leads far live l) (leads far live l)) ≤ suc (length l)
-    go true ih = omega arith
-    go false ih = omega arith
-
-pub nothing-listed : Listing [] (replicate 1024 0) 0
-nothing-listed = record { ends = refl; entries = replicate-table 0 1024 }
-
-visits-alone : (vs : List Visit) {near : List ℕ} {end : ℕ} → length vs ≤ 1024 → Listing (busesOf vs) near end → listFrom near 0 end ≡ map forget vs
-unfolding listFrom
-visits-alone vs {near} {end} few w =
-    let count : min end 1024 - 0 ≡ length vs = omega (arith, w .ends, length-map vs (λ v. v .bus)) in
-    rw (count, w .entries)
-    (sym (as-table _ (length vs) (startAt 0) (map forget vs) (length-map vs forget)
-    (λ i k.
-    let here : 0 + i ≡ i = omega arith in
-    List·getD-map forget vs i (startAt 0) ∙ rw here (ap (λ b. visit b 0) (sym (getD-table _ 1024 i 0 (omega arith) ∙ List·getD-map (λ v. v .bus) vs i (startAt 0)))))))
-
-row-alone : (far : List ℕ) (live : List Bool) (next : List ℕ) (first : ℕ) {near : List ℕ} {end : ℕ} → Listing (busesOf (leads far live (rowFrom next 1024 first))) near end
-    → listFrom near 0 end ≡ map forget (leads far live (rowFrom next 1024 first))
-row-alone far live next first w =
-    visits-alone (leads far live (rowFrom next 1024 first)) (omega (arith, leads-short far live (rowFrom next 1024 first), row-short next 1024 first)) w
-
--- ---- the neighbours of a bus
-module _ (listed : ℕ) (at near far first next : List ℕ) (live : List Bool) (u x : ℕ) (same : x ≡ u) where
-  pub from-list : x < listed → listFrom near (getD at x 0) (getD at (x + 1) 0) ≡ listedOr listed at near far first next live u
-  unfolding listedOr
-  from-list l =
-      let b : ltb u listed ≡ true = lt-ltb u listed (omega arith) in
-      rw (b, same)
-
-  pub off-row : listed ≤ x → {row : List ℕ} {end : ℕ} → Listing (busesOf (leads far live (rowFrom next 1024 (getD first x 0)))) row end
-      → listFrom row 0 end ≡ listedOr listed at near far first next live u
-  unfolding listedOr rowLeads
-  off-row l w =
-      let b : ltb u listed ≡ false = le-ltb u listed (omega arith) in
-      rw (b, ← same) (row-alone far live next (getD first x 0) w)
+    all-rowed n e = rw (r .begins, r .listing .entries, e)
 
 -- ---- a list entered
 enter-last : (barred : ℕ) (l o : List Visit) (v : Visit) → enterAll barred o (l ++ (v ∷ [])) ≡ enter barred (enterAll barred o l) v
@@ -204,7 +140,7 @@ module _ (near : List ℕ) (first last barred : ℕ) (seen₀ : List Bool) (bus�
   -- the buses from position first to before position i are entered
   pub record ListEntering (seen : List Bool) (bus : List ℕ) (n i : ℕ) : Type 0 where
     pub from : first ≤ i
-    pub within : i - first ≤ min last 1024 - first
+    pub within : i - first ≤ last - first
     pub done : (o : List Visit) → Reaching barred o seen₀ bus₀ n₀ → Reaching barred (enterAll barred o (table (λ j. visit (getD near (first + j) 0) 0) (i - first))) seen bus n
 
   pub none-entered : ListEntering seen₀ bus₀ n₀ first
@@ -214,29 +150,26 @@ module _ (near : List ℕ) (first last barred : ℕ) (seen₀ : List Bool) (bus�
       record { from = omega arith; within = omega arith; done = λ o w. rw none w }
 
   module _ {seen : List Bool} {bus : List ℕ} {n i : ℕ} (e : ListEntering seen bus n i) where
-    pub one-entered : {seen′ : List Bool} {bus′ : List ℕ} {n′ : ℕ} (at : ℕ) → at ≡ i → i < last → i < 1024
-        → ((o : List Visit) → Reaching barred o seen bus n → Reaching barred (enter barred o (visit (getD near at 0) 0)) seen′ bus′ n′)
+    pub one-entered : {seen′ : List Bool} {bus′ : List ℕ} {n′ : ℕ} → i < last
+        → ((o : List Visit) → Reaching barred o seen bus n → Reaching barred (enter barred o (visit (getD near i 0) 0)) seen′ bus′ n′)
         → ListEntering seen′ bus′ n′ (i + 1)
-    one-entered at a l k step =
+    one-entered l step =
         let f = e .from in
         let w = e .within in
         let more : i + 1 - first ≡ i - first + 1 = omega arith in
         let here : first + (i - first) ≡ i = omega arith in
-        let step′ = rw a at step in
         record {
           from = omega arith;
           within = omega arith;
-          done = λ o w. rw (more, table-more _ (i - first), enter-last, here) (step′ _ (e .done o w));
+          done = λ o w. rw (more, table-more _ (i - first), enter-last, here) (step _ (e .done o w));
         }
 
-    pub all-entered : (last ≤ i) ⊎ (1024 ≤ i) → (o : List Visit) → Reaching barred o seen₀ bus₀ n₀ → Reaching barred (enterAll barred o (listFrom near first last)) seen bus n
-    unfolding listFrom
-    all-entered h o w =
+    -- all of bus u's list
+    pub all-entered : (at : List ℕ) (u x : ℕ) → x ≡ u → first ≡ getD at x 0 → (end : ℕ) → end ≡ getD at (x + 1) 0 → last ≡ min end 1024 → last ≤ i
+        → (o : List Visit) → Reaching barred o seen₀ bus₀ n₀ → Reaching barred (enterAll barred o (listed at near u)) seen bus n
+    unfolding listed listFrom
+    all-entered at u x s a end b c h o w =
         let f = e .from in
         let l = e .within in
-        let end : min last 1024 - first ≡ i - first = reach h f l in
-        rw end (e .done o w)
-      where
-        reach : (last ≤ i) ⊎ (1024 ≤ i) → first ≤ i → i - first ≤ min last 1024 - first → min last 1024 - first ≡ i - first
-        reach (inl a) f l = omega arith
-        reach (inr a) f l = omega arith
+        let end : min (getD at (x + 1) 0) 1024 - getD at x 0 ≡ i - first = omega arith in
+        rw (← s, end, ← a) (e .done o w)

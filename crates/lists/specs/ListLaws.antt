@@ -1,21 +1,20 @@
--- A walk by lists reaches the buses that a walk by the rows does, in the same order: for any rows.
+-- A walk by lists that have room reaches the buses that a walk by the rows does, in the same order.
 use mathlib.Core.Path.{_≡_, refl, sym, ap, _∙_}
 use mathlib.Core.Bool.{Bool, true, false, cond, _||_}
 use mathlib.Core.List.{List, [], _∷_, _++_, map, map-append, append-nil, append-assoc}
 use Prim.Native.Nat.{ℕ, zero, suc, _+_, _-_, _<_, _≤_, min}
 use native.Mathlib.Decide.{ℕ-discrete}
 use native.Mathlib.Omega.{arith}
-use lib.Dec.{eqb, leb, ltb}
+use lib.Dec.{eqb, ltb}
 use lib.ListN.{length, getD, length-append, length-map, List·getD-append, List·getD-map}
 use lib.Seq.{getD-append-add}
-use borrow.Author.Tests.{lt-ltb, ltb-true, leb-true}
-use Rattle.numbers.specs.UpTo.{upTo, upTo-more, upTo-cong}
+use borrow.Author.Tests.{lt-ltb}
+use Rattle.numbers.specs.UpTo.{upTo, upTo-more}
 use Rattle.numbers.specs.TableLaws.{getD-table, table-cong, as-table, filled}
 use Rattle.graph.specs.Walk.{Visit, startAt, reached, enter, enterAll, turn, walkBy}
 use Rattle.graph.specs.Visits.{visit, busesOf}
-use Rattle.graph.specs.Rows.{rowLeads}
-use Rattle.lists.specs.declared.lists.LiveLists.{LiveLists}
-use Rattle.lists.specs.Lists.{listsTo, startOf, listsOf, liveLists, forget, listFrom, listedOr}
+use Rattle.graph.specs.RowsWalk.{Small, same-walk}
+use Rattle.lists.specs.Lists.{listsTo, startOf, listsOf, forget, listFrom, listed}
 
 -- ---- a walk without its branches is the walk by neighbours without their branches
 module _ (barred : ℕ) where
@@ -113,42 +112,23 @@ module _ (next : ℕ → List Visit) (n : ℕ) (few : n ≤ 256) (room : length 
       ∙ List·getD-append (row u) (s .0) 0 i inside
       ∙ List·getD-map (λ (v : Visit). v .bus) (next u) i (startAt 0)
 
-  list-read : listFrom (listsOf row n .near) (getD (listsOf row n .at) u 0) (getD (listsOf row n .at) (u + 1) 0) ≡ map forget (next u)
-  unfolding listFrom
+  pub list-read : listed (listsOf row n .at) (listsOf row n .near) u ≡ map forget (next u)
+  unfolding listed listFrom
   list-read =
       let count : min (before + length (next u)) 1024 - before ≡ length (next u) = omega (arith, size) in
       rw (begins, ends, count)
       (table-cong _ _ (length (next u)) (λ i k. ap (λ b. visit b 0) (entry i k))
       ∙ sym (as-table (λ i. forget (getD (next u) i (startAt 0))) (length (next u)) (startAt 0) (map forget (next u)) (length-map (next u) forget) (λ i k. List·getD-map forget (next u) i (startAt 0))))
 
--- ---- the lists of rows
-module _ (far first next : List ℕ) (live : List Bool) (n : ℕ) (few : n ≤ 256) where
-  abbrev lists : LiveLists
-  lists = liveLists far first next live n
+-- ---- the walk
+small-forget : (size : ℕ) (o : List Visit) → Small size o → Small size (map forget o)
+small-forget size [] s = tt
+small-forget size (v ∷ o) s = (s .0, small-forget size o (s .1))
 
-  -- a bus is listed only where all lists have room
-  listed-room : (u : ℕ) → u < lists .listed → (u < n) × (length (listsTo (λ x. busesOf (rowLeads far first next live x)) n) ≤ 1024)
-  unfolding liveLists listsOf
-  listed-room u = go (leb (length (listsTo (λ x. busesOf (rowLeads far first next live x)) n)) 1024) refl
-    where
-      go : (b : Bool) → leb (length (listsTo (λ x. busesOf (rowLeads far first next live x)) n)) 1024 ≡ b → u < cond b n 0
-          → (u < n) × (length (listsTo (λ x. busesOf (rowLeads far first next live x)) n) ≤ 1024)
-      go true e l = (l, leb-true _ 1024 e)
-      go false e l = absurd (omega arith)
-
-  same-neighbours : (u : ℕ) → listedOr (lists .listed) (lists .at) (lists .near) far first next live u ≡ map forget (rowLeads far first next live u)
-  unfolding listedOr liveLists
-  same-neighbours u = go (ltb u (lists .listed)) refl
-    where
-      go : (b : Bool) → ltb u (lists .listed) ≡ b
-          → cond b (listFrom (lists .near) (getD (lists .at) u 0) (getD (lists .at) (u + 1) 0)) (map forget (rowLeads far first next live u)) ≡ map forget (rowLeads far first next live u)
-      go true e = let r = listed-room u (ltb-true u (lists .listed) e) in list-read (rowLeads far first next live) n few (r .1) u (r .0)
-      go false e = refl
-
-  pub list-walk : (start barred : ℕ)
-      → walkBy (listedOr (lists .listed) (lists .at) (lists .near) far first next live) start barred ≡ map forget (walkBy (rowLeads far first next live) start barred)
-  unfolding walkBy turn
-  list-walk start barred =
-      upTo-cong (turn (listedOr (lists .listed) (lists .at) (lists .near) far first next live) barred) (turn (λ u. map forget (rowLeads far first next live u)) barred) (startAt start ∷ []) 256
-      (λ o h l. rw (same-neighbours (getD o h (startAt 0) .bus)))
-      ∙ sym (walk-forget barred (rowLeads far first next live) start)
+-- by the lists of n buses that have room and stay among themselves
+pub list-walk : (next : ℕ → List Visit) (n : ℕ) → n ≤ 256 → length (listsTo (λ u. busesOf (next u)) n) ≤ 1024 → ((u : ℕ) → u < n → Small n (next u))
+    → (start barred : ℕ) → start < n
+    → walkBy (listed (listsOf (λ u. busesOf (next u)) n .at) (listsOf (λ u. busesOf (next u)) n .near)) start barred ≡ map forget (walkBy next start barred)
+list-walk next n few room small start barred l =
+    same-walk n _ (λ u. map forget (next u)) (λ u k. list-read next n few room u k) (λ u k. small-forget n (next u) (small u k)) start barred l
+    ∙ sym (walk-forget barred next start)

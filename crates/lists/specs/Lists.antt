@@ -1,10 +1,9 @@
 -- The neighbours of each bus by live branches, one list behind the other in one array, as the code has them.
--- ListLaws shows that a walk by these lists reaches the buses that a walk by the rows does.
+-- GraphLists shows that those of every graph of `Graph::new` have room, and that a walk by them reaches the buses of document 01's walk.
 use mathlib.Core.Path.{_≡_}
 use mathlib.Core.Bool.{Bool, cond}
 use mathlib.Core.List.{List, [], _∷_, _++_, map}
 use Prim.Native.Nat.{ℕ, _+_, _-_, min}
-use lib.Dec.{leb, ltb}
 use lib.Ieee.{Float, binary64, nan, add}
 use lib.ListN.{length, getD}
 use Rattle.numbers.specs.Constants.{zero64}
@@ -24,18 +23,13 @@ listsTo near n = upTo (λ l u. l ++ near u) [] n
 abbrev pub arrayOf : List ℕ → List ℕ
 arrayOf l = table (λ i. getD l i 0) 1024
 
--- where the list of bus u begins; 1,025 where there is no room
+-- where the list of bus u begins; 1,024 where there is no room for it
 unfoldable pub startOf : (ℕ → List ℕ) → ℕ → ℕ
-startOf near u = min (length (listsTo near u)) 1025
+startOf near u = min (length (listsTo near u)) 1024
 
--- the lists of n buses. The list of bus u ends where that of bus u + 1 begins. Without room for all of them none counts as listed
+-- the lists of n buses, as far as 1,024 entries have room for them. The list of bus u ends where that of bus u + 1 begins
 unfoldable pub listsOf : (ℕ → List ℕ) → ℕ → LiveLists
-listsOf near n =
-    record {
-      listed = cond (leb (length (listsTo near n)) 1024) n 0;
-      at = tables.filled (startOf near) 0 257 (n + 1);
-      near = arrayOf (listsTo near n);
-    }
+listsOf near n = record { at = tables.filled (startOf near) 0 257 (n + 1); near = arrayOf (listsTo near n) }
 
 -- the lists of n buses, read off their rows
 unfoldable pub liveLists : List ℕ → List ℕ → List ℕ → List Bool → ℕ → LiveLists
@@ -49,12 +43,11 @@ forget v = visit (v .bus) 0
 unfoldable pub listFrom : List ℕ → ℕ → ℕ → List Visit
 listFrom near a b = table (λ i. visit (getD near (a + i) 0) 0) (min b 1024 - a)
 
--- the neighbours of bus u: from its list, and off its row if it is not listed
-unfoldable pub listedOr : ℕ → List ℕ → List ℕ → List ℕ → List ℕ → List ℕ → List Bool → ℕ → List Visit
-listedOr listed at near far first next live u =
-    cond (ltb u listed) (listFrom near (getD at u 0) (getD at (u + 1) 0)) (map forget (rowLeads far first next live u))
+-- the list of bus u
+unfoldable pub listed : List ℕ → List ℕ → ℕ → List Visit
+listed at near u = listFrom near (getD at u 0) (getD at (u + 1) 0)
 
--- the loads at the buses of these visits, in megawatts by bus position, added in their order from 0.0; a position behind the array has none
+-- the loads at the buses of these visits, in megawatts by bus position, added in their order from 0.0. NaN is what a lent array reads as behind its end, where no bus is
 unfoldable pub busLoad : List Float → List Visit → Float
 busLoad mw o = upTo (λ t i. add binary64 t (getD mw (getD o i (startAt 0) .bus) nan)) zero64 (length o)
 
@@ -64,7 +57,7 @@ listLive live l x = cond live (l ++ (x ∷ [])) l
 
 -- what the array holds in the middle of the listing
 pub record Listing (l near : List ℕ) (end : ℕ) : Type 0 where
-  pub ends : end ≡ min (length l) 1025
+  pub ends : end ≡ min (length l) 1024
   pub entries : near ≡ arrayOf l
 
 -- what the arrays hold in the middle of a walk: no array has the branches

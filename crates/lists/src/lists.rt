@@ -6,19 +6,18 @@ ghost use Prim.Native.Nat.{ℕ, min};
 ghost use Rattle.graph.specs.Walk.{Visit, walkBy, enter, enterAll};
 ghost use Rattle.graph.specs.Rows.{rowFrom, leads};
 ghost use Rattle.graph.specs.Visits.{visit, busesOf};
-ghost use Rattle.lists.specs.Lists.{Listing, Reaching, listLive, listFrom, listedOr, liveLists, busLoad};
+ghost use Rattle.lists.specs.Lists.{Listing, Reaching, listLive, liveLists, listed, busLoad};
 use numbers::at_most;
 use numbers::wide8;
 use numbers::wide16;
 
-// The list of bus u is near from at[u] to at[u + 1], for u below listed.
+// The list of bus u is near from at[u] to at[u + 1].
 pub struct LiveLists {
-    pub listed: usize,
     pub at: [u16; 257],
     pub near: [u8; 1024],
 }
 
-// Bus x is put behind those listed, by a live branch and where there is room. 1,025 says that there was none.
+// Bus x is put behind those listed, by a live branch and where there is room.
 fn put_behind(near: &mut [u8; 1024], end: u16, live: bool, x: u8) -> u16
     ensures { λ r. ⌜ ((l : List ℕ) → Listing l (now (near .entry)) end → Listing (listLive live l x) (now (near .exit)) r) ⌝ }
 {
@@ -26,7 +25,7 @@ fn put_behind(near: &mut [u8; 1024], end: u16, live: bool, x: u8) -> u16
         return end;
     }
     if 1024 <= end {
-        return 1025;
+        return end;
     }
     let at = wide16(end);
     near[at] = x;
@@ -61,7 +60,7 @@ fn list_row(
     end
 }
 
-// The lists of the buses, read off their rows. Without room for all of them none counts as listed; every graph that Graph::new made has room.
+// The lists of the buses, read off their rows. What is behind 1,024 entries has no room; every graph that Graph::new made has room for all.
 pub fn live_lists(
     far: &[u8; 1024],
     first: &[u16; 256],
@@ -81,18 +80,7 @@ pub fn live_lists(
         u += 1;
         at[u] = end;
     }
-    if 1024 < end {
-        return LiveLists {
-            listed: 0,
-            at,
-            near,
-        };
-    }
-    LiveLists {
-        listed: n,
-        at,
-        near,
-    }
+    LiveLists { at, near }
 }
 
 // Bus x is put behind those reached, unless it is marked: barred, or reached already.
@@ -111,41 +99,10 @@ fn enter(seen: &mut [bool; 256], bus: &mut [u8; 256], count: u16, x: u8) -> u16
     count + 1
 }
 
-// The buses from position first of near to before position last are entered.
-fn expand_list(
-    near: &[u8; 1024],
-    first: u16,
-    last: u16,
-    seen: &mut [bool; 256],
-    bus: &mut [u8; 256],
-    count: u16,
-) -> u16
-    requires { ⌜ ((barred : ℕ) × (o : List Visit) × Reaching barred o (now seen) (now bus) count) ⌝ }
-    ensures { λ r. ⌜ ((barred : ℕ) (o : List Visit) → Reaching barred o (now (seen .entry)) (now (bus .entry)) count
-        → Reaching barred (enterAll barred o (listFrom (now (near .entry)) first last)) (now (seen .exit)) (now (bus .exit)) r) ⌝ }
-{
-    let mut end = count;
-    let mut i = first;
-    while i < last {
-        if 1024 <= i {
-            return end;
-        }
-        let at = wide16(i);
-        end = enter(seen, bus, end, near[at]);
-        i += 1;
-    }
-    end
-}
-
-// The neighbours of bus u are entered, from its list. The row of a bus that is not listed is listed by itself.
+// The buses of bus u's list are entered.
 fn expand(
-    listed: usize,
     at: &[u16; 257],
     near: &[u8; 1024],
-    far: &[u8; 1024],
-    first: &[u16; 256],
-    next: &[u16; 1024],
-    live: &[bool; 512],
     u: u8,
     seen: &mut [bool; 256],
     bus: &mut [u8; 256],
@@ -153,33 +110,22 @@ fn expand(
 ) -> u16
     requires { ⌜ ((barred : ℕ) × (o : List Visit) × Reaching barred o (now seen) (now bus) count) ⌝ }
     ensures { λ r. ⌜ ((barred : ℕ) (o : List Visit) → Reaching barred o (now (seen .entry)) (now (bus .entry)) count
-        → Reaching barred (enterAll barred o (listedOr listed (now (at .entry)) (now (near .entry)) (now (far .entry)) (now (first .entry)) (now (next .entry)) (now (live .entry)) u))
-        (now (seen .exit)) (now (bus .exit)) r) ⌝ }
+        → Reaching barred (enterAll barred o (listed (now (at .entry)) (now (near .entry)) u)) (now (seen .exit)) (now (bus .exit)) r) ⌝ }
 {
     let x = wide8(u);
-    if x < listed {
-        return expand_list(near, at[x], at[x + 1], seen, bus, count);
+    let last = at_most(wide16(at[x + 1]), 1024);
+    let mut end = count;
+    let mut i = wide16(at[x]);
+    while i < last {
+        end = enter(seen, bus, end, near[i]);
+        i += 1;
     }
-    let mut row = [0u8; 1024];
-    let end = list_row(far, next, live, first[x], &mut row, 0);
-    expand_list(&row, 0, end, seen, bus, count)
+    end
 }
 
-// The load of the buses that a walk from start reaches without entering the barred one, added in the walk's order: each as its neighbours are entered.
-pub fn walk_load(
-    listed: usize,
-    at: &[u16; 257],
-    near: &[u8; 1024],
-    far: &[u8; 1024],
-    first: &[u16; 256],
-    next: &[u16; 1024],
-    live: &[bool; 512],
-    mw: &[f64; 256],
-    start: u8,
-    barred: u8,
-) -> f64
-    ensures { λ r. ⌜ r ≡ busLoad (now (mw .entry))
-        (walkBy (listedOr listed (now (at .entry)) (now (near .entry)) (now (far .entry)) (now (first .entry)) (now (next .entry)) (now (live .entry))) start barred) ⌝ }
+// The load of the buses that a walk by the lists reaches from start without entering the barred bus, added in the walk's order: each as its neighbours are entered.
+pub fn walk_load(at: &[u16; 257], near: &[u8; 1024], mw: &[f64; 256], start: u8, barred: u8) -> f64
+    ensures { λ r. ⌜ r ≡ busLoad (now (mw .entry)) (walkBy (listed (now (at .entry)) (now (near .entry))) start barred) ⌝ }
 {
     let mut seen = [false; 256];
     let mut bus = [0u8; 256];
@@ -196,19 +142,7 @@ pub fn walk_load(
         let u = bus[turn];
         let x = wide8(u);
         total = total + mw[x];
-        count = expand(
-            listed,
-            at,
-            near,
-            far,
-            first,
-            next,
-            live,
-            u,
-            &mut seen,
-            &mut bus,
-            count,
-        );
+        count = expand(at, near, u, &mut seen, &mut bus, count);
         head += 1;
     }
     total

@@ -5,7 +5,7 @@ pub mod TermLaws
 pub mod LossLaws
 pub mod PercentLaws
 pub mod Accepted
-pub mod RowLoss
+pub mod ListLoss
 pub mod LossSame
-pub mod RowLossLaws
+pub mod ListLossLaws
 pub mod FeederLoss

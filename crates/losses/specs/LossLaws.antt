@@ -56,7 +56,7 @@ module _
     unfolding totalOf
     total-holds m l = upTo-keeps Total _ zero64 m total-starts (λ k t h w. one-branch k t (E k) (omega arith) w .0)
 
-    -- S_m ≤ S_(m + 1)
+    -- a branch more never makes the total less
     pub total-never-falls : (m : ℕ) → m < n → T (le (totalOf E r load base m) (totalOf E r load base (suc m)))
     unfolding totalOf upTo
     total-never-falls m l = one-branch m (totalOf E r load base m) (E m) l (total-holds m (omega arith)) .1

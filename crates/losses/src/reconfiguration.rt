@@ -1,13 +1,12 @@
 // Translated and changed from src/network/reconfiguration.rs of oxigrid. Copyright 2024-2026 COOLJAPAN OU (Team Kitasan), Apache License 2.0.
 ghost use mathlib.Core.Path.{_≡_};
-ghost use Prim.Native.Nat.{ℕ, _≤_, _<_};
-ghost use Rattle.graph.specs.Rows.{rowLeads};
+ghost use Prim.Native.Nat.{_≤_};
 ghost use Rattle.graph.specs.Walk.{walkBy};
-ghost use Rattle.lists.specs.declared.lists.LiveLists.{LiveLists};
-ghost use Rattle.lists.specs.Lists.{liveLists};
-ghost use Rattle.losses.specs.Loss.{termOf, walkLoad};
-ghost use Rattle.losses.specs.RowLoss.{powers, loadAt, loadBehind, rowLoss};
+ghost use Rattle.lists.specs.Lists.{listed, busLoad};
+ghost use Rattle.losses.specs.Loss.{termOf};
+ghost use Rattle.losses.specs.ListLoss.{megawattsOf, listTotal, listLoss};
 use graph::rows::Graph;
+use lists::lists::LiveLists;
 use lists::lists::live_lists;
 use lists::lists::walk_load;
 use network::branch::Branch;
@@ -17,7 +16,7 @@ use numbers::wide16;
 
 // The loads as plain numbers: an array of these can be lent.
 fn megawatts(loads: [Power; 256]) -> [f64; 256]
-    ensures { λ r. ⌜ powers r ≡ loads ⌝ }
+    ensures { λ r. ⌜ r ≡ megawattsOf loads ⌝ }
 {
     let mut mw = [0.0; 256];
     let mut i = 0usize;
@@ -28,28 +27,17 @@ fn megawatts(loads: [Power; 256]) -> [f64; 256]
     mw
 }
 
-// The load downstream of a branch: of the buses that a walk reaches from its to bus without entering its from bus. Lists, rows and loads are lent: no walk
-// copies them.
+// The load downstream of a branch: of the buses that a walk reaches from its to bus without entering its from bus. Lists and loads are lent: no walk copies them.
 fn downstream_load_mw<'a>(
-    listed: usize,
     at: &'a [u16; 257],
     near: &'a [u8; 1024],
-    far: &[u8; 1024],
-    first: &[u16; 256],
-    next: &[u16; 1024],
-    live: &[bool; 512],
     mw: &[f64; 256],
     to: u8,
     from: u8,
 ) -> Power
-    requires { ⌜ ((n : ℕ) × (n ≤ 256)
-        × (_≡_ {A = LiveLists} (record { listed = listed; at = now at; near = now near }) (liveLists (now far) (now first) (now next) (now live) n))) ⌝ }
-    ensures { λ r. ⌜ r ≡ record {
-      0 = walkLoad (loadAt (powers (now (mw .entry))))
-          (walkBy (rowLeads (now (far .entry)) (now (first .entry)) (now (next .entry)) (now (live .entry))) to from);
-    } ⌝ }
+    ensures { λ r. ⌜ r ≡ record { 0 = busLoad (now (mw .entry)) (walkBy (listed (now (at .entry)) (now (near .entry))) to from) } ⌝ }
 {
-    Power(walk_load(listed, at, near, far, first, next, live, mw, to, from))
+    Power(walk_load(at, near, mw, to, from))
 }
 
 // The loss in a live branch, in megawatts, of the load behind it. Dividing by base_mva makes the load per unit.
@@ -60,29 +48,31 @@ fn branch_term(branch: Branch, load: Power, base_mva: f64) -> f64
     branch.r * p * p * base_mva
 }
 
-// The loss in live branch k.
-fn branch_loss<'a>(
-    listed: usize,
-    at: &'a [u16; 257],
-    near: &'a [u8; 1024],
+// The loss in the live ones among the first n branches, by rising position.
+fn total_loss(
+    lists: LiveLists,
     far: &[u8; 1024],
-    first: &[u16; 256],
-    next: &[u16; 1024],
-    live: &[bool; 512],
     mw: &[f64; 256],
-    branch: Branch,
+    live: &[bool; 512],
+    branches: [Branch; 512],
     base_mva: f64,
-    k: usize,
+    n: usize,
 ) -> f64
-    requires { ⌜ (k < 512) × ((n : ℕ) × (n ≤ 256)
-        × (_≡_ {A = LiveLists} (record { listed = listed; at = now at; near = now near }) (liveLists (now far) (now first) (now next) (now live) n))) ⌝ }
-    ensures { λ r. ⌜ r ≡ termOf (branch .r)
-        (loadBehind (now (far .entry)) (now (first .entry)) (now (next .entry)) (now (live .entry)) (powers (now (mw .entry))) k) «base_mva» ⌝ }
+    requires { ⌜ n ≤ 512 ⌝ }
+    ensures { λ r. ⌜ r ≡ listTotal lists (now (far .entry)) (now (mw .entry)) (now (live .entry)) branches «base_mva» n ⌝ }
 {
-    let to = far[2 * k];
-    let from = far[2 * k + 1];
-    let load = downstream_load_mw(listed, at, near, far, first, next, live, mw, to, from);
-    branch_term(branch, load, base_mva)
+    let mut total = 0.0;
+    let mut k = 0usize;
+    while k < n {
+        if live[k] {
+            let to = far[2 * k];
+            let from = far[2 * k + 1];
+            let load = downstream_load_mw(&lists.at, &lists.near, mw, to, from);
+            total = total + branch_term(branches[k], load, base_mva);
+        }
+        k += 1;
+    }
+    total
 }
 
 // The loss of a state, in megawatts: live branches by rising position. The neighbours by live branches are listed once, and each walk reads the lists.
@@ -93,7 +83,7 @@ pub fn compute_losses_estimate(
     base_mva: f64,
     live: [bool; 512],
 ) -> f64
-    ensures { λ r. ⌜ r ≡ rowLoss graph loads branches «base_mva» live ⌝ }
+    ensures { λ r. ⌜ r ≡ listLoss graph loads branches «base_mva» live ⌝ }
 {
     if graph.bus_count == 0 {
         return 0.0;
@@ -104,26 +94,5 @@ pub fn compute_losses_estimate(
     let next = graph.next;
     let lists = live_lists(&far, &first, &next, &live, graph.bus_count);
     let mw = megawatts(loads);
-    let mut total = 0.0;
-    let mut k = 0usize;
-    while k < n {
-        if live[k] {
-            total = total
-                + branch_loss(
-                    lists.listed,
-                    &lists.at,
-                    &lists.near,
-                    &far,
-                    &first,
-                    &next,
-                    &live,
-                    &mw,
-                    branches[k],
-                    base_mva,
-                    k,
-                );
-        }
-        k += 1;
-    }
-    total
+    total_loss(lists, &far, &mw, &live, branches, base_mva, n)
 }

@@ -13,7 +13,7 @@ use Rattle.network.specs.Records.{recordsOf}
 use Rattle.graph.specs.declared.rows.Graph.{Graph}
 use Rattle.radiality.specs.FeederRows.{feederGraph}
 use Rattle.losses.specs.Loss.{lossIn}
-use Rattle.losses.specs.RowLoss.{loadsOf}
+use Rattle.losses.specs.ListLoss.{loadsOf}
 use Rattle.searches.specs.States.{stateOf}
 
 abbrev pub Given : PowerNetwork → Graph → List Power → Type 0

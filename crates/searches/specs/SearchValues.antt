@@ -11,7 +11,7 @@ use Rattle.graph.specs.Rows.{rowRadial}
 use Rattle.printing.specs.Calls.{Call}
 use Rattle.slices.specs.Written.{written}
 use Rattle.radiality.specs.FeederRows.{feederGraph, liveFlags}
-use Rattle.losses.specs.RowLoss.{rowLoss, loadsOf}
+use Rattle.losses.specs.ListLoss.{listLoss, loadsOf}
 use Rattle.searches.specs.declared.answer.Found.{Found}
 use Rattle.searches.specs.declared.start.Start.{Start}
 use Rattle.searches.specs.Results.{Best, Result, reduction}
@@ -27,7 +27,7 @@ startOf n =
       base = base;
       live = flags;
       radial = rowRadial (feederGraph n) flags;
-      loss = rowLoss (feederGraph n) (loadsOf n) (n .branches) (n .«base_mva») flags;
+      loss = listLoss (feederGraph n) (loadsOf n) (n .branches) (n .«base_mva») flags;
     }
 
 unfoldable pub foundOf : Best → Found

@@ -15,7 +15,7 @@ use Rattle.graph.specs.Rows.{rowRadial}
 use Rattle.radiality.specs.FeederRows.{feederGraph, liveFlags}
 use Rattle.radiality.specs.FeederRowLaws.{live-row-radial}
 use Rattle.losses.specs.Loss.{lossIn}
-use Rattle.losses.specs.RowLoss.{rowLoss, loadsOf}
+use Rattle.losses.specs.ListLoss.{listLoss, loadsOf}
 use Rattle.losses.specs.FeederLoss.{feeder-loss}
 use Rattle.states.specs.Switches.{State}
 
@@ -24,5 +24,5 @@ module _ (n : PowerNetwork) (sized : length (n .buses) ≡ 256) (ok : checkRecor
   pub flags-radial : (r : Bool) → r ≡ rowRadial g flags → r ≡ radialIn (recordsOf n) s
   flags-radial r e = e ∙ rw (a, b) (live-row-radial n sized ok s)
 
-  pub flags-loss : (loads : List Power) (r : Float) → loads ≡ loadsOf n → r ≡ rowLoss g loads (n .branches) (n .«base_mva») flags → r ≡ lossIn (recordsOf n) s
+  pub flags-loss : (loads : List Power) (r : Float) → loads ≡ loadsOf n → r ≡ listLoss g loads (n .branches) (n .«base_mva») flags → r ≡ lossIn (recordsOf n) s
   flags-loss loads r l e = e ∙ feeder-loss n sized ok s g loads flags a l b

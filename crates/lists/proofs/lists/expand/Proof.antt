@@ -1,68 +1,101 @@
--- `expand` meets its contract: the neighbours of a listed bus are its list, those of another its row.
-use mathlib.Core.List.{[]}
-use borrow.Author.Needs.{needs}
-use Rattle.lists.proofs.Listing.{nothing-listed, from-list, off-row}
+-- `expand` meets its contract. The invariant: the buses of the list so far are entered; the step is `one-entered`.
+use Prim.Native.Nat.{ℕ, _-_, _≤_}
+use native.Mathlib.Omega.{arith}
+use Rattle.lists.proofs.Listing.{ListEntering, none-entered, one-entered, all-entered}
 use Rattle.lists.proofs.lists.expand.Statement.{statement}
 use Rattle.lists.proofs.lists.expand.Tie as tie
 
-wide8-requires : tie.Need-wide8-requires
-wide8-requires c κs = search needs
+abbrev Inv-loop : tie.InvT-loop
+Inv-loop at near u seen₀ bus₀ count x last end₀ first seen bus end i = (barred : ℕ) → ListEntering near first last barred seen₀ bus₀ count seen bus end i
 
-mul-expand-list : tie.Need-mul-expand-list
-mul-expand-list c = search needs
+abbrev μ-loop : tie.MeasureT-loop
+μ-loop at near u seen₀ bus₀ count x last end₀ first seen bus end i = last - i
 
-element-copy-out-expand-list : tie.Need-element-copy-out-expand-list
-element-copy-out-expand-list c = search needs
+wide8-requires : tie.Need-wide8-requires Inv-loop μ-loop
+wide8-requires c κs = tt
 
-add-expand-list : tie.Need-add-expand-list
-add-expand-list c = search needs
+add-wide16 : tie.Need-add-wide16 Inv-loop μ-loop
+add-wide16 c = omega (arith, c .wide8 .ensures .1)
 
-mul-expand-list-2 : tie.Need-mul-expand-list-2
-mul-expand-list-2 c = search needs
+mul-wide16 : tie.Need-mul-wide16 Inv-loop μ-loop
+mul-wide16 c = omega (arith, c .wide8 .ensures .1)
 
-element-copy-out-expand-list-2 : tie.Need-element-copy-out-expand-list-2
-element-copy-out-expand-list-2 c = search needs
+element-copy-out-wide16 : tie.Need-element-copy-out-wide16 Inv-loop μ-loop
+element-copy-out-wide16 c = omega (arith, c .wide8 .ensures .1)
 
-expand-list-requires : tie.Need-expand-list-requires
-expand-list-requires c κs = c .before .before .before .before .before .before .pre
+wide16-requires : tie.Need-wide16-requires Inv-loop μ-loop
+wide16-requires c κs = tt
 
-returns : tie.Need-returns
-returns c barred o w =
-    let f = c .before .before .before .before .before in
-    rw (← from-list _ _ _ _ _ _ _ _ _ (f .before .wide8 .ensures .0) (f .if1 .taken)) (c .expand-list .ensures barred o w)
+at-most-requires : tie.Need-at-most-requires Inv-loop μ-loop
+at-most-requires c κs = tt
 
-mul-list-row : tie.Need-mul-list-row
-mul-list-row c = search needs
+mul-wide16-2 : tie.Need-mul-wide16-2 Inv-loop μ-loop
+mul-wide16-2 c = omega (arith, c .before .before .before .wide8 .ensures .1)
 
-element-copy-out-list-row : tie.Need-element-copy-out-list-row
-element-copy-out-list-row c = search needs
+element-copy-out-wide16-2 : tie.Need-element-copy-out-wide16-2 Inv-loop μ-loop
+element-copy-out-wide16-2 c = omega (arith, c .before .before .before .wide8 .ensures .1)
 
-list-row-requires : tie.Need-list-row-requires
-list-row-requires c κs = search needs
+wide16-requires-2 : tie.Need-wide16-requires-2 Inv-loop μ-loop
+wide16-requires-2 c κs = tt
 
-expand-list-requires-2 : tie.Need-expand-list-requires-2
-expand-list-requires-2 c κs = c .before .before .before .before .before .before .before .before .pre
+loop-holds : tie.Need-loop-holds Inv-loop μ-loop
+loop-holds c barred = none-entered _ _ _ barred _ _ _
 
-returns-2 : tie.Need-returns-2
-returns-2 c barred o w =
-    let row = c .before .before .before .before in
-    let f = row .before .before .before in
-    rw (← off-row _ _ _ _ _ _ _ _ _ (f .before .wide8 .ensures .0) (f .if1 .left) (row .list-row .ensures [] nothing-listed)) (c .expand-list2 .ensures barred o w)
+-- where the list's end is known
+abbrev ended : tie.At-loop Inv-loop μ-loop → tie.After-at-most Inv-loop μ-loop
+ended c = c .before .before .before
+
+-- it is 1,024 at most
+in-range : (c : tie.At-loop Inv-loop μ-loop) → ended c .at-most .result ≤ 1024
+in-range c = omega (arith, ended c .at-most .ensures)
+
+element-copy-out-enter : tie.Need-element-copy-out-enter Inv-loop μ-loop
+element-copy-out-enter c = let loop = c .before .before .before in omega (arith, in-range loop)
+
+enter-requires : tie.Need-enter-requires Inv-loop μ-loop
+enter-requires c κs =
+    let loop = c .before .before .before .before in
+    let s = ended loop .before .before .before .before .pre in
+    (s .0, _, loop .loop .inv (s .0) .done (s .1) (s .2))
+
+add-i : tie.Need-add-i Inv-loop μ-loop
+add-i c = let loop = c .before .before .before .before .before in omega (arith, in-range loop)
+
+loop-less : tie.Need-loop-less Inv-loop μ-loop
+loop-less c = omega arith
+
+loop-again : tie.Need-loop-again Inv-loop μ-loop
+loop-again c barred =
+    let test = c .before .before .before .before in
+    one-entered _ _ _ barred _ _ _ (test .before .loop .inv barred) (test .loop-test .taken) (c .enter .ensures barred)
+
+returns : tie.Need-returns Inv-loop μ-loop
+returns c barred =
+    let loop = c .before in
+    let end = ended loop in
+    let long = end .before in
+    let x = long .before .before in
+    all-entered _ _ _ barred _ _ _ (loop .loop .inv barred) _ _ _ (x .wide8 .ensures .0) (loop .before .wide162 .ensures .0) _ (long .wide16 .ensures .0) (end .at-most .ensures) (c .loop-test .left)
 
 pub expand-spec : {M : Type 1} → statement M
 expand-spec =
     tie.close
     (tie.spec
+    Inv-loop
+    μ-loop
     wide8-requires
-    mul-expand-list
-    element-copy-out-expand-list
-    add-expand-list
-    mul-expand-list-2
-    element-copy-out-expand-list-2
-    expand-list-requires
-    returns
-    mul-list-row
-    element-copy-out-list-row
-    list-row-requires
-    expand-list-requires-2
-    returns-2)
+    add-wide16
+    mul-wide16
+    element-copy-out-wide16
+    wide16-requires
+    at-most-requires
+    mul-wide16-2
+    element-copy-out-wide16-2
+    wide16-requires-2
+    loop-holds
+    element-copy-out-enter
+    enter-requires
+    add-i
+    loop-less
+    loop-again
+    returns)

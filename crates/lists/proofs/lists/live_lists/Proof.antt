@@ -2,7 +2,7 @@
 use mathlib.Core.Path.{_≡_, ap, _∙_}
 use Prim.Native.Nat.{ℕ, _≤_, _-_, min}
 use native.Mathlib.Omega.{arith}
-use Rattle.lists.proofs.Listing.{Rowing, none-rowed, one-rowed, all-rowed, some-left-out}
+use Rattle.lists.proofs.Listing.{Rowing, none-rowed, one-rowed, all-rowed}
 use Rattle.lists.proofs.lists.live_lists.Statement.{statement}
 use Rattle.lists.proofs.lists.live_lists.Tie as tie
 
@@ -59,13 +59,7 @@ all-done c =
     omega (arith, loop .loop .inv .0, c .loop-test .left) ∙ count .at-most .ensures ∙ ap (λ (k : ℕ). min k 256) (count .before .wide16 .ensures .0)
 
 returns : tie.Need-returns Inv-loop μ-loop
-returns c = some-left-out _ _ _ _ (c .before .before .loop .inv .1) _ (all-done (c .before)) (c .if1 .taken)
-
-returns-2 : tie.Need-returns-2 Inv-loop μ-loop
-returns-2 c =
-    let loop = c .before .before in
-    let n : loop .before .at-most .result ≡ min (loop .before .before .before .args .bus-count) 256 = loop .before .at-most .ensures ∙ ap (λ (k : ℕ). min k 256) (loop .before .before .wide16 .ensures .0) in
-    rw n (all-rowed _ _ _ _ (loop .loop .inv .1) _ (all-done (c .before)) (c .if1 .left))
+returns c = all-rowed _ _ _ _ (c .before .loop .inv .1) _ (all-done c)
 
 pub live-lists-spec : {M : Type 1} → statement M
 live-lists-spec =
@@ -84,5 +78,4 @@ live-lists-spec =
     array-write-at
     loop-less
     loop-again
-    returns
-    returns-2)
+    returns)

@@ -5,17 +5,17 @@ use Prim.Native.Nat.{ℕ, _-_, _≤_}
 use native.Mathlib.Omega.{arith}
 use lib.Dec.{lit<}
 use lib.ListN.{getD}
-use Rattle.lists.specs.Lists.{listedOr}
+use Rattle.lists.specs.Lists.{listed}
 use Rattle.lists.proofs.Reaches.{arrayLoad, load-none, load-more, Turned, none-turned-yet, reaching, few-reached, turned, same-load, buses-stay}
 use Rattle.lists.proofs.lists.walk_load.Statement.{statement}
 use Rattle.lists.proofs.lists.walk_load.Tie as tie
 
 abbrev Inv-loop : tie.InvT-loop
-Inv-loop listed at near far first next live mw start barred seen₀ bus₀ bar here total₀ count₀ head₀ seen bus total count head =
-    (head ≤ count) × Turned (listedOr listed at near far first next live) start barred seen bus count head × (total ≡ arrayLoad mw bus head)
+Inv-loop at near mw start barred seen₀ bus₀ bar here total₀ count₀ head₀ seen bus total count head =
+    (head ≤ count) × Turned (listed at near) start barred seen bus count head × (total ≡ arrayLoad mw bus head)
 
 abbrev μ-loop : tie.MeasureT-loop
-μ-loop listed at near far first next live mw start barred seen₀ bus₀ bar here total₀ count₀ head₀ seen bus total count head = 256 - head
+μ-loop at near mw start barred seen₀ bus₀ bar here total₀ count₀ head₀ seen bus total count head = 256 - head
 
 wide8-requires : tie.Need-wide8-requires Inv-loop μ-loop
 wide8-requires c κs = tt

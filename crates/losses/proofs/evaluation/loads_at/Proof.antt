@@ -7,7 +7,7 @@ use borrow.Author.Needs.{needs}
 use Rattle.numbers.specs.TableLaws.{replicate-table, filled, filled-none, filled-more, filled-all}
 use Rattle.network.specs.ReadLaws.{bus-read}
 use Rattle.network.specs.Records.{noBus}
-use Rattle.losses.specs.RowLoss.{noPower}
+use Rattle.losses.specs.ListLoss.{noPower}
 use Rattle.losses.proofs.evaluation.loads_at.Statement.{statement}
 use Rattle.losses.proofs.evaluation.loads_at.Tie as tie
 

@@ -6,8 +6,8 @@ use lib.ListN.{length, getD}
 use borrow.Author.Needs.{needs}
 use Rattle.numbers.specs.Constants.{zero64}
 use Rattle.numbers.specs.TableLaws.{replicate-table, filled, filled-none, filled-more, filled-all}
-use Rattle.losses.specs.RowLoss.{noPower}
-use Rattle.losses.proofs.Laws.{load-inside, all-powers}
+use Rattle.losses.specs.ListLoss.{noPower}
+use Rattle.losses.proofs.Laws.{load-inside, all-megawatts}
 use Rattle.losses.proofs.reconfiguration.megawatts.Statement.{statement}
 use Rattle.losses.proofs.reconfiguration.megawatts.Tie as tie
 
@@ -50,7 +50,7 @@ returns : tie.Need-returns Inv-loop μ-loop
 returns c =
     let loads = c .before .before .args .t1 in
     let long : length loads ≡ 256 = search needs in
-    all-powers loads _ long (c .before .loop .inv .1 ∙ filled-all _ zero64 256 (c .before .loop .i) (λ j h l. absurd (omega arith)))
+    c .before .loop .inv .1 ∙ filled-all _ zero64 256 (c .before .loop .i) (λ j h l. absurd (omega arith)) ∙ all-megawatts loads long
 
 pub megawatts-spec : {M : Type 1} → statement M
 megawatts-spec =
