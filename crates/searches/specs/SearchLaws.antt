@@ -1,6 +1,6 @@
 -- What the code of a search holds is what the definition says, case by case: it is refused, or it answers with what was found.
 use mathlib.Core.Path.{_≡_, refl, sym, ap, _∙_}
-use mathlib.Core.Bool.{Bool, true, false, _||_}
+use mathlib.Core.Bool.{true}
 use mathlib.Core.List.{List}
 use Prim.Native.Nat.{ℕ, _≤_, _<_, min}
 use native.Mathlib.Decide.{decLt}
@@ -28,7 +28,7 @@ use Rattle.searches.specs.declared.answer.Found.{Found}
 use Rattle.searches.specs.declared.start.Start.{Start}
 use Rattle.searches.specs.Results.{Best, resultBy, solvedBy}
 use Rattle.searches.specs.SearchValues.{startOf, foundOf, answerWith}
-use Rattle.searches.specs.StartLaws.{start-radial, start-base}
+use Rattle.searches.specs.StartLaws.{start-base}
 use Rattle.searches.specs.StateLaws.{state-held, flags-held}
 use Rattle.searches.specs.StateRows.{flags-radial}
 use Rattle.searches.specs.States.{stateOf}
@@ -89,19 +89,15 @@ module _ (n : PowerNetwork) (search : Network → Best) (sound : (N : Network) �
       unfolding foundOf
       held = ap (λ x. stateOf n (x .configuration)) f ∙ state-held n (search N .state) long (few-switches n ok)
 
-      still-radial : (start .radial || rowRadial (start .graph) (liveFlags N (found .configuration .switches))) ≡ radialIn N (search N .state)
+      judged : rowRadial (start .graph) (liveFlags N (found .configuration .switches)) ≡ radialIn N (search N .state)
       unfolding startOf foundOf
-      still-radial = go (start .radial) (start-radial n sized ok s)
-        where
-          go : (b : Bool) → b ≡ radialIn N (baseState N) → (b || rowRadial (start .graph) (liveFlags N (found .configuration .switches))) ≡ radialIn N (search N .state)
-          go true e = sym (sound N .radial (sym e))
-          go false e =
-              flags-radial n sized ok (search N .state) _ _ (ap (λ x. x .graph) s)
-              (flags-held n (search N .state) long (few-switches n ok) _ (ap (λ x. x .configuration) f) _ refl) _ refl
+      judged =
+          flags-radial n sized ok (search N .state) _ _ (ap (λ x. x .graph) s)
+          (flags-held n (search N .state) long (few-switches n ok) _ (ap (λ x. x .configuration) f) _ refl) _ refl
 
       pub search-answered : answerWith n start found out ≡ solvedBy search N out
       unfolding answerWith
       search-answered =
-          rw (held, still-radial, start-base n sized ok s .1) (unfold foundOf resultBy in rw f refl)
+          rw (held, judged, start-base n sized ok s .1) (unfold foundOf resultBy in rw f refl)
           ∙ ap (λ w. answered (answerOf w) (resultBy search N) (search N .state) out) (sym r)
           ∙ as-tested

@@ -1,5 +1,4 @@
 -- The values by which the code holds where a search starts and what it found, and what it answers with them.
-use mathlib.Core.Bool.{_||_}
 use mathlib.Core.List.{List}
 use Prim.Native.Nat.{ℕ}
 use Rattle.network.specs.declared.topology.PowerNetwork.{PowerNetwork}
@@ -33,13 +32,13 @@ startOf n =
 unfoldable pub foundOf : Best → Found
 foundOf b = record { configuration = configurationOf (b .state); loss = b .loss; iterations = b .iterations; converged = b .converged }
 
--- radial where the start is, else as its rows say of the state that was found
+-- "radial byte of the best state": as the start's rows say of the state that was found
 unfoldable pub answerWith : PowerNetwork → Start → Found → List ℕ → Call Result
 answerWith n start found out =
     record {
       answer = accepted
           (record {
-            radial = start .radial || rowRadial (start .graph) (liveFlags (recordsOf n) (found .configuration .switches));
+            radial = rowRadial (start .graph) (liveFlags (recordsOf n) (found .configuration .switches));
             base-loss = start .loss;
             best-loss = found .loss;
             reduction = reduction (start .loss) (found .loss);

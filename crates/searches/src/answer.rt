@@ -79,17 +79,13 @@ fn write_state(best: NetworkConfiguration, switch_count: u16, out: &mut [u8])
     write_bytes(out, &state[0..count]);
 }
 
-// What was found is answered: its state, a byte for each switch at the front of the slice, and the result beside it. From a radial base every answer is
-// radial.
+// What was found is answered: its state, a byte for each switch at the front of the slice, and the result beside it.
 pub fn answer_with(network: PowerNetwork, start: Start, found: Found, out: &mut [u8]) -> SolveAnswer
     ensures { λ r. ⌜ record { answer = solveAnswerOf r; out = now (out .exit) } ≡ answerWith network start found (now (out .entry)) ⌝ }
 {
     let best = found.configuration;
-    let mut radial = true;
-    if !start.radial {
-        let graph = start.graph;
-        radial = is_radial(graph, live_branches(network, best));
-    }
+    let graph = start.graph;
+    let radial = is_radial(graph, live_branches(network, best));
     write_state(best, network.switch_count, out);
     SolveAnswer::Solved(ReconfigResult {
         is_radial: radial,
