@@ -18,9 +18,10 @@ use Rattle.graph.specs.Walk.{far, neighbours, reached, enter, enterAll, turn, w
 use Rattle.graph.specs.Radial.{radial}
 use Rattle.radiality.specs.Feeder.{feeder, position, endsPath, radialIn}
 use Rattle.losses.specs.Loss.{walkLoad, downstream, termOf, totalOf, loss, lossIn}
-use Rattle.exchange.specs.Exchange.{loopOf, sectionOf, swapWith, trial, improves, kept, roundOf, afterRound, exchangeRounds, exchange, exchangeBest}
-use Rattle.tabu.specs.Tabu.{allowed, lesser, bestMove, lastSeven, afterMove, tabuRounds, tabu, tabuBest}
-use Rattle.exhaustive.specs.Exhaustive as Ex
+use Rattle.searches.specs.Lesser.{lesserBy}
+use Rattle.searches.specs.Rounds.{untilEnded}
+use Rattle.exchange.specs.Exchange.{loopOf, sectionOf, swapWith, trial, improves, kept, roundOf, afterRound, exchange, exchangeBest}
+use Rattle.tabu.specs.Tabu.{allowed, bestMove, lastSeven, afterMove, tabu, tabuBest}
 use Rattle.exhaustive.specs.Exhaustive.{masked, tryMask, exhaustive, leastOrBase, exhaustiveBest}
 use Rattle.reconfiguration.specs.Solve.{bestBy, best}
 use Rattle.examples.specs.Feeders.{float, bus, branch, section, tie, network, records, buses, branchesWith, switches, triangleWith, triangle}
@@ -82,7 +83,7 @@ marked =
 
 -- document 01: "One proved table holds the marked (*) cases under one theorem"
 pub marked-cases : map reckoned marked ≡ map said marked
-unfolding best bestBy exchangeBest tabuBest exhaustiveBest exchange exchangeRounds afterRound roundOf kept improves trial swapWith sectionOf loopOf swapped tabu tabuRounds bestMove afterMove lastSeven lesser allowed among toggled exhaustive tryMask Ex.lesser leastOrBase masked ties lossIn loss totalOf termOf downstream walkLoad radialIn endsPath feeder position radial bfsPath back across byOf walk walkBy turn enterAll enter reached neighbours far baseState live openOn those least firstSome firstOf indexOf _orElse_ count upTo table ofBits add sub mul div lt le
+unfolding best bestBy exchangeBest tabuBest exhaustiveBest exchange untilEnded afterRound roundOf kept improves trial swapWith sectionOf loopOf swapped tabu bestMove afterMove lastSeven lesserBy allowed among toggled exhaustive tryMask leastOrBase masked ties lossIn loss totalOf termOf downstream walkLoad radialIn endsPath feeder position radial bfsPath back across byOf walk walkBy turn enterAll enter reached neighbours far baseState live openOn those least firstSome firstOf indexOf _orElse_ count upTo table ofBits add sub mul div lt le
 marked-cases = refl
 
 -- Five buses in a row, 1 MW at each but the first, and three ties. In the first round, with 9.75 at its start, tie 5 improves to 8.75 and tie 6 to 9.5; tie 7's first
@@ -106,5 +107,5 @@ rounds =
     ∷ []
 
 pub round-cases : map reckoned rounds ≡ map said rounds
-unfolding best bestBy exchangeBest tabuBest exhaustiveBest exchange exchangeRounds afterRound roundOf kept improves trial swapWith sectionOf loopOf swapped tabu tabuRounds bestMove afterMove lastSeven lesser allowed among toggled exhaustive tryMask Ex.lesser leastOrBase masked ties lossIn loss totalOf termOf downstream walkLoad radialIn endsPath feeder position radial bfsPath back across byOf walk walkBy turn enterAll enter reached neighbours far baseState live openOn those least firstSome firstOf indexOf _orElse_ count upTo table ofBits add sub mul div lt le
+unfolding best bestBy exchangeBest tabuBest exhaustiveBest exchange untilEnded afterRound roundOf kept improves trial swapWith sectionOf loopOf swapped tabu bestMove afterMove lastSeven lesserBy allowed among toggled exhaustive tryMask leastOrBase masked ties lossIn loss totalOf termOf downstream walkLoad radialIn endsPath feeder position radial bfsPath back across byOf walk walkBy turn enterAll enter reached neighbours far baseState live openOn those least firstSome firstOf indexOf _orElse_ count upTo table ofBits add sub mul div lt le
 round-cases = refl

@@ -2,7 +2,7 @@
 use mathlib.Core.Bool.{Bool, true, false, cond, not, _&&_}
 use mathlib.Core.List.{List}
 use mathlib.Core.Option.{Option, none, some}
-use Prim.Native.Nat.{ℕ, zero, suc}
+use Prim.Native.Nat.{ℕ, suc}
 use lib.Dec.{eqb, ltb}
 use lib.Ieee.{Float, binary64, sub, lt}
 use Rattle.numbers.specs.Constants.{billionth}
@@ -15,6 +15,7 @@ use Rattle.graph.specs.Walk.{bfsPath}
 use Rattle.radiality.specs.Feeder.{feeder, radialIn}
 use Rattle.losses.specs.Loss.{lossIn}
 use Rattle.searches.specs.Results.{Best}
+use Rattle.searches.specs.Rounds.{untilEnded}
 
 -- "the normally open, operable, still open switches"
 abbrev pub seen : Network → State → ℕ → Bool
@@ -46,9 +47,13 @@ unfoldable pub kept : Network → Float → Option State → Option State → Op
 kept N current best none = best
 kept N current best (some t) = cond (improves N current t) (some t) best
 
--- a round "sees the normally open, operable, still open switches in list order", each with the state as the round found it
+-- a switch more in a round, with the state as the round found it
+abbrev pub seeing : Network → State → Float → Option State → ℕ → Option State
+seeing N s current best i = cond (seen N s i) (kept N current best (trial N s i)) best
+
+-- a round "sees the normally open, operable, still open switches in list order"
 unfoldable pub roundOf : Network → State → Float → Option State
-roundOf N s current = upTo (λ best i. cond (seen N s i) (kept N current best (trial N s i)) best) none (size N)
+roundOf N s current = upTo (seeing N s current) none (size N)
 
 -- where the exchange stands after some rounds
 pub record Exchange : Type 0 where
@@ -62,14 +67,17 @@ unfoldable pub afterRound : Network → Exchange → Option State → Exchange
 afterRound N x none = record { state = x .state; loss = x .loss; rounds = suc (x .rounds); ended = true }
 afterRound N x (some t) = record { state = t; loss = lossIn N t; rounds = suc (x .rounds); ended = false }
 
--- "up to max_iterations rounds": n more
-unfoldable pub exchangeRounds : Network → ℕ → Exchange → Exchange
-exchangeRounds N zero x = x
-exchangeRounds N (suc n) x = elim (x .ended) [ true ↦ x | false ↦ exchangeRounds N n (afterRound N x (roundOf N (x .state) (x .loss))) ]
+-- where it stands after a round more
+abbrev pub next : Network → Exchange → Exchange
+next N x = afterRound N x (roundOf N (x .state) (x .loss))
 
--- from the base
+-- the base, before the first round
+abbrev pub exchangeStart : Network → Exchange
+exchangeStart N = record { state = baseState N; loss = lossIn N (baseState N); rounds = 0; ended = false }
+
+-- "up to max_iterations rounds"
 unfoldable pub exchange : Network → Exchange
-exchange N = exchangeRounds N (N .iterations) (record { state = baseState N; loss = lossIn N (baseState N); rounds = 0; ended = false })
+exchange N = untilEnded (λ x. x .ended) (next N) (N .iterations) (exchangeStart N)
 
 -- "Every round counts; converged means rounds < max_iterations"
 unfoldable pub exchangeBest : Network → Best

@@ -16,7 +16,7 @@ use Rattle.network.specs.Records.{Network}
 use Rattle.states.specs.Live.{baseState}
 use Rattle.states.specs.Switches.{State, byte, operable, size, isTie, swapped}
 use Rattle.exchange.specs.Exchange.{seen, roundOf, Exchange, afterRound, exchange}
-use Rattle.searches.specs.Found.{IfSome}
+use Rattle.searches.specs.IfSome.{IfSome}
 use Rattle.exchange.specs.ExchangeLaws.{Swap, round-swaps, rounds-keep}
 
 module _ (s : State) (tie section : ℕ) where
@@ -63,8 +63,8 @@ module _ (N : Network) where
 
   -- at most one round more than the ties that the first round sees
   pub exchange-rounds : exchange N .rounds ≤ suc (count (seen N (baseState N)) (size N))
-  unfolding exchange afterRound
-  exchange-rounds = ends (exchange N) (rounds-keep N Q (λ x e h. one x (h .0 e) (roundOf N (x .state) (x .loss)) (round-swaps N (x .state) (x .loss))) (N .iterations) _ (λ e. omega arith, omega arith))
+  unfolding afterRound
+  exchange-rounds = ends (exchange N) (rounds-keep N Q (λ x e h. one x (h .0 e) (roundOf N (x .state) (x .loss)) (round-swaps N (x .state) (x .loss))) (λ e. omega arith, omega arith))
     where
       most : ℕ
       most = count (seen N (baseState N)) (size N)

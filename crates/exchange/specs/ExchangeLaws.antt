@@ -1,8 +1,8 @@
 -- What the exchange keeps. A round that improves takes the swap of a tie with a section; so what holds of the base and is kept by such swaps holds of the answer.
 use mathlib.Core.Path.{_≡_, refl}
-use mathlib.Core.Bool.{Bool, true, false, not, _&&_}
+use mathlib.Core.Bool.{true, false, not, _&&_}
 use mathlib.Core.Option.{Option, none, some}
-use Prim.Native.Nat.{ℕ, zero, suc, _<_}
+use Prim.Native.Nat.{ℕ, _<_}
 use lib.Dec.{eqb}
 use lib.Ieee.{Float}
 use borrow.Author.Tests.{not-true}
@@ -13,10 +13,11 @@ use Rattle.states.specs.Live.{baseState}
 use Rattle.states.specs.Switches.{State, byte, branchOf, operable, size, isTie, swapped}
 use Rattle.radiality.specs.Feeder.{radialIn}
 use Rattle.losses.specs.Loss.{lossIn}
-use Rattle.exchange.specs.Exchange.{seen, loopOf, sectionOf, swapWith, trial, improves, kept, roundOf, Exchange, afterRound, exchangeRounds, exchange, exchangeBest}
-use Rattle.searches.specs.Found.{IfSome, cond-holds, firstSome-holds, least-passes}
+use Rattle.exchange.specs.Exchange.{seen, loopOf, sectionOf, swapWith, trial, improves, kept, roundOf, Exchange, afterRound, next, exchangeStart, exchange, exchangeBest}
+use Rattle.searches.specs.IfSome.{IfSome, cond-holds, firstSome-holds, least-passes}
 use Rattle.searches.specs.FromBase.{FromBase, from-base, swapped-from-base}
-use Rattle.searches.specs.SearchLaws.{Sound}
+use Rattle.searches.specs.Rounds.{until-keeps}
+use Rattle.searches.specs.SearchLaws.{SoundBest}
 
 -- t is s with a tie that the round sees closed and a section opened, both operable; and t is radial
 pub record Swap (N : Network) (s t : State) : Type 0 where
@@ -68,31 +69,22 @@ module _ (N : Network) where
         one best none h w = h
         one best (some t) h w = cond-holds (Swap N s) (improves N current t) (some t) best (λ e. w) h
 
-  -- where the search stands after a round
-  abbrev pub next : Exchange → Exchange
-  next x = afterRound N x (roundOf N (x .state) (x .loss))
-
-  module _ (Q : Exchange → Type 0) (step : (x : Exchange) → x .ended ≡ false → Q x → Q (next x)) where
-    pub rounds-keep : (n : ℕ) (x : Exchange) → Q x → Q (exchangeRounds N n x)
-    unfolding exchangeRounds
-    rounds-keep zero x h = h
-    rounds-keep (suc n) x h = go (x .ended) refl (rounds-keep n (next x))
-      where
-        go : (b : Bool) → x .ended ≡ b → (Q (next x) → Q (exchangeRounds N n (next x))) → Q (elim b [ true ↦ x | false ↦ exchangeRounds N n (next x) ])
-        go true e ih = h
-        go false e ih = ih (step x e h)
+  -- what holds of the base and is kept by each round holds at the end
+  pub rounds-keep : (Q : Exchange → Type 0) → ((x : Exchange) → x .ended ≡ false → Q x → Q (next N x)) → Q (exchangeStart N) → Q (exchange N)
+  unfolding exchange
+  rounds-keep Q step = until-keeps (λ (x : Exchange). x .ended) (next N) Q step (N .iterations) (exchangeStart N)
 
   exchange-keeps : (P : State → Type 0) → ((s t : State) → P s → Swap N s t → P t) → P (baseState N) → P (exchange N .state)
-  unfolding exchange afterRound
-  exchange-keeps P swaps h = rounds-keep (λ x. P (x .state)) (λ x e h. one x h (roundOf N (x .state) (x .loss)) (round-swaps (x .state) (x .loss))) (N .iterations) _ h
+  unfolding afterRound
+  exchange-keeps P swaps = rounds-keep (λ x. P (x .state)) (λ x e h. one x h (roundOf N (x .state) (x .loss)) (round-swaps (x .state) (x .loss)))
     where
       one : (x : Exchange) → P (x .state) → (found : Option State) → IfSome (Swap N (x .state)) found → P (afterRound N x found .state)
       one x h none w = h
       one x h (some t) w = swaps (x .state) t h w
 
   exchange-loss : exchange N .loss ≡ lossIn N (exchange N .state)
-  unfolding exchange afterRound
-  exchange-loss = rounds-keep (λ x. x .loss ≡ lossIn N (x .state)) (λ x e h. one x h (roundOf N (x .state) (x .loss))) (N .iterations) _ refl
+  unfolding afterRound
+  exchange-loss = rounds-keep (λ x. x .loss ≡ lossIn N (x .state)) (λ x e h. one x h (roundOf N (x .state) (x .loss))) refl
     where
       one : (x : Exchange) → x .loss ≡ lossIn N (x .state) → (found : Option State) → afterRound N x found .loss ≡ lossIn N (afterRound N x found .state)
       one x h none = h
@@ -102,7 +94,7 @@ module _ (N : Network) where
   pub exchange-from-base : FromBase N (exchange N .state)
   exchange-from-base = exchange-keeps (FromBase N) (λ s t h w. rw (w .result) (swapped-from-base N s h (w .tie) (w .section) (tie-operable w) (w .section-operable))) (from-base N)
 
-  pub exchange-sound : Sound N (exchangeBest N)
+  pub exchange-sound : SoundBest N (exchangeBest N)
   unfolding exchangeBest
   exchange-sound = record {
     good = exchange-from-base .good;

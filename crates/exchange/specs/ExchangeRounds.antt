@@ -1,20 +1,18 @@
--- The rounds of the exchange: where the code stands, the rounds that are left lead to the answer of the definition.
+-- The rounds of the exchange: where the code stands, the rounds that are left lead to the definition's answer.
 use mathlib.Core.Path.{_≡_, refl, sym, ap, _∙_}
-use mathlib.Core.Bool.{Bool, true, false}
+use mathlib.Core.Bool.{true, false}
 use mathlib.Core.Option.{Option, none, some}
-use Prim.Native.Nat.{ℕ, zero, suc, _+_, _-_, _≤_, _<_}
+use Prim.Native.Nat.{ℕ, suc, _+_, _-_, _≤_, _<_}
 use native.Mathlib.Numerals.{add-one}
 use native.Mathlib.Omega.{arith}
 use lib.Ieee.{Float}
 use lib.ListN.{length, set, length-set}
-use Rattle.numbers.specs.Tests.{clash}
 use Rattle.states.specs.declared.configuration.NetworkConfiguration.{NetworkConfiguration}
 use Rattle.network.specs.declared.topology.PowerNetwork.{PowerNetwork}
 use Rattle.network.specs.Records.{Network, recordsOf}
 use Rattle.network.specs.Answers.{accepted}
 use Rattle.network.specs.Check.{checkRecords}
 use Rattle.states.specs.Live.{baseState}
-use Rattle.losses.specs.Loss.{lossIn}
 use Rattle.exchange.specs.declared.exchange.Trial.{Trial}
 use Rattle.exchange.specs.declared.exchange.BranchExchange.{BranchExchange}
 use Rattle.searches.specs.States.{stateOf}
@@ -22,10 +20,11 @@ use Rattle.searches.specs.Given.{Held, Base}
 use Rattle.states.specs.Listed.{switches-listed, few-switches}
 use Rattle.states.specs.Switches.{State, swapped}
 use Rattle.searches.specs.StateLaws.{held, state-held}
-use Rattle.exchange.specs.Exchange.{roundOf, Exchange, afterRound, exchangeRounds, exchange}
-use Rattle.searches.specs.Found.{IfSome}
+use Rattle.exchange.specs.Exchange.{roundOf, Exchange, afterRound, next, exchangeStart, exchange}
+use Rattle.searches.specs.IfSome.{IfSome}
 use Rattle.searches.specs.FromBase.{base-good}
-use Rattle.exchange.specs.ExchangeLaws.{Swap, round-swaps, next}
+use Rattle.searches.specs.Rounds.{Left, left-all, left-ended, left-none, left-less}
+use Rattle.exchange.specs.ExchangeLaws.{Swap, round-swaps}
 use Rattle.exchange.specs.ExchangeValues.{trialOf, exchangeOf}
 
 -- ---- the rounds
@@ -36,23 +35,6 @@ pub counted : (N : Network) (x : Exchange) (best : Option State) (y : BranchExch
 unfolding exchangeOf afterRound trialOf
 counted N x none y step r e q t f = f (ap (λ z. z .found) q) ∙ rw (e, add-one)
 counted N x (some s) y step r e q t f = t (ap (λ z. z .found) q) ∙ rw (q, e, add-one)
-
-rounds-more : (N : Network) (m : ℕ) (x : Exchange) → x .ended ≡ false → exchangeRounds N (suc m) x ≡ exchangeRounds N m (next N x)
-unfolding exchangeRounds
-rounds-more N m x e = go (x .ended) e
-  where
-    go : (b : Bool) → b ≡ false → elim b [ true ↦ x | false ↦ exchangeRounds N m (next N x) ] ≡ exchangeRounds N m (next N x)
-    go true e = clash {b = true} refl e
-    go false e = refl
-
-rounds-ended : (N : Network) (m : ℕ) (x : Exchange) → x .ended ≡ true → exchangeRounds N m x ≡ x
-unfolding exchangeRounds
-rounds-ended N zero x e = refl
-rounds-ended N (suc m) x e = go (x .ended) e
-  where
-    go : (b : Bool) → b ≡ true → elim b [ true ↦ x | false ↦ exchangeRounds N m (next N x) ] ≡ x
-    go true e = refl
-    go false e = clash {b = false} e refl
 
 round-counts : (N : Network) (x : Exchange) (best : Option State) → afterRound N x best .rounds ≡ suc (x .rounds)
 unfolding afterRound
@@ -67,13 +49,16 @@ round-long N x = go (roundOf N (x .state) (x .loss)) (round-swaps N (x .state) (
     go none w = refl
     go (some t) w = ap length (w .result) ∙ length-set (set (x .state) (w .tie) 0) (w .section) 1 ∙ length-set (x .state) (w .tie) 0
 
--- the code's y is where the exchange stands, and the rounds that are left lead to its answer
+-- after k rounds those that are left lead to the definition's answer
+abbrev RoundsLeft : PowerNetwork → ℕ → Exchange → Type 0
+RoundsLeft n = Left (λ (x : Exchange). x .ended) (next (recordsOf n)) (n .«max_iterations») (exchange (recordsOf n))
+
+-- the code's y is where the exchange stands
 pub record Standing (n : PowerNetwork) (y : BranchExchange) : Type 0 where
   pub at : Exchange
   pub held-by : y ≡ exchangeOf at
   pub long : length (at .state) ≡ n .«switch_count»
-  pub within : at .rounds ≤ n .«max_iterations»
-  pub rest : exchangeRounds (recordsOf n) (n .«max_iterations» - at .rounds) at ≡ exchange (recordsOf n)
+  pub left : RoundsLeft n (at .rounds) at
 
 module _ (n : PowerNetwork) (ok : checkRecords (recordsOf n) ≡ accepted tt) where
   few : n .«switch_count» ≤ 512
@@ -84,33 +69,30 @@ module _ (n : PowerNetwork) (ok : checkRecords (recordsOf n) ≡ accepted tt) wh
 
   pub standing-base : (c : NetworkConfiguration) (loss : Float) → Base n c loss
       → Standing n (record { configuration = c; loss = loss; rounds = 0; ended = false })
-  unfolding exchangeOf exchange
-  standing-base c loss b =
-      let z : n .«max_iterations» - 0 ≡ recordsOf n .iterations = unfold recordsOf in omega arith in
-      let base : Exchange = record { state = baseState (recordsOf n); loss = lossIn (recordsOf n) (baseState (recordsOf n)); rounds = 0; ended = false } in
-      record {
-        at = base;
-        held-by = rw (b .0, b .1);
-        long = base-long;
-        within = omega arith;
-        rest = ap (λ m. exchangeRounds (recordsOf n) m base) z;
-      }
+  unfolding exchangeOf exchange recordsOf
+  standing-base c loss b = record { at = exchangeStart (recordsOf n); held-by = rw (b .0, b .1); long = base-long; left = left-all _ _ _ _ (exchangeStart (recordsOf n)) refl }
 
   module _ (y : BranchExchange) (w : Standing n y) where
+    at-end : w .at ≡ exchange (recordsOf n) → y ≡ exchangeOf (exchange (recordsOf n))
+    at-end e = w .held-by ∙ ap exchangeOf e
+
+    same-end : w .at .ended ≡ y .ended
+    unfolding exchangeOf
+    same-end = sym (ap (λ z. z .ended) (w .held-by))
+
+    same-count : w .at .rounds ≡ y .rounds
+    unfolding exchangeOf
+    same-count = sym (ap (λ z. z .rounds) (w .held-by))
+
     pub standing-held : Held n (y .configuration)
     unfolding exchangeOf
     standing-held = rw (w .held-by) (held n (w .at .state) (w .long) few)
 
     pub standing-ended : y .ended ≡ true → y ≡ exchangeOf (exchange (recordsOf n))
-    unfolding exchangeOf
-    standing-ended e = w .held-by ∙ ap exchangeOf (sym (rounds-ended (recordsOf n) _ (w .at) (sym (ap (λ z. z .ended) (w .held-by)) ∙ e)) ∙ w .rest)
+    standing-ended e = at-end (left-ended _ _ _ _ _ (w .at) (w .left) (same-end ∙ e))
 
     pub standing-done : (y .rounds < n .«max_iterations» → ⊥) → y ≡ exchangeOf (exchange (recordsOf n))
-    unfolding exchangeOf exchangeRounds
-    standing-done d =
-        let r : y .rounds ≡ w .at .rounds = ap (λ z. z .rounds) (w .held-by) in
-        let z : n .«max_iterations» - w .at .rounds ≡ 0 = omega arith in
-        w .held-by ∙ ap exchangeOf (ap (λ m. exchangeRounds (recordsOf n) m (w .at)) (sym z) ∙ w .rest)
+    standing-done d = at-end (left-none _ _ _ _ _ (w .at) (w .left) (omega (arith, same-count)))
 
     module _ (more : y .rounds < n .«max_iterations») (e : y .ended ≡ false) (step : Trial)
         (q : step ≡ trialOf (recordsOf n) (y .configuration) (roundOf (recordsOf n) (stateOf n (y .configuration)) (y .loss))) where
@@ -123,21 +105,14 @@ module _ (n : PowerNetwork) (ok : checkRecords (recordsOf n) ≡ accepted tt) wh
 
       pub standing-next : (r : BranchExchange)
           → ((N : Network) (x : Exchange) (best : Option State) → y ≡ exchangeOf x → step ≡ trialOf N (y .configuration) best → r ≡ exchangeOf (afterRound N x best)) → Standing n r
-      unfolding exchangeOf
+      unfolding afterRound
       standing-next r h =
           let x = w .at in
-          let k : y .rounds ≡ x .rounds = ap (λ z. z .rounds) (w .held-by) in
-          let j : next (recordsOf n) x .rounds ≡ suc (x .rounds) = round-counts (recordsOf n) x _ in
-          let z : n .«max_iterations» - x .rounds ≡ suc (n .«max_iterations» - next (recordsOf n) x .rounds) = omega arith in
           record {
             at = next (recordsOf n) x;
             held-by = h (recordsOf n) x _ (w .held-by) same-round;
             long = round-long (recordsOf n) x ∙ w .long;
-            within = omega arith;
-            rest =
-                sym (rounds-more (recordsOf n) _ x (sym (ap (λ z. z .ended) (w .held-by)) ∙ e))
-                ∙ ap (λ m. exchangeRounds (recordsOf n) m x) (sym z)
-                ∙ w .rest;
+            left = rw (round-counts (recordsOf n) x (roundOf (recordsOf n) (x .state) (x .loss))) (left-less _ _ _ _ (x .rounds) x (w .left) (omega (arith, same-count)) (same-end ∙ e));
           }
 
       pub rounds-rise : (r : BranchExchange)
@@ -147,4 +122,4 @@ module _ (n : PowerNetwork) (ok : checkRecords (recordsOf n) ≡ accepted tt) wh
       rounds-rise r h =
           ap (λ z. z .rounds) (h (recordsOf n) (w .at) _ (w .held-by) same-round)
           ∙ round-counts (recordsOf n) (w .at) _
-          ∙ ap suc (sym (ap (λ z. z .rounds) (w .held-by)))
+          ∙ ap suc same-count

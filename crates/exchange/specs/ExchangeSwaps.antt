@@ -34,7 +34,7 @@ use Rattle.searches.specs.StateRows.{flags-radial}
 use Rattle.searches.specs.TableSets.{table-set}
 use Rattle.searches.specs.LiveFlags.{on-flagged, flags-opened, flags-closed}
 use Rattle.exchange.specs.Exchange.{sectionOf, swapWith}
-use Rattle.searches.specs.Found.{IfSome, cond-holds, least-passes}
+use Rattle.searches.specs.IfSome.{IfSome, cond-holds, least-passes}
 use Rattle.exchange.specs.ExchangeValues.{sectionAt, sectionsOf, rowSwap, swapAt}
 use Rattle.exchange.specs.Firsts.{least-same, least-found, least-none, least-below}
 

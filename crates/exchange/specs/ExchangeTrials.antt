@@ -38,9 +38,9 @@ use Rattle.searches.specs.Given.{Held}
 use Rattle.states.specs.Listed.{switches-listed, few-switches, switch-at}
 use Rattle.searches.specs.StateLaws.{byte-at}
 use Rattle.searches.specs.SwitchReads.{SwitchAt, own-switch, own-status}
-use Rattle.exchange.specs.Exchange.{seen, loopOf, sectionOf, swapWith, trial, improves, kept}
-use Rattle.searches.specs.Found.{IfSome, cond-holds, firstSome-holds}
-use Rattle.exchange.specs.ExchangeValues.{sectionAt, sectionsOf, rowSwap, rowTrial, swapAt, trialOf, seeing}
+use Rattle.exchange.specs.Exchange.{seen, loopOf, sectionOf, swapWith, trial, improves, kept, seeing}
+use Rattle.searches.specs.IfSome.{IfSome, cond-holds, firstSome-holds}
+use Rattle.exchange.specs.ExchangeValues.{sectionAt, sectionsOf, rowSwap, rowTrial, swapAt, trialOf}
 use Rattle.exchange.specs.ExchangeSwaps.{swapped-flags, swap-by-row, row-below}
 use Rattle.exchange.specs.Firsts.{first-next, first-found}
 

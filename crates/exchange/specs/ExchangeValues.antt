@@ -4,7 +4,6 @@ use mathlib.Core.List.{List}
 use mathlib.Core.Option.{Option, none, some}
 use Prim.Native.Nat.{ℕ}
 use lib.Dec.{eqb, ltb}
-use lib.Ieee.{Float}
 use lib.ListN.{getD, set}
 use Rattle.numbers.specs.Choose.{firstSome}
 use Rattle.numbers.specs.Constants.{zero64}
@@ -18,7 +17,7 @@ use Rattle.losses.specs.Loss.{lossIn}
 use Rattle.states.specs.Switches.{State, swapped}
 use Rattle.exchange.specs.declared.exchange.Trial.{Trial}
 use Rattle.exchange.specs.declared.exchange.BranchExchange.{BranchExchange}
-use Rattle.exchange.specs.Exchange.{seen, sectionOf, trial, kept, Exchange}
+use Rattle.exchange.specs.Exchange.{sectionOf, Exchange}
 
 -- a switch by its position, 512 for none
 unfoldable pub sectionAt : Option ℕ → ℕ
@@ -50,10 +49,6 @@ swapAt s tie (some section) = some (swapped s tie section)
 unfoldable pub trialOf : Network → NetworkConfiguration → Option State → Trial
 trialOf N c none = record { found = false; configuration = c; loss = zero64 }
 trialOf N c (some t) = record { found = true; configuration = configurationOf t; loss = lossIn N t }
-
--- a switch more in a round
-abbrev pub seeing : Network → State → Float → Option State → ℕ → Option State
-seeing N s current best i = cond (seen N s i) (kept N current best (trial N s i)) best
 
 unfoldable pub exchangeOf : Exchange → BranchExchange
 exchangeOf x = record { configuration = configurationOf (x .state); loss = x .loss; rounds = x .rounds; ended = x .ended }

@@ -10,7 +10,7 @@ use lib.ListN.{length, getD, drop, drop-of-length-le}
 use lib.Seq.{drop-cons}
 use Rattle.numbers.specs.UpTo.{upTo, upTo-more}
 use Rattle.numbers.specs.Choose.{least, firstSome, _orElse_}
-use Rattle.searches.specs.Found.{IfSome}
+use Rattle.searches.specs.IfSome.{IfSome}
 
 -- ---- the least number that passes a test, by rising position
 module _ (p : ℕ → Bool) where

@@ -3,7 +3,7 @@ use mathlib.Core.Bool.{Bool, true, cond}
 use mathlib.Core.Option.{Option, none, some}
 use Prim.Native.Nat.{ℕ, suc, _/_, _%_, _^_}
 use lib.Dec.{eqb}
-use lib.Ieee.{Float, lt}
+use lib.Ieee.{Float}
 use Rattle.numbers.specs.UpTo.{upTo, table}
 use Rattle.numbers.specs.Counts.{count}
 use Rattle.network.specs.declared.switch.ReconfigAlgorithm.{ReconfigAlgorithm}
@@ -13,39 +13,47 @@ use Rattle.states.specs.Live.{baseState}
 use Rattle.states.specs.Switches.{State, size, isTie}
 use Rattle.radiality.specs.Feeder.{radialIn}
 use Rattle.losses.specs.Loss.{lossIn}
+use Rattle.searches.specs.Lesser.{lesserBy}
 use Rattle.searches.specs.Results.{Best}
 
 abbrev pub bit : ℕ → ℕ → Bool
 bit mask i = eqb (mask / 2 ^ i % 2) 1
 
--- "mask bit i closes the i-th tie": the ties before a switch count it; sections are closed
+-- "mask bit i closes the i-th tie": the i-th tie has i ties before it in the list, from 0; a section is closed
 unfoldable pub masked : Network → ℕ → State
 masked N mask = table (λ i. cond (isTie N i) (cond (bit mask (count (isTie N) i)) 0 1) 0) (size N)
 
--- the least so far with its loss, and how many radial states there were
+-- a radial state with its loss
 pub record Least : Type 0 where
   pub state : State
   pub loss : Float
 
+-- the least so far, and how many radial states there were
 pub record Exhaustive : Type 0 where
   pub least : Option Least
-  pub radial : ℕ
+  pub radialCount : ℕ
 
 -- "strictly least loss wins"
-unfoldable pub lesser : Option Least → Least → Option Least
-lesser none x = some x
-lesser (some b) x = cond (lt (x .loss) (b .loss)) (some x) (some b)
+abbrev pub lesser : Option Least → Least → Option Least
+lesser = lesserBy (λ b. b .loss)
 
 abbrev pub withLoss : Network → State → Least
 withLoss N t = record { state = t; loss = lossIn N t }
 
+-- before the first mask
+abbrev pub noMask : Exhaustive
+noMask = record { least = none; radialCount = 0 }
+
+-- a radial state more
+abbrev pub withRadial : Exhaustive → Least → Exhaustive
+withRadial x b = record { least = lesser (x .least) b; radialCount = suc (x .radialCount) }
+
 unfoldable pub tryMask : Network → Exhaustive → ℕ → Exhaustive
-tryMask N x mask =
-    cond (radialIn N (masked N mask)) (record { least = lesser (x .least) (withLoss N (masked N mask)); radial = suc (x .radial) }) x
+tryMask N x mask = cond (radialIn N (masked N mask)) (withRadial x (withLoss N (masked N mask))) x
 
 -- "masks rise from 0"
 unfoldable pub exhaustive : Network → Exhaustive
-exhaustive N = upTo (tryMask N) (record { least = none; radial = 0 }) (2 ^ ties (N .switches))
+exhaustive N = upTo (tryMask N) noMask (2 ^ ties (N .switches))
 
 -- "with none, the base"
 unfoldable pub leastOrBase : Network → Option Least → Least
@@ -57,7 +65,7 @@ unfoldable pub exhaustiveBest : Network → Best
 exhaustiveBest N =
     let x = exhaustive N in
     let b = leastOrBase N (x .least) in
-    record { state = b .state; loss = b .loss; iterations = x .radial; converged = true }
+    record { state = b .state; loss = b .loss; iterations = x .radialCount; converged = true }
 
 -- the feeder with this method in its head
 unfoldable pub asking : ReconfigAlgorithm → Network → Network

@@ -4,7 +4,6 @@ use mathlib.Core.Bool.{Bool, true, false, cond}
 use mathlib.Core.Option.{Option, none, some}
 use Prim.Native.Nat.{ℕ, _≤_, _<_, _^_}
 use native.Mathlib.Omega.{arith}
-use lib.Ieee.{lt}
 use Rattle.numbers.specs.Counts.{count}
 use Rattle.numbers.specs.TableLaws.{length-table, getD-table}
 use Rattle.numbers.specs.UpTo.{upTo-keeps}
@@ -15,10 +14,11 @@ use Rattle.states.specs.Switches.{byte, size, isTie, GoodState}
 use Rattle.radiality.specs.Feeder.{radialIn}
 use Rattle.losses.specs.Loss.{lossIn}
 use Rattle.plan.specs.LiveLaws.{live-less}
-use Rattle.exhaustive.specs.Exhaustive.{bit, masked, Least, lesser, withLoss, Exhaustive, tryMask, exhaustive, leastOrBase, exhaustiveBest}
-use Rattle.searches.specs.Found.{IfSome, cond-holds}
+use Rattle.exhaustive.specs.Exhaustive.{bit, masked, Least, withLoss, Exhaustive, tryMask, exhaustive, leastOrBase, exhaustiveBest}
+use Rattle.searches.specs.IfSome.{IfSome}
 use Rattle.searches.specs.FromBase.{base-byte, base-good}
-use Rattle.searches.specs.SearchLaws.{Sound}
+use Rattle.searches.specs.Lesser.{lesser-holds}
+use Rattle.searches.specs.SearchLaws.{SoundBest}
 
 module _ (N : Network) where
   module _ (mask : ℕ) where
@@ -54,21 +54,17 @@ module _ (N : Network) where
     pub loses : b .loss ≡ lossIn N (b .state)
 
   pub exhaustive-closes : Closes (leastOrBase N (exhaustive N .least))
-  unfolding exhaustive tryMask lesser leastOrBase
+  unfolding exhaustive tryMask leastOrBase
   exhaustive-closes = orBase (exhaustive N .least) (upTo-keeps (λ n x. IfSome Closes (x .least)) (tryMask N) _ (2 ^ ties (N .switches)) tt (λ m x l h. try m x h (radialIn N (masked N m)) refl))
     where
-      least : (best : Option Least) (b : Least) → IfSome Closes best → Closes b → IfSome Closes (lesser best b)
-      least none b h w = w
-      least (some a) b h w = cond-holds Closes (lt (b .loss) (a .loss)) (some b) (some a) (λ e. w) h
-
       try : (m : ℕ) (x : Exhaustive) → IfSome Closes (x .least) → (b : Bool) → radialIn N (masked N m) ≡ b → IfSome Closes (tryMask N x m .least)
-      try m x h true e = rw e (least (x .least) (withLoss N (masked N m)) h (record { good = masked-good m; more = masked-more m; radial = λ r. e; loses = refl }))
+      try m x h true e = rw e (lesser-holds Closes _ (x .least) (withLoss N (masked N m)) h (record { good = masked-good m; more = masked-more m; radial = λ r. e; loses = refl }))
       try m x h false e = rw e h
 
       orBase : (found : Option Least) → IfSome Closes found → Closes (leastOrBase N found)
       orBase none h = record { good = base-good N; more = λ k l. l; radial = λ r. r; loses = refl }
       orBase (some b) h = h
 
-  pub exhaustive-sound : Sound N (exhaustiveBest N)
+  pub exhaustive-sound : SoundBest N (exhaustiveBest N)
   unfolding exhaustiveBest
   exhaustive-sound = record { good = exhaustive-closes .good; loses = exhaustive-closes .loses; radial = exhaustive-closes .radial }

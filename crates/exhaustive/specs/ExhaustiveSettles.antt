@@ -18,8 +18,9 @@ use Rattle.states.specs.Live.{stateByte, baseState}
 use Rattle.states.specs.Switches.{isTie, size}
 use Rattle.radiality.specs.Feeder.{radialIn}
 use Rattle.losses.specs.Loss.{lossIn}
-use Rattle.exhaustive.specs.Exhaustive.{bit, masked, lesser, withLoss, Exhaustive, tryMask, exhaustive, leastOrBase}
+use Rattle.exhaustive.specs.Exhaustive.{bit, masked, withLoss, Exhaustive, tryMask, exhaustive, leastOrBase}
 use Rattle.searches.specs.Floats.{lt-self}
+use Rattle.searches.specs.Lesser.{lesserBy}
 use Rattle.searches.specs.FromBase.{base-byte, base-good}
 use Rattle.searches.specs.LiveBranches.{same-loss, radial-part-same}
 use Rattle.exhaustive.specs.ExhaustiveLaws.{masked-more}
@@ -43,7 +44,7 @@ module _ (N : Network) where
     BaseLeast n x = ((n ≡ 0) × (x .least ≡ none)) ⊎ (x .least ≡ some (withLoss N (baseState N)))
 
     pub exhaustive-of-radial : leastOrBase N (exhaustive N .least) ≡ withLoss N (baseState N)
-    unfolding exhaustive tryMask lesser leastOrBase BaseLeast
+    unfolding exhaustive tryMask lesserBy leastOrBase BaseLeast
     exhaustive-of-radial = ends (upTo-keeps BaseLeast (tryMask N) _ (2 ^ ties (N .switches)) (inl (refl, refl)) (λ m x l h. try m x (radialIn N (masked N m)) refl h))
       where
         try : (m : ℕ) (x : Exhaustive) (b : Bool) → radialIn N (masked N m) ≡ b → BaseLeast m x → BaseLeast (suc m) (tryMask N x m)

@@ -2,7 +2,7 @@
 use mathlib.Core.Bool.{Bool, true, false, cond}
 use mathlib.Core.List.{List}
 use mathlib.Core.Option.{Option, none, some}
-use Prim.Native.Nat.{ℕ, suc}
+use Prim.Native.Nat.{ℕ}
 use lib.ListN.{getD, set}
 use Rattle.numbers.specs.Choose.{those}
 use Rattle.numbers.specs.TableLaws.{filled}
@@ -14,7 +14,7 @@ use Rattle.network.specs.Records.{Network}
 use Rattle.states.specs.Switches.{branchOf, size, isTie, inService}
 use Rattle.exhaustive.specs.declared.exhaustive.ExhaustiveSearch.{ExhaustiveSearch}
 use Rattle.exhaustive.specs.declared.exhaustive.Ties.{Ties}
-use Rattle.exhaustive.specs.Exhaustive.{bit, Least, lesser, Exhaustive, leastOrBase}
+use Rattle.exhaustive.specs.Exhaustive.{bit, Least, Exhaustive, leastOrBase}
 
 -- ---- ties
 -- the position of the t-th tie among the switches
@@ -47,11 +47,7 @@ isSome (some b) = true
 unfoldable pub exhaustiveOf : Network → Exhaustive → ExhaustiveSearch
 exhaustiveOf N x =
     let b = leastOrBase N (x .least) in
-    record { found = isSome (x .least); configuration = configurationOf (b .state); loss = b .loss; radial = x .radial }
-
--- a radial state more
-abbrev pub withRadial : Exhaustive → Least → Exhaustive
-withRadial x b = record { least = lesser (x .least) b; radial = suc (x .radial) }
+    record { found = isSome (x .least); configuration = configurationOf (b .state); loss = b .loss; «radial_count» = x .radialCount }
 
 -- the feeder with this method in its head, as the code has it
 abbrev pub askedFor : ReconfigAlgorithm → PowerNetwork → PowerNetwork

@@ -19,9 +19,8 @@ ghost use Rattle.states.specs.Switches.{State};
 ghost use Rattle.searches.specs.Results.{solvedBy, solveAnswerOf};
 ghost use Rattle.searches.specs.SearchValues.{startOf, foundOf};
 ghost use Rattle.searches.specs.Given.{Given, Base};
-ghost use Rattle.exhaustive.specs.Exhaustive.{masked, Exhaustive, tryMask, exhaustive, exhaustiveBest, asking};
-ghost use Rattle.exhaustive.specs.ExhaustiveTrials.{noMask};
-ghost use Rattle.exhaustive.specs.ExhaustiveValues.{tiesOf, closedBy, exhaustiveOf, withRadial, askedFor};
+ghost use Rattle.exhaustive.specs.Exhaustive.{masked, Exhaustive, noMask, withRadial, tryMask, exhaustive, exhaustiveBest, asking};
+ghost use Rattle.exhaustive.specs.ExhaustiveValues.{tiesOf, closedBy, exhaustiveOf, askedFor};
 use bfs::radial::is_radial;
 use graph::rows::Graph;
 use losses::reconfiguration::compute_losses_estimate;
@@ -44,7 +43,7 @@ struct ExhaustiveSearch {
     found: bool,
     configuration: NetworkConfiguration,
     loss: f64,
-    radial: u16,
+    radial_count: u16,
 }
 
 // The ties in list order: how many there are, the branch of each, and whether that is in service.
@@ -193,25 +192,25 @@ fn with_radial(
     configuration: NetworkConfiguration,
     loss: f64,
 ) -> ExhaustiveSearch
-    requires { ⌜ search .radial < 65535 ⌝ }
+    requires { ⌜ search .«radial_count» < 65535 ⌝ }
     ensures { λ r. ⌜ ((N : Network) (x : Exhaustive) (s : State) → search ≡ exhaustiveOf N x → configuration ≡ configurationOf s
         → r ≡ exhaustiveOf N (withRadial x (record { state = s; loss = loss }))) ⌝ }
 {
-    let radial = search.radial + 1;
+    let radial_count = search.radial_count + 1;
     let least = search.configuration;
     if is_least(search, loss) {
         return ExhaustiveSearch {
             found: true,
             configuration,
             loss,
-            radial,
+            radial_count,
         };
     }
     ExhaustiveSearch {
         found: true,
         configuration: least,
         loss: search.loss,
-        radial,
+        radial_count,
     }
 }
 
@@ -224,7 +223,7 @@ fn with_base(base: NetworkConfiguration, base_radial: bool, base_loss: f64) -> E
         found: false,
         configuration: base,
         loss: base_loss,
-        radial: 0,
+        radial_count: 0,
     };
     if base_radial {
         return with_radial(none, base, base_loss);
@@ -241,7 +240,7 @@ fn with_mask(
     live: [bool; 512],
     mask: u16,
 ) -> ExhaustiveSearch
-    requires { ⌜ Given network graph loads × (search .radial < 65535) × (live ≡ liveFlags (recordsOf network) (masked (recordsOf network) mask))
+    requires { ⌜ Given network graph loads × (search .«radial_count» < 65535) × (live ≡ liveFlags (recordsOf network) (masked (recordsOf network) mask))
         × (radialIn (recordsOf network) (masked (recordsOf network) mask) ≡ true) ⌝ }
     ensures { λ r. ⌜ ((x : Exhaustive) → search ≡ exhaustiveOf (recordsOf network) x → r ≡ exhaustiveOf (recordsOf network) (tryMask (recordsOf network) x mask)) ⌝ }
 {
@@ -292,7 +291,7 @@ fn search(network: PowerNetwork, start: Start) -> Found
     Found {
         configuration,
         loss: done.loss,
-        iterations: done.radial,
+        iterations: done.radial_count,
         converged: true,
     }
 }

@@ -27,7 +27,7 @@ use Rattle.plan.specs.Accepted.{plan-accepted}
 use Rattle.plan.specs.Proof.{demand3}
 use Rattle.searches.specs.FromBase.{base-good}
 use Rattle.searches.specs.LiveBranches.{radial-part-same}
-use Rattle.searches.specs.SearchLaws.{Sound}
+use Rattle.searches.specs.SearchLaws.{SoundBest}
 use Rattle.exchange.specs.Exchange.{exchangeBest}
 use Rattle.exchange.specs.ExchangeLaws.{exchange-from-base, exchange-sound}
 use Rattle.tabu.specs.Tabu.{tabuBest}
@@ -37,11 +37,11 @@ use Rattle.exhaustive.specs.ExhaustiveLaws.{exhaustive-closes, exhaustive-sound
 use Rattle.reconfiguration.specs.Solve.{bestBy, best}
 
 module _ (N : Network) where
-  best-sound : Sound N (best N)
+  best-sound : SoundBest N (best N)
   unfolding best bestBy
   best-sound = go (N .algorithm)
     where
-      go : (a : ReconfigAlgorithm) → Sound N (bestBy a N)
+      go : (a : ReconfigAlgorithm) → SoundBest N (bestBy a N)
       go BranchExchange = exchange-sound N
       go TabuSearch = tabu-sound N
       go Exhaustive = exhaustive-sound N

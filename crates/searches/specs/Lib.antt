@@ -2,7 +2,9 @@ pub mod Results
 pub mod States
 pub mod SearchValues
 pub mod Given
-pub mod Found
+pub mod IfSome
+pub mod Lesser
+pub mod Rounds
 pub mod TableSets
 pub mod StateLaws
 pub mod SwitchReads

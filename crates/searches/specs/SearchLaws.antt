@@ -60,12 +60,12 @@ pub front-written : (bytes out : List ℕ) → length bytes ≡ 512 → {m n cou
 front-written bytes out long {count = count} e f w = rw (w, e, f, front bytes long count)
 
 -- what holds of every search's best: one byte 00 or 01 for each switch, the loss of its state, and radial from a radial base
-pub record Sound (N : Network) (b : Best) : Type 0 where
+pub record SoundBest (N : Network) (b : Best) : Type 0 where
   pub good : GoodState N (b .state)
   pub loses : b .loss ≡ lossIn N (b .state)
   pub radial : radialIn N (baseState N) ≡ true → radialIn N (b .state) ≡ true
 
-module _ (n : PowerNetwork) (search : Network → Best) (sound : (N : Network) → Sound N (search N)) (out : List ℕ) where
+module _ (n : PowerNetwork) (search : Network → Best) (sound : (N : Network) → SoundBest N (search N)) (out : List ℕ) where
   abbrev N : Network
   N = recordsOf n
 

@@ -44,14 +44,14 @@ pub struct Found {
 }
 
 // A search's call tests the network, then whether a slice of this length has a byte for each switch.
-pub fn check_search(network: PowerNetwork, lent: usize) -> Verdict
-    ensures { λ r. ⌜ answerOf r ≡ (checkRecords (recordsOf network) andThen checkRoom (network .«switch_count») lent) ⌝ }
+pub fn check_search(network: PowerNetwork, room: usize) -> Verdict
+    ensures { λ r. ⌜ answerOf r ≡ (checkRecords (recordsOf network) andThen checkRoom (network .«switch_count») room) ⌝ }
 {
     if let Verdict::Refused { number, place } = check(network) {
         return Verdict::Refused { number, place };
     }
     let count = wide16(network.switch_count);
-    if lent < count {
+    if room < count {
         return Verdict::Refused {
             number: 13,
             place: 0,

@@ -22,7 +22,7 @@ pub struct Start {
     pub loss: f64,
 }
 
-// It is made once a call.
+// Where every search of this network starts; made once a call.
 pub fn start_of(network: PowerNetwork) -> Start
     ensures { λ r. ⌜ r ≡ startOf network ⌝ }
 {

@@ -2,7 +2,7 @@
 use mathlib.Core.Bool.{Bool, true, false, cond, not, _&&_, _||_}
 use mathlib.Core.List.{List, [], _∷_, _++_}
 use mathlib.Core.Option.{Option, none, some}
-use Prim.Native.Nat.{ℕ, zero, suc, _-_}
+use Prim.Native.Nat.{ℕ, _-_}
 use lib.Ieee.{Float, lt}
 use lib.ListN.{length, drop}
 use Rattle.numbers.specs.UpTo.{upTo}
@@ -12,7 +12,9 @@ use Rattle.states.specs.Live.{baseState}
 use Rattle.states.specs.Switches.{State, operable, size, switch, toggled}
 use Rattle.radiality.specs.Feeder.{radialIn}
 use Rattle.losses.specs.Loss.{lossIn}
+use Rattle.searches.specs.Lesser.{lesserBy}
 use Rattle.searches.specs.Results.{Best}
+use Rattle.searches.specs.Rounds.{untilEnded}
 
 -- a move that can be made: the state after it, its loss, and the id of the switch that it moves
 pub record Move : Type 0 where
@@ -40,13 +42,16 @@ allowed N x i =
     && (not (among (switch N i .id) (x .barred)) || lt (lossIn N (toggled (x .state) i)) (x .best-loss)))
 
 -- "the least loss wins, the earlier on a tie"
-unfoldable pub lesser : Option Move → Move → Option Move
-lesser none m = some m
-lesser (some b) m = cond (lt (m .loss) (b .loss)) (some m) (some b)
+abbrev pub lesser : Option Move → Move → Option Move
+lesser = lesserBy (λ m. m .loss)
+
+-- a switch more in a round
+abbrev pub seeing : Network → Tabu → Option Move → ℕ → Option Move
+seeing N x best i = cond (allowed N x i) (lesser best (moveOf N x i)) best
 
 -- "each toggles every operable switch alone, in list order, and keeps radial results"
 unfoldable pub bestMove : Network → Tabu → Option Move
-bestMove N x = upTo (λ best i. cond (allowed N x i) (lesser best (moveOf N x i)) best) none (size N)
+bestMove N x = upTo (seeing N x) none (size N)
 
 -- "The last 7 moved ids"
 unfoldable pub lastSeven : List ℕ → List ℕ
@@ -64,14 +69,17 @@ afterMove x (some m) =
       ended = false;
     }
 
--- "up to max_iterations rounds": n more
-unfoldable pub tabuRounds : Network → ℕ → Tabu → Tabu
-tabuRounds N zero x = x
-tabuRounds N (suc n) x = elim (x .ended) [ true ↦ x | false ↦ tabuRounds N n (afterMove x (bestMove N x)) ]
+-- where it stands after a round more
+abbrev pub next : Network → Tabu → Tabu
+next N x = afterMove x (bestMove N x)
 
 -- "The answer is the base until a move's loss is strictly below the best ever"
+abbrev pub tabuStart : Network → Tabu
+tabuStart N = record { state = baseState N; best = baseState N; best-loss = lossIn N (baseState N); barred = []; ended = false }
+
+-- "up to max_iterations rounds"
 unfoldable pub tabu : Network → Tabu
-tabu N = tabuRounds N (N .iterations) (record { state = baseState N; best = baseState N; best-loss = lossIn N (baseState N); barred = []; ended = false })
+tabu N = untilEnded (λ x. x .ended) (next N) (N .iterations) (tabuStart N)
 
 -- "It reports max_iterations and converged"
 unfoldable pub tabuBest : Network → Best

@@ -3,7 +3,7 @@
 use mathlib.Core.Path.{_≡_, refl}
 use mathlib.Core.Bool.{Bool, true, false, cond}
 use mathlib.Core.Option.{Option, none, some}
-use Prim.Native.Nat.{ℕ, zero, suc}
+use Prim.Native.Nat.{ℕ}
 use lib.Ieee.{lt}
 use Rattle.numbers.specs.Tests.{both}
 use Rattle.numbers.specs.UpTo.{upTo-keeps}
@@ -12,10 +12,12 @@ use Rattle.states.specs.Live.{baseState}
 use Rattle.states.specs.Switches.{State, operable, size, toggled}
 use Rattle.radiality.specs.Feeder.{radialIn}
 use Rattle.losses.specs.Loss.{lossIn}
-use Rattle.tabu.specs.Tabu.{Move, Tabu, moveOf, allowed, lesser, bestMove, afterMove, tabuRounds, tabu, tabuBest}
-use Rattle.searches.specs.Found.{IfSome, cond-holds}
+use Rattle.tabu.specs.Tabu.{Move, Tabu, moveOf, allowed, bestMove, afterMove, next, tabuStart, tabu, tabuBest}
+use Rattle.searches.specs.IfSome.{IfSome, cond-holds}
 use Rattle.searches.specs.FromBase.{FromBase, from-base, toggled-from-base}
-use Rattle.searches.specs.SearchLaws.{Sound}
+use Rattle.searches.specs.Lesser.{lesser-holds}
+use Rattle.searches.specs.Rounds.{until-keeps}
+use Rattle.searches.specs.SearchLaws.{SoundBest}
 
 -- t is s with one operable switch moved, and it is radial
 pub record Toggle (N : Network) (s t : State) : Type 0 where
@@ -31,34 +33,21 @@ pub record MoveFrom (N : Network) (s : State) (m : Move) : Type 0 where
 
 module _ (N : Network) where
   pub bestMove-moves : (x : Tabu) → IfSome (MoveFrom N (x .state)) (bestMove N x)
-  unfolding bestMove lesser allowed
-  bestMove-moves x = upTo-keeps (λ n. IfSome P) _ none (size N) tt (λ i best l h. cond-holds P (allowed N x i) _ best (λ e. one best (moveOf N x i) h (move i e)) h)
+  unfolding bestMove allowed
+  bestMove-moves x = upTo-keeps (λ n. IfSome P) _ none (size N) tt (λ i best l h. cond-holds P (allowed N x i) _ best (λ e. lesser-holds P _ best (moveOf N x i) h (move i e)) h)
     where
       P : Move → Type 0
       P = MoveFrom N (x .state)
-
-      one : (best : Option Move) (m : Move) → IfSome P best → P m → IfSome P (lesser best m)
-      one none m h w = w
-      one (some b) m h w = cond-holds P (lt (m .loss) (b .loss)) (some m) (some b) (λ e. w) h
 
       move : (i : ℕ) → allowed N x i ≡ true → P (moveOf N x i)
       move i e =
           let p = both (operable N i) _ e in
           record { toggle = record { moved = i; operates = p .0; result = refl; radial = both (radialIn N (toggled (x .state) i)) _ (p .1) .0 }; loses = refl }
 
-  -- where the search stands after a round
-  abbrev pub next : Tabu → Tabu
-  next x = afterMove x (bestMove N x)
-
-  module _ (Q : Tabu → Type 0) (step : (x : Tabu) → x .ended ≡ false → Q x → Q (next x)) where
-    pub rounds-keep : (n : ℕ) (x : Tabu) → Q x → Q (tabuRounds N n x)
-    unfolding tabuRounds
-    rounds-keep zero x h = h
-    rounds-keep (suc n) x h = go (x .ended) refl (rounds-keep n (next x))
-      where
-        go : (b : Bool) → x .ended ≡ b → (Q (next x) → Q (tabuRounds N n (next x))) → Q (elim b [ true ↦ x | false ↦ tabuRounds N n (next x) ])
-        go true e ih = h
-        go false e ih = ih (step x e h)
+  -- what holds of the base and is kept by each round holds at the end
+  rounds-keep : (Q : Tabu → Type 0) → ((x : Tabu) → x .ended ≡ false → Q x → Q (next N x)) → Q (tabuStart N) → Q (tabu N)
+  unfolding tabu
+  rounds-keep Q step = until-keeps (λ (x : Tabu). x .ended) (next N) Q step (N .iterations) (tabuStart N)
 
   module _ (P : State → Type 0) (toggles : (s t : State) → P s → Toggle N s t → P t) where
     -- the state and the best ever
@@ -78,12 +67,11 @@ module _ (N : Network) where
         go false = h .1
 
     tabu-keeps : P (baseState N) → P (tabu N .best)
-    unfolding tabu
-    tabu-keeps h = rounds-keep Both (λ x e h. both-kept x h (bestMove N x) (bestMove-moves x)) (N .iterations) _ (h, h) .1
+    tabu-keeps h = rounds-keep Both (λ x e h. both-kept x h (bestMove N x) (bestMove-moves x)) (h, h) .1
 
   tabu-loss : tabu N .best-loss ≡ lossIn N (tabu N .best)
-  unfolding tabu afterMove
-  tabu-loss = rounds-keep (λ x. x .best-loss ≡ lossIn N (x .best)) (λ x e h. one x h (bestMove N x) (bestMove-moves x)) (N .iterations) _ refl
+  unfolding afterMove
+  tabu-loss = rounds-keep (λ x. x .best-loss ≡ lossIn N (x .best)) (λ x e h. one x h (bestMove N x) (bestMove-moves x)) refl
     where
       one : (x : Tabu) → x .best-loss ≡ lossIn N (x .best) → (found : Option Move) → IfSome (MoveFrom N (x .state)) found → afterMove x found .best-loss ≡ lossIn N (afterMove x found .best)
       one x h none w = h
@@ -97,7 +85,7 @@ module _ (N : Network) where
   pub tabu-from-base : FromBase N (tabu N .best)
   tabu-from-base = tabu-keeps (FromBase N) (λ s t h w. rw (w .result) (toggled-from-base N s h (w .moved) (w .operates))) (from-base N)
 
-  pub tabu-sound : Sound N (tabuBest N)
+  pub tabu-sound : SoundBest N (tabuBest N)
   unfolding tabuBest
   tabu-sound = record {
     good = tabu-from-base .good;

@@ -35,9 +35,10 @@ use Rattle.searches.specs.StateLaws.{byte-at, flags-listed, state-held, held, t
 use Rattle.searches.specs.SwitchReads.{SwitchAt, own-switch, own-status}
 use Rattle.searches.specs.LiveBranches.{same-radial, same-loss}
 use Rattle.searches.specs.LiveFlags.{flags-toggled}
+use Rattle.searches.specs.Lesser.{lesserBy}
 use Rattle.tabu.specs.Toggles.{toggled-unserved, toggled-radial}
-use Rattle.tabu.specs.Tabu.{Move, Tabu, moveOf, allowed, lesser}
-use Rattle.tabu.specs.TabuValues.{tabuListOf, idsOf, HeldList, candidateOf, toggledIn, seeing, tabuOf, Stands}
+use Rattle.tabu.specs.Tabu.{Move, Tabu, moveOf, allowed, lesser, seeing}
+use Rattle.tabu.specs.TabuValues.{tabuListOf, idsOf, HeldList, candidateOf, toggledIn, tabuOf, Stands}
 use Rattle.tabu.specs.TabuListLaws.{ids-held, list-held}
 
 -- ---- two candidates
@@ -45,7 +46,7 @@ module _ (c : NetworkConfiguration) where
   -- "the least loss wins, the earlier on a tie"
   pub lesser-held : (b : Option Move) (m : Move) (best candidate : Candidate) → best ≡ candidateOf c b → candidate ≡ candidateOf c (some m)
       → candidateOf c (lesser b m) ≡ cond (best .found) (cond (lt (candidate .loss) (best .loss)) candidate best) candidate
-  unfolding candidateOf lesser
+  unfolding candidateOf lesserBy
   lesser-held none m best candidate e q = rw (e, q)
   lesser-held (some k) m best candidate e q = rw (e, q) (go (lt (m .loss) (k .loss)))
     where

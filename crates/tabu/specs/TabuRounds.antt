@@ -1,9 +1,10 @@
--- The rounds of the tabu search: where the code stands, the rounds that are left lead to the answer of the definition.
+-- The rounds of the tabu search: where the code stands, the rounds that are left lead to the definition's answer.
 use mathlib.Core.Path.{_≡_, refl, sym, ap, _∙_}
 use mathlib.Core.Bool.{Bool, true, false, cond}
 use mathlib.Core.List.{List, [], _∷_, _++_}
 use mathlib.Core.Option.{Option, none, some}
-use Prim.Native.Nat.{ℕ, zero, suc, _+_, _-_, _≤_, _<_}
+use Prim.Native.Nat.{ℕ, _+_, _-_, _≤_, _<_}
+use native.Mathlib.Numerals.{add-one}
 use native.Mathlib.Omega.{arith}
 use lib.Ieee.{Float, lt}
 use lib.ListN.{length, length-drop}
@@ -20,10 +21,10 @@ use Rattle.tabu.specs.declared.tabu.Candidate.{Candidate}
 use Rattle.tabu.specs.declared.tabu.TabuSearch.{TabuSearch}
 use Rattle.searches.specs.Given.{Base}
 use Rattle.searches.specs.FromBase.{FromBase, from-base, toggled-from-base}
-use Rattle.searches.specs.Found.{IfSome}
-use Rattle.tabu.specs.Tabu.{Move, Tabu, bestMove, lastSeven, afterMove, tabuRounds, tabu}
-use Rattle.tabu.specs.TabuLaws.{MoveFrom, bestMove-moves, next}
-use Rattle.tabu.specs.TabuSettles.{tabuStart}
+use Rattle.searches.specs.IfSome.{IfSome}
+use Rattle.searches.specs.Rounds.{Left, left-all, left-ended, left-none, left-less}
+use Rattle.tabu.specs.Tabu.{Move, Tabu, bestMove, lastSeven, afterMove, next, tabuStart, tabu}
+use Rattle.tabu.specs.TabuLaws.{MoveFrom, bestMove-moves}
 use Rattle.tabu.specs.TabuValues.{tabuListOf, idsOf, candidateOf, tabuOf, Stands}
 use Rattle.tabu.specs.TabuListLaws.{ids-held}
 
@@ -85,23 +86,6 @@ module _ (N : Network) (x : Tabu) where
   keeps h s none w = (h, s)
   keeps h s (some m) w = (rw (w .toggle .result) (toggled-from-base N (x .state) h (w .toggle .moved) (w .toggle .operates)), seven-short _)
 
-  next-round : (m : ℕ) → x .ended ≡ false → tabuRounds N (suc m) x ≡ tabuRounds N m (next N x)
-  unfolding tabuRounds
-  next-round m e = go (x .ended) e
-    where
-      go : (b : Bool) → b ≡ false → elim b [ true ↦ x | false ↦ tabuRounds N m (next N x) ] ≡ tabuRounds N m (next N x)
-      go true e = clash {b = true} refl e
-      go false e = refl
-
-  no-round : (m : ℕ) → x .ended ≡ true → tabuRounds N m x ≡ x
-  unfolding tabuRounds
-  no-round zero e = refl
-  no-round (suc m) e = go (x .ended) e
-    where
-      go : (b : Bool) → b ≡ true → elim b [ true ↦ x | false ↦ tabuRounds N m (next N x) ] ≡ x
-      go true e = refl
-      go false e = clash {b = false} e refl
-
 -- ---- the base
 pub base-held : (n : PowerNetwork) (c : NetworkConfiguration) (radial : Bool) (loss : Float) (list : TabuList)
     → Base n c loss → radial ≡ radialIn (recordsOf n) (baseState (recordsOf n)) → list ≡ tabuListOf []
@@ -109,54 +93,45 @@ pub base-held : (n : PowerNetwork) (c : NetworkConfiguration) (radial : Bool) (l
 unfolding tabuOf
 base-held n c radial loss list b r l = rw (r, l, b .0, b .1)
 
--- ---- after k rounds the code's y is where the search stands, and the rounds that are left lead to its answer
+-- ---- after k rounds the code's y is where the search stands, and those that are left lead to the definition's answer
 pub record Standing (n : PowerNetwork) (k : ℕ) (y : TabuSearch) : Type 0 where
   pub at : Tabu
   pub stands : Stands n y at
-  pub within : k ≤ n .«max_iterations»
-  pub rest : tabuRounds (recordsOf n) (n .«max_iterations» - k) at ≡ tabu (recordsOf n)
+  pub left : Left (λ (x : Tabu). x .ended) (next (recordsOf n)) (n .«max_iterations») (tabu (recordsOf n)) k at
 
 module _ (n : PowerNetwork) (y : TabuSearch) where
   pub standing-base : y ≡ tabuOf (recordsOf n) (tabuStart (recordsOf n)) → Standing n 0 y
-  unfolding tabu
+  unfolding tabu recordsOf
   standing-base e =
-      let z : n .«max_iterations» - 0 ≡ recordsOf n .iterations = unfold recordsOf in omega arith in
       record {
         at = tabuStart (recordsOf n);
         stands = record { held-by = e; from-base = from-base (recordsOf n); short = omega arith };
-        within = omega arith;
-        rest = ap (λ m. tabuRounds (recordsOf n) m (tabuStart (recordsOf n))) z;
+        left = left-all _ _ _ _ (tabuStart (recordsOf n)) refl;
       }
 
   module _ (k : ℕ) (w : Standing n k y) where
-    pub standing-ended : y .ended ≡ true → y ≡ tabuOf (recordsOf n) (tabu (recordsOf n))
+    at-end : w .at ≡ tabu (recordsOf n) → y ≡ tabuOf (recordsOf n) (tabu (recordsOf n))
+    at-end e = w .stands .held-by ∙ ap (tabuOf (recordsOf n)) e
+
+    same-end : w .at .ended ≡ y .ended
     unfolding tabuOf
-    standing-ended e =
-        let held = w .stands .held-by in
-        held ∙ ap (tabuOf (recordsOf n)) (sym (no-round (recordsOf n) (w .at) _ (sym (ap (λ z. z .ended) held) ∙ e)) ∙ w .rest)
+    same-end = sym (ap (λ z. z .ended) (w .stands .held-by))
+
+    pub standing-ended : y .ended ≡ true → y ≡ tabuOf (recordsOf n) (tabu (recordsOf n))
+    standing-ended e = at-end (left-ended _ _ _ _ k (w .at) (w .left) (same-end ∙ e))
 
     pub standing-done : (k < n .«max_iterations» → ⊥) → y ≡ tabuOf (recordsOf n) (tabu (recordsOf n))
-    unfolding tabuRounds
-    standing-done d =
-        let z : n .«max_iterations» - k ≡ 0 = omega arith in
-        w .stands .held-by ∙ ap (tabuOf (recordsOf n)) (ap (λ m. tabuRounds (recordsOf n) m (w .at)) (sym z) ∙ w .rest)
+    standing-done d = at-end (left-none _ _ _ _ k (w .at) (w .left) (omega arith))
 
     pub standing-next : k < n .«max_iterations» → y .ended ≡ false → (step : Candidate) → ((x : Tabu) → Stands n y x → step ≡ candidateOf (y .configuration) (bestMove (recordsOf n) x)) → (r : TabuSearch)
         → ((N : Network) (x : Tabu) (found : Option Move) → y ≡ tabuOf N x → IfSome (MoveFrom N (x .state)) found → step ≡ candidateOf (y .configuration) found → r ≡ tabuOf N (afterMove x found))
         → Standing n (k + 1) r
-    unfolding tabuOf
     standing-next more e step s r h =
         let N = recordsOf n in
         let x = w .at in
-        let held = w .stands .held-by in
         let kept = keeps N x (w .stands .from-base) (w .stands .short) (bestMove N x) (bestMove-moves N x) in
-        let z : n .«max_iterations» - k ≡ suc (n .«max_iterations» - (k + 1)) = omega arith in
         record {
           at = next N x;
-          stands = record { held-by = h N x (bestMove N x) held (bestMove-moves N x) (s x (w .stands)); from-base = kept .0; short = kept .1 };
-          within = omega arith;
-          rest =
-              sym (next-round N x _ (sym (ap (λ v. v .ended) held) ∙ e))
-              ∙ ap (λ m. tabuRounds N m x) (sym z)
-              ∙ w .rest;
+          stands = record { held-by = h N x (bestMove N x) (w .stands .held-by) (bestMove-moves N x) (s x (w .stands)); from-base = kept .0; short = kept .1 };
+          left = rw (add-one k) (left-less _ _ _ _ k x (w .left) more (same-end ∙ e));
         }

@@ -3,7 +3,6 @@
 use mathlib.Core.Path.{_≡_, refl, sym, ap, _∙_}
 use mathlib.Core.Logic.{_⊎_, inl, inr}
 use mathlib.Core.Bool.{Bool, true, false, cond}
-use mathlib.Core.List.{[]}
 use mathlib.Core.Option.{Option, none, some}
 use Prim.Native.Nat.{ℕ, zero, suc, _<_}
 use native.Mathlib.Omega.{arith}
@@ -15,15 +14,13 @@ use Rattle.states.specs.Live.{baseState}
 use Rattle.states.specs.Switches.{toggled}
 use Rattle.radiality.specs.Feeder.{radialIn}
 use Rattle.losses.specs.Loss.{lossIn}
-use Rattle.tabu.specs.Tabu.{Move, Tabu, bestMove, afterMove, tabuRounds, tabu}
-use Rattle.searches.specs.Found.{IfSome}
+use Rattle.tabu.specs.Tabu.{Move, Tabu, bestMove, afterMove, next, tabuStart, tabu}
+use Rattle.searches.specs.IfSome.{IfSome}
 use Rattle.searches.specs.Floats.{lt-self}
 use Rattle.searches.specs.LiveBranches.{same-loss}
+use Rattle.searches.specs.Rounds.{untilEnded, until-keeps}
 use Rattle.tabu.specs.Toggles.{toggled-same}
-use Rattle.tabu.specs.TabuLaws.{Toggle, MoveFrom, bestMove-moves, next, rounds-keep}
-
-abbrev pub tabuStart : Network → Tabu
-tabuStart N = record { state = baseState N; best = baseState N; best-loss = lossIn N (baseState N); barred = []; ended = false }
+use Rattle.tabu.specs.TabuLaws.{Toggle, MoveFrom, bestMove-moves}
 
 -- the same answer so far
 abbrev pub SameBest : Tabu → Tabu → Type 0
@@ -59,8 +56,8 @@ module _ (N : Network) where
             let e : lossIn N (x .state) ≡ m .loss = same-loss N (x .state) (toggled (x .state) (t .moved)) (toggled-same N inside (x .state) r (t .moved) (rw (t .result) at (t .radial))) ∙ sym (w .loses ∙ ap (lossIn N) (t .result)) in
             rw e at n
 
-    stays-settled : (n : ℕ) (x : Tabu) → Settled x → SameBest (tabuRounds N n x) x
-    stays-settled n x h = rounds-keep N (λ y. SameBest y x × Settled y) (λ y e q. one y e (q .0) (q .1)) n x ((refl, refl), h) .0
+    stays-settled : (n : ℕ) (x : Tabu) → Settled x → SameBest (untilEnded (λ y. y .ended) (next N) n x) x
+    stays-settled n x h = until-keeps (λ (y : Tabu). y .ended) (next N) (λ y. SameBest y x × Settled y) (λ y e q. one y e (q .0) (q .1)) n x ((refl, refl), h) .0
       where
         one : (y : Tabu) → y .ended ≡ false → SameBest y x → Settled y → SameBest (next N y) x × Settled (next N y)
         one y e b (inl t) = clash t e
@@ -70,9 +67,9 @@ module _ (N : Network) where
 
     -- rounds after the first leave the answer as it is
     pub tabu-one-round : 0 < N .iterations → SameBest (tabu N) (next N (tabuStart N))
-    unfolding tabu
+    unfolding tabu untilEnded
     tabu-one-round l = go (N .iterations) l
       where
-        go : (n : ℕ) → 0 < n → SameBest (tabuRounds N n (tabuStart N)) (next N (tabuStart N))
+        go : (n : ℕ) → 0 < n → SameBest (untilEnded (λ y. y .ended) (next N) n (tabuStart N)) (next N (tabuStart N))
         go zero l = absurd (omega arith)
-        go (suc n) l = unfold tabuRounds in stays-settled n (next N (tabuStart N)) (settles (tabuStart N) (bestMove N (tabuStart N)) (bestMove-moves N (tabuStart N)))
+        go (suc n) l = stays-settled n (next N (tabuStart N)) (settles (tabuStart N) (bestMove N (tabuStart N)) (bestMove-moves N (tabuStart N)))

@@ -1,6 +1,6 @@
 -- The values by which the code holds where the tabu search stands and what it finds.
 use mathlib.Core.Path.{_≡_}
-use mathlib.Core.Bool.{true, false, cond}
+use mathlib.Core.Bool.{true, false}
 use mathlib.Core.List.{List}
 use mathlib.Core.Option.{Option, none, some}
 use Prim.Native.Nat.{ℕ, _≤_}
@@ -17,7 +17,7 @@ use Rattle.tabu.specs.declared.tabu_list.TabuList.{TabuList}
 use Rattle.tabu.specs.declared.tabu.Candidate.{Candidate}
 use Rattle.tabu.specs.declared.tabu.TabuSearch.{TabuSearch}
 use Rattle.states.specs.Switches.{toggled}
-use Rattle.tabu.specs.Tabu.{Move, Tabu, moveOf, allowed, lesser}
+use Rattle.tabu.specs.Tabu.{Move, Tabu}
 use Rattle.searches.specs.FromBase.{FromBase}
 
 -- ---- the barred ids
@@ -42,10 +42,6 @@ candidateOf c (some m) = record { found = true; configuration = configurationOf 
 -- switch i toggled
 abbrev pub toggledIn : NetworkConfiguration → ℕ → NetworkConfiguration
 toggledIn c i = record { switches = toggled (c .switches) i }
-
--- a switch more in a round
-abbrev pub seeing : Network → Tabu → Option Move → ℕ → Option Move
-seeing N x best i = cond (allowed N x i) (lesser best (moveOf N x i)) best
 
 -- ---- where the search stands
 unfoldable pub tabuOf : Network → Tabu → TabuSearch

@@ -20,10 +20,10 @@ use Rattle.searches.specs.StateLaws.{flags-listed, held-bytes, swapped-held}
 use Rattle.searches.specs.StateRows.{flags-loss}
 use Rattle.states.specs.Switches.{size, swapped}
 use Rattle.searches.specs.SwitchReads.{SwitchAt, on-branch, switch-read}
-use Rattle.exchange.specs.Exchange.{roundOf}
+use Rattle.exchange.specs.Exchange.{seeing, roundOf}
 use Rattle.exchange.specs.ExchangeSwaps.{sections-long}
 use Rattle.exchange.specs.ExchangeTrials.{Tried, tie-tried, tried-flags, seen-read, see-unseen, see-none, see-tried}
-use Rattle.exchange.specs.ExchangeValues.{trialOf, seeing}
+use Rattle.exchange.specs.ExchangeValues.{trialOf}
 use Rattle.exchange.proofs.exchange.branch_exchange_step.Statement.{statement}
 use Rattle.exchange.proofs.exchange.branch_exchange_step.Tie as tie
 

@@ -14,10 +14,10 @@ use Rattle.network.proofs.bus.Bus.{the-type}
 use Rattle.radiality.specs.Feeder.{radialIn}
 use Rattle.radiality.specs.FeederRows.{liveFlags}
 use Rattle.searches.specs.StateRows.{flags-radial}
-use Rattle.exhaustive.specs.Exhaustive.{masked, tryMask, exhaustive}
+use Rattle.exhaustive.specs.Exhaustive.{masked, noMask, tryMask, exhaustive}
 use Rattle.exhaustive.specs.ExhaustiveMasks.{ten-ties}
 use Rattle.exhaustive.specs.ExhaustiveTies.{ties-on, masked-flags}
-use Rattle.exhaustive.specs.ExhaustiveTrials.{noMask, mask-passed, radial-room}
+use Rattle.exhaustive.specs.ExhaustiveTrials.{mask-passed, radial-room}
 use Rattle.exhaustive.specs.ExhaustiveValues.{tiesOf, closedBy, exhaustiveOf}
 use Rattle.exhaustive.proofs.exhaustive.exhaustive_masks.Statement.{statement}
 use Rattle.exhaustive.proofs.exhaustive.exhaustive_masks.Tie as tie

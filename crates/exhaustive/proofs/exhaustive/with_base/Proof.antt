@@ -3,7 +3,8 @@ use mathlib.Core.Path.{sym, ap, _∙_}
 use borrow.Author.Needs.{needs}
 use Rattle.states.specs.Live.{baseState}
 use Rattle.network.specs.Records.{recordsOf}
-use Rattle.exhaustive.specs.ExhaustiveTrials.{noMask, none-tried, base-passed, base-radial}
+use Rattle.exhaustive.specs.Exhaustive.{noMask}
+use Rattle.exhaustive.specs.ExhaustiveTrials.{none-tried, base-passed, base-radial}
 use Rattle.exhaustive.specs.ExhaustiveValues.{exhaustiveOf}
 use Rattle.exhaustive.proofs.exhaustive.with_base.Statement.{statement}
 use Rattle.exhaustive.proofs.exhaustive.with_base.Tie as tie

@@ -4,8 +4,8 @@ use Rattle.exhaustive.specs.ExhaustiveTrials.{radial-least, radial-kept}
 use Rattle.exhaustive.proofs.exhaustive.with_radial.Statement.{statement}
 use Rattle.exhaustive.proofs.exhaustive.with_radial.Tie as tie
 
-add-radial : tie.Need-add-radial
-add-radial c = search needs
+add-radial-count : tie.Need-add-radial-count
+add-radial-count c = search needs
 
 is-least-requires : tie.Need-is-least-requires
 is-least-requires c κs = search needs
@@ -17,4 +17,4 @@ returns-2 : tie.Need-returns-2
 returns-2 c = λ N x s e h. radial-kept N x _ e (record { state = s; loss = _ }) _ (c .before .is-least .ensures) (c .if1 .left)
 
 pub with-radial-spec : {M : Type 1} → statement M
-with-radial-spec = tie.close (tie.spec add-radial is-least-requires returns returns-2)
+with-radial-spec = tie.close (tie.spec add-radial-count is-least-requires returns returns-2)

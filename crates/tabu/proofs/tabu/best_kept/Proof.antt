@@ -14,9 +14,9 @@ use Rattle.network.proofs.branch.Branch.{the-type}
 use Rattle.states.specs.Listed.{few-switches, switches-listed}
 use Rattle.states.specs.Switches.{size}
 use Rattle.searches.specs.SwitchReads.{SwitchAt, on-branch, switch-read}
-use Rattle.tabu.specs.Tabu.{Tabu, bestMove}
+use Rattle.tabu.specs.Tabu.{Tabu, seeing, bestMove}
 use Rattle.tabu.specs.TabuMoves.{seen-more, see-unmoved, see-kept}
-use Rattle.tabu.specs.TabuValues.{candidateOf, seeing, Stands}
+use Rattle.tabu.specs.TabuValues.{candidateOf, Stands}
 use Rattle.tabu.proofs.tabu.best_kept.Statement.{statement}
 use Rattle.tabu.proofs.tabu.best_kept.Tie as tie
 

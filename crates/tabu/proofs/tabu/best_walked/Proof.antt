@@ -16,9 +16,9 @@ use Rattle.states.specs.Listed.{few-switches, switches-listed}
 use Rattle.searches.specs.StateRows.{flags-radial, flags-loss}
 use Rattle.states.specs.Switches.{size, toggled}
 use Rattle.searches.specs.SwitchReads.{SwitchAt, on-branch, switch-read}
-use Rattle.tabu.specs.Tabu.{Tabu, bestMove}
+use Rattle.tabu.specs.Tabu.{Tabu, seeing, bestMove}
 use Rattle.tabu.specs.TabuMoves.{seen-more, see-loops, see-unconnected, see-walked, toggled-flags}
-use Rattle.tabu.specs.TabuValues.{candidateOf, seeing, Stands}
+use Rattle.tabu.specs.TabuValues.{candidateOf, Stands}
 use Rattle.tabu.proofs.tabu.best_walked.Statement.{statement}
 use Rattle.tabu.proofs.tabu.best_walked.Tie as tie
 
