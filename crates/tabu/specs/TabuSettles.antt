@@ -73,3 +73,8 @@ module _ (N : Network) where
         go : (n : ℕ) → 0 < n → SameBest (untilEnded (λ y. y .ended) (next N) n (tabuStart N)) (next N (tabuStart N))
         go zero l = absurd (omega arith)
         go (suc n) l = stays-settled n (next N (tabuStart N)) (settles (tabuStart N) (bestMove N (tabuStart N)) (bestMove-moves N (tabuStart N)))
+
+    -- from a radial base every round does
+    pub tabu-of-radial : radialIn N (baseState N) ≡ true → SameBest (tabu N) (tabuStart N)
+    unfolding tabu
+    tabu-of-radial r = stays-settled (N .iterations) (tabuStart N) (inr (r, lt-self (lossIn N (baseState N))))
