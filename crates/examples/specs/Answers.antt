@@ -48,7 +48,8 @@ unfolding radialIn feeder position radial walk walkBy turn enterAll enter reache
 triangle-radial = refl
 
 triangle-has-plan : SwitchingPlan triangle (baseState triangle) (best triangle .state)
-triangle-has-plan = search-has-plan triangle (claim .passed triangleText triangle triangle-read) triangle-radial
+unfolding best
+triangle-has-plan = search-has-plan triangle (triangle .algorithm) (claim .passed triangleText triangle triangle-read) triangle-radial
 
 -- 1 to 2 is a reduction of -100 percent; of 1e-12 there is none
 reductions :

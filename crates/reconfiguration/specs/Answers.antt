@@ -36,17 +36,50 @@ use Rattle.exhaustive.specs.Exhaustive.{exhaustiveBest}
 use Rattle.exhaustive.specs.ExhaustiveLaws.{exhaustive-closes, exhaustive-sound}
 use Rattle.reconfiguration.specs.Solve.{bestBy, best}
 
+-- ---- of the answer of any search, whichever the head asks for. `exhaustive_solve` of another head checks and answers for the network that asks for method 02: take that
+-- for N
 module _ (N : Network) where
-  best-sound : SoundBest N (best N)
-  unfolding best bestBy
-  best-sound = go (N .algorithm)
-    where
-      go : (a : ReconfigAlgorithm) → SoundBest N (bestBy a N)
-      go BranchExchange = exchange-sound N
-      go TabuSearch = tabu-sound N
-      go Exhaustive = exhaustive-sound N
+  -- it has one byte 00 or 01 for each switch and the loss of its state, and from a radial base it is radial
+  pub search-sound : (a : ReconfigAlgorithm) → SoundBest N (bestBy a N)
+  unfolding bestBy
+  search-sound BranchExchange = exchange-sound N
+  search-sound TabuSearch = tabu-sound N
+  search-sound Exhaustive = exhaustive-sound N
 
-  -- ---- of every answer
+  module _ (r : radialIn N (baseState N) ≡ true) where
+    -- from a radial base the switches that a plan moves are operable
+    search-free : (a : ReconfigAlgorithm) → Inside N → Free N (baseState N) (bestBy a N .state)
+    unfolding bestBy exchangeBest tabuBest exhaustiveBest
+    search-free BranchExchange inside = λ i l n d. exchange-from-base N .moved i n
+    search-free TabuSearch inside = λ i l n d. tabu-from-base N .moved i n
+    search-free Exhaustive inside = λ i l n d. let h = exhaustive-closes N in absurd (d (radial-part-same N inside (baseState N) _ r (h .radial r) (h .more) (branchOf N i)))
+
+-- planned for a search's answer from a radial base, no refusal comes before 13
+pub searches-have-plans : (N : Network) (a : ReconfigAlgorithm) → checkRecords N ≡ accepted tt → radialIn N (baseState N) ≡ true
+    → checkPlan N (baseState N) (bestBy a N .state) ≡ accepted tt
+searches-have-plans N a ok r =
+    let sound = search-sound N a in
+    plan-accepted N (baseState N) (bestBy a N .state) .1 (ok, base-good N, sound .good, r, sound .radial r, search-free N r a (check-inside N .0 ok))
+
+-- so a search's answer from a radial base has a plan, and all of demand 3 holds of it
+pub search-has-plan : (N : Network) (a : ReconfigAlgorithm) → checkRecords N ≡ accepted tt → radialIn N (baseState N) ≡ true
+    → SwitchingPlan N (baseState N) (bestBy a N .state)
+search-has-plan N a ok r = demand3 N (baseState N) (bestBy a N .state) (searches-have-plans N a ok r)
+
+-- the planner's call for it: 13 where the lent slice is shorter than the plan's lines, else the plan
+pub only-13 : (N : Network) (a : ReconfigAlgorithm) → checkRecords N ≡ accepted tt → radialIn N (baseState N) ≡ true → (out : List ℕ)
+    → let moves = plan N (baseState N) (bestBy a N .state) in
+    planned N (baseState N) (bestBy a N .state) out
+    ≡ cond (ltb (length out) (length (planText moves))) (record { answer = refused 13 0; out = out }) (record { answer = accepted (length moves); out = written (planText moves) out })
+unfolding planned
+only-13 N a ok r out = let moves = plan N (baseState N) (bestBy a N .state) in call-passed (length moves) (planText moves) out (searches-have-plans N a ok r)
+
+-- ---- of `solve`'s answer, that of the search that the head asks for
+module _ (N : Network) where
+  pub best-sound : SoundBest N (best N)
+  unfolding best
+  best-sound = search-sound N (N .algorithm)
+
   -- it has one byte 00 or 01 for each switch
   pub best-good : GoodState N (best N .state)
   best-good = best-sound .good
@@ -55,34 +88,6 @@ module _ (N : Network) where
   pub best-loss : best N .loss ≡ lossIn N (best N .state)
   best-loss = best-sound .loses
 
-  -- ---- of every answer from a radial base
-  module _ (r : radialIn N (baseState N) ≡ true) where
-    -- it is radial
-    pub best-radial : radialIn N (best N .state) ≡ true
-    best-radial = best-sound .radial r
-
-    -- the switches that a plan moves are operable
-    pub best-free : Inside N → Free N (baseState N) (best N .state)
-    unfolding best bestBy exchangeBest tabuBest exhaustiveBest
-    best-free inside = go (N .algorithm)
-      where
-        go : (a : ReconfigAlgorithm) → Free N (baseState N) (bestBy a N .state)
-        go BranchExchange = λ i l n d. exchange-from-base N .moved i n
-        go TabuSearch = λ i l n d. tabu-from-base N .moved i n
-        go Exhaustive = λ i l n d. let h = exhaustive-closes N in absurd (d (radial-part-same N inside (baseState N) _ r (h .radial r) (h .more) (branchOf N i)))
-
--- planned for a search's answer from a radial base, no refusal comes before 13
-pub answers-have-plans : (N : Network) → checkRecords N ≡ accepted tt → radialIn N (baseState N) ≡ true → checkPlan N (baseState N) (best N .state) ≡ accepted tt
-answers-have-plans N a r = plan-accepted N (baseState N) (best N .state) .1 (a, base-good N, best-good N, r, best-radial N r, best-free N r (check-inside N .0 a))
-
--- so a search's answer from a radial base has a plan, and all of demand 3 holds of it
-pub search-has-plan : (N : Network) → checkRecords N ≡ accepted tt → radialIn N (baseState N) ≡ true → SwitchingPlan N (baseState N) (best N .state)
-search-has-plan N a r = demand3 N (baseState N) (best N .state) (answers-have-plans N a r)
-
--- the planner's call for it: 13 where the lent slice is shorter than the plan's lines, else the plan
-pub only-13 : (N : Network) → checkRecords N ≡ accepted tt → radialIn N (baseState N) ≡ true → (out : List ℕ)
-    → let moves = plan N (baseState N) (best N .state) in
-    planned N (baseState N) (best N .state) out
-    ≡ cond (ltb (length out) (length (planText moves))) (record { answer = refused 13 0; out = out }) (record { answer = accepted (length moves); out = written (planText moves) out })
-unfolding planned
-only-13 N a r out = let moves = plan N (baseState N) (best N .state) in call-passed (length moves) (planText moves) out (answers-have-plans N a r)
+  pub answers-have-plans : checkRecords N ≡ accepted tt → radialIn N (baseState N) ≡ true → checkPlan N (baseState N) (best N .state) ≡ accepted tt
+  unfolding best
+  answers-have-plans = searches-have-plans N (N .algorithm)
