@@ -28,9 +28,10 @@ use Rattle.plan.specs.Plannable.{Free}
 use Rattle.states.specs.Listed.{state-accepted}
 use Rattle.plan.specs.Accepted.{plan-accepted}
 use Rattle.plan.specs.Length as PlanLength
-use Rattle.searches.specs.Results.{solvedBy}
+use Rattle.searches.specs.Results.{Best, resultBy, solvedBy}
+use Rattle.searches.specs.SearchLaws.{SoundBest}
 use Rattle.reconfiguration.specs.Solve.{best, result, solved}
-use Rattle.reconfiguration.specs.Answers.{best-good}
+use Rattle.reconfiguration.specs.Answers.{best-sound}
 use Rattle.operations.specs.Operations.{operations, operationsText, operationsCall}
 use Rattle.operations.specs.OperationLines as Operations
 use Rattle.answers.specs.Printing.{networkText, printedOf, printed, answeredText}
@@ -58,13 +59,19 @@ module _ (N : Network) (inside : Inside N) where
   pub loss-in-full : (s : State) → GoodState N s → (checkRecords N andThen checkState N s 0 andThen accepted (lossIn N s)) ≡ accepted (lossIn N s)
   loss-in-full s good = answered s good (lossIn N s)
 
-  -- `solve`: a byte for each switch
+  -- a search: a byte for each switch
+  pub searched-in-full : (search : Network → Best) → SoundBest N (search N) → (out : List ℕ) → length (N .switches) ≤ length out
+      → solvedBy search N out ≡ record { answer = accepted (resultBy search N); out = search N .state ++ drop (length (N .switches)) out }
+  unfolding solvedBy
+  searched-in-full search sound out room =
+      let long : length (search N .state) ≡ length (N .switches) = sound .good .long in
+      in-full (resultBy search N) (search N .state) out checked (rw long room) ∙ rw long
+
+  -- `solve`
   pub solved-in-full : (out : List ℕ) → length (N .switches) ≤ length out
       → solved N out ≡ record { answer = accepted (result N); out = best N .state ++ drop (length (N .switches)) out }
-  unfolding solved solvedBy result
-  solved-in-full out room =
-      let long : length (best N .state) ≡ length (N .switches) = best-good N .long in
-      in-full (result N) (best N .state) out checked (rw long room) ∙ rw long
+  unfolding solved result
+  solved-in-full = searched-in-full best (best-sound N)
 
   -- `compute_switch_operations`: 9 bytes for each operation
   pub operations-in-full : (from to : State) → GoodState N from → GoodState N to → (out : List ℕ)
