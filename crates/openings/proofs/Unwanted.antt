@@ -1,20 +1,16 @@
 -- The first unwanted branch of a path, as a loop finds it: the first i branches of the path are wanted.
 use mathlib.Core.Path.{_≡_, refl, sym, ap, _∙_}
-use mathlib.Core.Bool.{Bool, true, false, cond}
-use mathlib.Core.List.{List, [], _∷_, reverse}
-use Prim.Native.Nat.{ℕ, zero, suc, _+_, _*_, _≤_, _<_}
+use mathlib.Core.Bool.{Bool, true, false}
+use mathlib.Core.List.{List, _∷_}
+use Prim.Native.Nat.{ℕ, _+_, _≤_, _<_}
 use native.Mathlib.Numerals.{add-one}
 use native.Mathlib.Omega.{arith}
-use lib.ListN.{length, getD, drop, drop-of-length-le, List·getD-append, List·getD-eq-default}
+use lib.ListN.{length, getD, drop, drop-of-length-le, List·getD-append}
 use lib.Seq.{drop-cons}
-use borrow.Author.Tests.{eq-eqb}
 use Rattle.numbers.specs.Choose.{firstOf}
 use Rattle.graph.specs.declared.walks.Path.{Path}
-use Rattle.graph.specs.declared.rows.Graph.{Graph}
-use Rattle.graph.specs.Graph.{Net}
-use Rattle.graph.specs.Walk.{Visit, walkBy, reached, back}
-use Rattle.graph.specs.Rows.{flag, filled, pathOf, rowNeighbours, rowNet, rowPath}
-use Rattle.openings.specs.Opening.{firstUnwanted, rowOpening}
+use Rattle.graph.specs.Rows.{flag, filled, pathOf}
+use Rattle.openings.specs.Opening.{firstUnwanted}
 
 module _ (path : Path) (wanted : List Bool) where
   pub record Wanted (i : ℕ) : Type 0 where
