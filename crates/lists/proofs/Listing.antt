@@ -11,6 +11,7 @@ use lib.ListN.{length, getD, set, replicate, length-append, length-set}
 use lib.Seq.{getD-set-same, getD-set-other, getD-append-seam}
 use Rattle.numbers.specs.UpTo.{upTo, table}
 use Rattle.numbers.specs.TableLaws.{length-table, getD-table, table-more, as-table, table-cong, replicate-table, filled, filled-more}
+use Rattle.graph.specs.declared.rows.Graph.{Graph}
 use Rattle.graph.specs.Walk.{Visit, enter, enterAll}
 use Rattle.graph.specs.Visits.{visit, busesOf}
 use Rattle.graph.specs.Rows.{rowFrom, leads, rowLeads}
@@ -126,9 +127,10 @@ module _ (far first next : List ℕ) (live : List Bool) where
         let w : Listing (listsTo row (u + 1)) near′ end′ = rw more (step (listsTo row u) (r .listing)) in
         record { listing = w; begins = rw (r .begins, w .ends) (filled-more (startOf row) 0 257 (u + 1) (omega arith)) }
 
-    pub all-rowed : (n : ℕ) → u ≡ n → _≡_ {A = LiveLists} (record { at = at; near = near }) (liveLists far first next live n)
-    unfolding liveLists listsOf
-    all-rowed n e = rw (r .begins, r .listing .entries, e)
+pub all-rowed : (g : Graph) (live : List Bool) {at near : List ℕ} {end u : ℕ} → Rowing (g .far) (g .first) (g .next) live at near end u → u ≡ min (g .«bus_count») 256
+    → _≡_ {A = LiveLists} (record { at = at; near = near }) (liveLists g live)
+unfolding liveLists listsOf
+all-rowed g live r e = rw (r .begins, r .listing .entries, e)
 
 -- ---- a list entered
 enter-last : (barred : ℕ) (l o : List Visit) (v : Visit) → enterAll barred o (l ++ (v ∷ [])) ≡ enter barred (enterAll barred o l) v

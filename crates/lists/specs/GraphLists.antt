@@ -116,12 +116,13 @@ module _ (n m : ℕ) (from to : List ℕ) (live : List Bool) (few : n ≤ 256) (
 
   -- ---- the walk
   abbrev lists : LiveLists
-  lists = liveLists (graphOf n m from to .far) (graphOf n m from to .first) (graphOf n m from to .next) live n
+  lists = liveLists (graphOf n m from to) live
 
   pub list-walk-is-walk : Sound (netOf n m from to) → (start barred : ℕ) → start < n
       → walkBy (listed (lists .at) (lists .near)) start barred ≡ map forget (walk (netOf n m from to) (flag live) start barred)
-  unfolding liveLists walk
+  unfolding liveLists walk graphOf
   list-walk-is-walk sound start barred l =
+      let all : min n 256 ≡ n = omega arith in
       let small : (u : ℕ) → u < n → Small n (neighbours (netOf n m from to) (flag live) u) = λ u k. small-neighbours n m from to live n sound u in
-      list-walk next n few graph-room (λ u k. rw (same u k) (small u k)) start barred l
+      rw all (list-walk next n few graph-room (λ u k. rw (same u k) (small u k)) start barred l)
       ∙ ap (map forget) (same-walk n next (neighbours (netOf n m from to) (flag live)) same small start barred l)

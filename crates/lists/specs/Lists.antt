@@ -9,10 +9,11 @@ use lib.ListN.{length, getD}
 use Rattle.numbers.specs.Constants.{zero64}
 use Rattle.numbers.specs.UpTo.{upTo, table}
 use Rattle.numbers.specs.TableLaws as tables
+use Rattle.graph.specs.declared.rows.Graph.{Graph}
 use Rattle.graph.specs.Walk.{Visit, startAt}
 use Rattle.graph.specs.Walking.{Walking}
 use Rattle.graph.specs.Visits.{visit, busesOf}
-use Rattle.graph.specs.Rows.{filled, rowLeads}
+use Rattle.graph.specs.Rows.{filled, rowNeighbours}
 use Rattle.lists.specs.declared.lists.LiveLists.{LiveLists}
 
 -- the lists of the first n buses, one behind the other
@@ -31,9 +32,9 @@ startOf near u = min (length (listsTo near u)) 1024
 unfoldable pub listsOf : (ℕ → List ℕ) → ℕ → LiveLists
 listsOf near n = record { at = tables.filled (startOf near) 0 257 (n + 1); near = arrayOf (listsTo near n) }
 
--- the lists of n buses, read off their rows
-unfoldable pub liveLists : List ℕ → List ℕ → List ℕ → List Bool → ℕ → LiveLists
-liveLists far first next live n = listsOf (λ u. busesOf (rowLeads far first next live u)) n
+-- the lists of a graph's buses, read off its rows
+unfoldable pub liveLists : Graph → List Bool → LiveLists
+liveLists g live = listsOf (λ u. busesOf (rowNeighbours g live u)) (min (g .«bus_count») 256)
 
 -- a visit without its branch: 0 stands there
 abbrev pub forget : Visit → Visit

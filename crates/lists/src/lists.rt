@@ -2,11 +2,12 @@
 // The neighbours of each bus by live branches, one list behind the other in one array: for callers that walk often over the same live branches.
 ghost use mathlib.Core.Path.{_≡_};
 ghost use mathlib.Core.List.{List, _++_};
-ghost use Prim.Native.Nat.{ℕ, min};
+ghost use Prim.Native.Nat.{ℕ};
 ghost use Rattle.graph.specs.Walk.{Visit, walkBy, enter, enterAll};
 ghost use Rattle.graph.specs.Rows.{rowFrom, leads};
 ghost use Rattle.graph.specs.Visits.{visit, busesOf};
 ghost use Rattle.lists.specs.Lists.{Listing, Reaching, listLive, liveLists, listed, busLoad};
+use graph::rows::Graph;
 use numbers::at_most;
 use numbers::wide8;
 use numbers::wide16;
@@ -61,22 +62,19 @@ fn list_row(
 }
 
 // The lists of the buses, read off their rows. What is behind 1,024 entries has no room; every graph that Graph::new made has room for all.
-pub fn live_lists(
-    far: &[u8; 1024],
-    first: &[u16; 256],
-    next: &[u16; 1024],
-    live: &[bool; 512],
-    bus_count: u16,
-) -> LiveLists
-    ensures { λ r. ⌜ r ≡ liveLists (now (far .entry)) (now (first .entry)) (now (next .entry)) (now (live .entry)) (min «bus_count» 256) ⌝ }
+pub fn live_lists(graph: Graph, live: &[bool; 512]) -> LiveLists
+    ensures { λ r. ⌜ r ≡ liveLists graph (now (live .entry)) ⌝ }
 {
-    let n = at_most(wide16(bus_count), 256);
+    let n = at_most(wide16(graph.bus_count), 256);
+    let far = graph.far;
+    let first = graph.first;
+    let next = graph.next;
     let mut at = [0u16; 257];
     let mut near = [0u8; 1024];
     let mut end = 0u16;
     let mut u = 0usize;
     while u < n {
-        end = list_row(far, next, live, first[u], &mut near, end);
+        end = list_row(&far, &next, live, first[u], &mut near, end);
         u += 1;
         at[u] = end;
     }

@@ -51,7 +51,7 @@ module _ (g : Graph) (loads : List Power) (branches : List Branch) (base : Float
   loss-none e = rw (eq-eqb (g .«bus_count») 0 e)
 
   pub loss-all : (k : ℕ) (t : Float) (lists : LiveLists) (mw : List Float) → (g .«bus_count» ≡ 0 → ⊥) → k ≡ min (g .«branch_count») (length live)
-      → lists ≡ liveLists (g .far) (g .first) (g .next) live (min (g .«bus_count») 256) → mw ≡ megawattsOf loads
+      → lists ≡ liveLists g live → mw ≡ megawattsOf loads
       → t ≡ listTotal lists (g .far) mw live branches base k → t ≡ listLoss g loads branches base live
   unfolding listLoss listTotal totalOf
   loss-all k t lists mw n e l same p =

@@ -2,7 +2,7 @@
 -- FeederLoss shows that over the graph of an accepted feeder it is document 01's loss.
 use mathlib.Core.Bool.{Bool, cond}
 use mathlib.Core.List.{List, map}
-use Prim.Native.Nat.{ℕ, _+_, _*_, min}
+use Prim.Native.Nat.{ℕ, _+_, _*_}
 use lib.Dec.{eqb}
 use lib.ListN.{getD}
 use lib.Ieee.{Float}
@@ -37,8 +37,7 @@ listTotal lists far mw live branches base n = totalOf (flag live) (λ k. getD br
 
 unfoldable pub listLoss : Graph → List Power → List Branch → Float → List Bool → Float
 listLoss g loads branches base live =
-    let lists = liveLists (g .far) (g .first) (g .next) live (min (g .«bus_count») 256) in
-    cond (eqb (g .«bus_count») 0) zero64 (listTotal lists (g .far) (megawattsOf loads) live branches base (g .«branch_count»))
+    cond (eqb (g .«bus_count») 0) zero64 (listTotal (liveLists g live) (g .far) (megawattsOf loads) live branches base (g .«branch_count»))
 
 -- the loads of 256 buses
 abbrev pub loadsAt : List Bus → List Power

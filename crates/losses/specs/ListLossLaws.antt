@@ -2,7 +2,7 @@
 use mathlib.Core.Path.{_≡_, refl, ap, _∙_}
 use mathlib.Core.Bool.{Bool, true, cond}
 use mathlib.Core.List.{List, map}
-use Prim.Native.Nat.{ℕ, _<_, _≤_, min}
+use Prim.Native.Nat.{ℕ, _<_, _≤_}
 use native.Mathlib.Omega.{arith}
 use lib.Dec.{eqb}
 use lib.Ieee.{Float, nan}
@@ -30,7 +30,7 @@ load-forget mw o = rw length-map (upTo-cong _ _ zero64 (length o) (λ t i l. rw 
 
 module _ (n m : ℕ) (from to : List ℕ) (live : List Bool) (few : n ≤ 256) (short : length live ≤ 512) (sound : Sound (netOf n m from to)) where
   abbrev lists : LiveLists
-  lists = liveLists (graphOf n m from to .far) (graphOf n m from to .first) (graphOf n m from to .next) live n
+  lists = liveLists (graphOf n m from to) live
 
   load-behind : (mw : List Float) (k : ℕ) → k < m → flag live k ≡ true
       → loadBehind lists (graphOf n m from to .far) mw k ≡ walkLoad (λ b. getD mw b nan) (downstream (netOf n m from to) (flag live) k)
@@ -43,6 +43,4 @@ module _ (n m : ℕ) (from to : List ℕ) (live : List Bool) (few : n ≤ 256) (
       → listLoss (graphOf n m from to) loads branches base live ≡ loss (netOf n m from to) (flag live) (λ b. getD (megawattsOf loads) b nan) (λ k. getD branches k noBranch .r) base
   unfolding listLoss listTotal loss graphOf
   list-loss loads branches base =
-      let all : min n 256 ≡ n = omega arith in
-      rw all
-      (ap (λ t. cond (eqb n 0) zero64 t) (total-same (flag live) (flag live) _ _ _ _ base m (λ k h. refl) (λ k h. refl) (λ k h e. load-behind (megawattsOf loads) k h e)))
+      ap (λ t. cond (eqb n 0) zero64 t) (total-same (flag live) (flag live) _ _ _ _ base m (λ k h. refl) (λ k h. refl) (λ k h e. load-behind (megawattsOf loads) k h e))

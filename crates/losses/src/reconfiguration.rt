@@ -88,11 +88,9 @@ pub fn compute_losses_estimate(
     if graph.bus_count == 0 {
         return 0.0;
     }
-    let n = at_most(wide16(graph.branch_count), 512);
+    let lists = live_lists(graph, &live);
     let far = graph.far;
-    let first = graph.first;
-    let next = graph.next;
-    let lists = live_lists(&far, &first, &next, &live, graph.bus_count);
     let mw = megawatts(loads);
+    let n = at_most(wide16(graph.branch_count), 512);
     total_loss(lists, &far, &mw, &live, branches, base_mva, n)
 }

@@ -11,17 +11,17 @@ use Rattle.losses.proofs.reconfiguration.compute_losses_estimate.Tie as
 returns : tie.Need-returns
 returns c = loss-none _ _ _ _ _ (c .if1 .taken)
 
-wide16-requires : tie.Need-wide16-requires
-wide16-requires c κs = tt
-
-at-most-requires : tie.Need-at-most-requires
-at-most-requires c κs = tt
-
 live-lists-requires : tie.Need-live-lists-requires
 live-lists-requires c κs = tt
 
 megawatts-requires : tie.Need-megawatts-requires
 megawatts-requires c κs = tt
+
+wide16-requires : tie.Need-wide16-requires
+wide16-requires c κs = tt
+
+at-most-requires : tie.Need-at-most-requires
+at-most-requires c κs = tt
 
 total-loss-requires : tie.Need-total-loss-requires
 total-loss-requires c κs = search needs
@@ -31,10 +31,10 @@ live-long s = search needs
 
 returns-2 : tie.Need-returns-2
 returns-2 c =
-    let loads = c .before .before .before .before in
-    let lists = loads .before in
-    let count = lists .before .before .before .before .before .before .before .before in
-    let tested = count .before .before in
+    let count = c .before .before .before .before in
+    let loads = count .before .before in
+    let lists = loads .before .before in
+    let tested = lists .before .before in
     let start = tested .before .before in
     let args = start .args in
     let end : count .at-most .result ≡ min (args .graph .«branch_count») (length (args .t5)) = omega (arith, count .at-most .ensures, count .before .wide16 .ensures .0, live-long start) in
@@ -45,9 +45,9 @@ compute-losses-estimate-spec =
     tie.close
     (tie.spec
     returns
-    wide16-requires
-    at-most-requires
     live-lists-requires
     megawatts-requires
+    wide16-requires
+    at-most-requires
     total-loss-requires
     returns-2)
