@@ -48,7 +48,7 @@ listFrom near a b = table (λ i. visit (getD near (a + i) 0) 0) (min b 1024 - a)
 unfoldable pub listed : List ℕ → List ℕ → ℕ → List Visit
 listed at near u = listFrom near (getD at u 0) (getD at (u + 1) 0)
 
--- the loads at the buses of these visits, in megawatts by bus position, added in their order from 0.0. NaN is what a lent array reads as behind its end, where no bus is
+-- the loads at the buses of these visits, in megawatts by bus position, added in their order from 0.0. Behind its end, where no bus is, a lent array of floats reads as NaN
 unfoldable pub busLoad : List Float → List Visit → Float
 busLoad mw o = upTo (λ t i. add binary64 t (getD mw (getD o i (startAt 0) .bus) nan)) zero64 (length o)
 

@@ -35,6 +35,7 @@ loadBehind lists far mw k = busLoad mw (walkBy (listed (lists .at) (lists .near)
 unfoldable pub listTotal : LiveLists → List ℕ → List Float → List Bool → List Branch → Float → ℕ → Float
 listTotal lists far mw live branches base n = totalOf (flag live) (λ k. getD branches k noBranch .r) (loadBehind lists far mw) base n
 
+-- "Zero buses lose 0"
 unfoldable pub listLoss : Graph → List Power → List Branch → Float → List Bool → Float
 listLoss g loads branches base live =
     cond (eqb (g .«bus_count») 0) zero64 (listTotal (liveLists g live) (g .far) (megawattsOf loads) live branches base (g .«branch_count»))
