@@ -12,7 +12,7 @@ use Rattle.network.specs.AnswerLaws.{then-iff}
 use Rattle.network.specs.Check.{checkRecords}
 use Rattle.network.specs.Inside.{Inside}
 use Rattle.network.specs.InsideLaws.{check-inside}
-use Rattle.states.specs.Live.{checkState}
+use Rattle.states.specs.Live.{checkState, onState}
 use Rattle.frames.specs.Acceptable.{Acceptable}
 use Rattle.frames.specs.Claim.{claim}
 use Rattle.slices.specs.Written.{written}
@@ -47,16 +47,16 @@ module _ (N : Network) (inside : Inside N) where
   checked : checkRecords N ≡ accepted tt
   checked = check-inside N .1 inside
 
-  answered : {A : Type 0} (s : State) → GoodState N s → (a : A) → (checkRecords N andThen checkState N s 0 andThen accepted a) ≡ accepted a
+  answered : {A : Type 0} (s : State) → GoodState N s → (a : A) → onState N s a ≡ accepted a
   unfolding _andThen_
   answered s good a = rw (checked, state-accepted N s 0 .1 good)
 
   -- `verify_radiality`, of any state
-  pub radiality-in-full : (s : State) → GoodState N s → (checkRecords N andThen checkState N s 0 andThen accepted (radialIn N s)) ≡ accepted (radialIn N s)
+  pub radiality-in-full : (s : State) → GoodState N s → onState N s (radialIn N s) ≡ accepted (radialIn N s)
   radiality-in-full s good = answered s good (radialIn N s)
 
   -- `evaluate_config`, of any state, radial or not
-  pub loss-in-full : (s : State) → GoodState N s → (checkRecords N andThen checkState N s 0 andThen accepted (lossIn N s)) ≡ accepted (lossIn N s)
+  pub loss-in-full : (s : State) → GoodState N s → onState N s (lossIn N s) ≡ accepted (lossIn N s)
   loss-in-full s good = answered s good (lossIn N s)
 
   -- a search: a byte for each switch

@@ -7,7 +7,7 @@ use lib.Dec.{T}
 use lib.Ieee.{Float, binary64, isNan, toBits}
 use Rattle.network.specs.Answers.{Answer, accepted, refused, _andThen_}
 use Rattle.network.specs.Check.{checkRecords}
-use Rattle.states.specs.Live.{checkState}
+use Rattle.states.specs.Live.{checkState, onState}
 use Rattle.network.specs.Records.{Network}
 use Rattle.frames.specs.Claim.{claim}
 use Rattle.printing.specs.Calls.{Call}
@@ -68,12 +68,12 @@ module _ (t : List ℕ) (N : Network) (so : readText t ≡ accepted N) where
       ∙ numbered-then f (check N) (value N)
       ∙ ap (λ a. onRecords a (λ M. check M andThen accepted (f (value M)))) (sym so)
 
-  pub radiality-answered : (s : List ℕ) (x : Answer Bool) → x ≡ (checkRecords N andThen checkState N s 0 andThen accepted (radialIn N s))
+  pub radiality-answered : (s : List ℕ) (x : Answer Bool) → x ≡ onState N s (radialIn N s)
       → numbered truthByte x ≡ textRadiality t s
   unfolding textRadiality
   radiality-answered s x = call-answered truthByte (λ M. checkState M s 0) (λ M. radialIn M s) x
 
-  pub loss-answered : (s : List ℕ) (x : Answer Float) → x ≡ (checkRecords N andThen checkState N s 0 andThen accepted (lossIn N s))
+  pub loss-answered : (s : List ℕ) (x : Answer Float) → x ≡ onState N s (lossIn N s)
       → numbered (toBits binary64) x ≡ textLoss t s
   unfolding textLoss
   loss-answered s x = call-answered (toBits binary64) (λ M. checkState M s 0) (λ M. lossIn M s) x

@@ -11,8 +11,7 @@ use Rattle.numbers.specs.Choose.{least, firstSome}
 use Rattle.network.specs.Records.{Network}
 use Rattle.states.specs.Live.{live, baseState}
 use Rattle.states.specs.Switches.{State, byte, branchOf, operable, size, isTie, swapped}
-use Rattle.graph.specs.Walk.{bfsPath}
-use Rattle.radiality.specs.Feeder.{feeder, radialIn}
+use Rattle.radiality.specs.Feeder.{endsPath, radialIn}
 use Rattle.losses.specs.Loss.{lossIn}
 use Rattle.searches.specs.Results.{Best}
 use Rattle.searches.specs.Rounds.{untilEnded}
@@ -23,7 +22,7 @@ seen N s i = isTie N i && (operable N i && eqb (byte s i) 1)
 
 -- "The loop is the breadth-first path from the tie's from bus to its to bus"
 unfoldable pub loopOf : Network → State → ℕ → List ℕ
-loopOf N s tie = bfsPath (feeder N) (live N s) (feeder N .from (branchOf N tie)) (feeder N .to (branchOf N tie))
+loopOf N s tie = endsPath N (live N s) (branchOf N tie)
 
 -- the "first operable section switch" of branch k
 unfoldable pub sectionOf : Network → ℕ → Option ℕ

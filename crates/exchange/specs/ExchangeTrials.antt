@@ -25,11 +25,10 @@ use Rattle.network.specs.InsideLaws.{check-inside}
 use Rattle.network.specs.Positions.{on-a-branch}
 use Rattle.graph.specs.declared.rows.Graph.{Graph}
 use Rattle.graph.specs.declared.walks.Path.{Path}
-use Rattle.graph.specs.Rows.{filled, pathOf, rowNet, rowPath, rowRadial}
+use Rattle.graph.specs.Rows.{filled, pathOf, rowEndsPath, rowRadial}
 use Rattle.radiality.specs.Feeder.{feeder}
-use Rattle.radiality.specs.FeederLaws.{feeder-sound, feeder-small}
 use Rattle.radiality.specs.FeederRows.{feederGraph, liveFlags}
-use Rattle.radiality.specs.FeederRowLaws.{feeder-row-ends, live-row-path}
+use Rattle.radiality.specs.FeederRowLaws.{live-row-ends-path}
 use Rattle.losses.specs.Loss.{lossIn}
 use Rattle.states.specs.Switches.{State, byte, branchOf, swapped, inService}
 use Rattle.exchange.specs.declared.exchange.Trial.{Trial}
@@ -135,19 +134,16 @@ module _ (n : PowerNetwork) (ok : checkRecords (recordsOf n) ≡ accepted tt) (s
   abbrev pub tieRow : Option ℕ
   tieRow = rowTrial g sections (c .switches) live on (inService N on)
 
-  loop-by-rows : rowPath g live (rowNet g .from on) (rowNet g .to on) ≡ loopOf N (stateOf n c) tie
+  loop-by-rows : rowEndsPath g live on ≡ loopOf N (stateOf n c) tie
   unfolding loopOf
   loop-by-rows =
       let listed : on < feeder N .branches = unfold feeder in on-a-branch N (check-inside N .0 ok) tie (omega (arith, switches-listed n)) in
-      let ends = feeder-row-ends n sized ok on listed in
-      let inside = check-inside N .0 ok in
-      let small : feeder N .from on < 256 = omega (arith, feeder-sound N inside on listed .0, feeder-small N inside) in
-      rw (a, b, ends .0, ends .1) (live-row-path n sized ok (stateOf n c) (feeder N .from on) (feeder N .to on) small)
+      rw (a, b) (live-row-ends-path n sized ok (stateOf n c) on listed)
 
   pub trial-by-rows : trial N (stateOf n c) tie ≡ swapAt (stateOf n c) tie tieRow
   unfolding trial rowTrial
   trial-by-rows =
-      let path = rowPath g live (rowNet g .from on) (rowNet g .to on) in
+      let path = rowEndsPath g live on in
       ap (firstSome (λ k. swapWith N (stateOf n c) tie (sectionOf N k))) (sym loop-by-rows)
       ∙ ap (λ f. firstSome f path) (fun-ext (swap-by-row n ok c held tie h sized g a sections q live b))
       ∙ first-swapped (stateOf n c) tie _ path

@@ -12,7 +12,7 @@ use Rattle.states.specs.declared.configuration.NetworkConfiguration.{NetworkCon
 use Rattle.states.specs.Configuration.{configurationOf}
 use Rattle.network.specs.Records.{Network}
 use Rattle.graph.specs.declared.rows.Graph.{Graph}
-use Rattle.graph.specs.Rows.{rowNet, rowPath, rowRadial}
+use Rattle.graph.specs.Rows.{rowEndsPath, rowRadial}
 use Rattle.losses.specs.Loss.{lossIn}
 use Rattle.states.specs.Switches.{State, swapped}
 use Rattle.exchange.specs.declared.exchange.Trial.{Trial}
@@ -37,7 +37,7 @@ rowSwap g sections state live k =
 
 -- the first along the loop of a tie on branch k, which has this status
 unfoldable pub rowTrial : Graph → List ℕ → List ℕ → List Bool → ℕ → Bool → Option ℕ
-rowTrial g sections state live k served = firstSome (rowSwap g sections state (set live k served)) (rowPath g live (rowNet g .from k) (rowNet g .to k))
+rowTrial g sections state live k served = firstSome (rowSwap g sections state (set live k served)) (rowEndsPath g live k)
 
 -- the state after it
 unfoldable pub swapAt : State → ℕ → Option ℕ → Option State

@@ -11,7 +11,7 @@ ghost use Rattle.network.specs.Answers.{accepted};
 ghost use Rattle.network.specs.Check.{checkRecords};
 ghost use Rattle.network.specs.Records.{Network, recordsOf};
 ghost use Rattle.states.specs.Switches.{State};
-ghost use Rattle.graph.specs.Rows.{rowNet, rowPath, pathOf};
+ghost use Rattle.graph.specs.Rows.{rowEndsPath, pathOf};
 ghost use Rattle.numbers.specs.Choose.{firstSome};
 ghost use Rattle.numbers.specs.Constants.{billionth};
 ghost use Rattle.searches.specs.Results.{solvedBy, solveAnswerOf};
@@ -29,7 +29,7 @@ use network::error::Verdict;
 use network::switch::Switch;
 use network::topology::PowerNetwork;
 use numbers::wide16;
-use paths::path::bfs_path;
+use paths::path::path_of_ends;
 use searches::answer::Found;
 use searches::answer::SolveAnswer;
 use searches::answer::answer_with;
@@ -144,14 +144,9 @@ fn first_swap(
 
 // The branches that a closed tie on this branch would make a loop with: the path from its from bus to its to bus.
 fn find_loop_branches_closed_tie(graph: Graph, live: [bool; 512], branch: u16) -> Path
-    requires { ⌜ branch < 512 ⌝ }
-    ensures { λ r. ⌜ r ≡ pathOf (rowPath graph live (rowNet graph .from branch) (rowNet graph .to branch)) ⌝ }
+    ensures { λ r. ⌜ r ≡ pathOf (rowEndsPath graph live branch) ⌝ }
 {
-    let far = graph.far;
-    let k = wide16(branch);
-    let to = far[2 * k];
-    let from = far[2 * k + 1];
-    bfs_path(graph, live, from, to)
+    path_of_ends(graph, live, branch)
 }
 
 // The section that a tie on this branch is swapped with: the first along its loop, 512 where there is none.

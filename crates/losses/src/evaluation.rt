@@ -1,8 +1,6 @@
 // Translated and changed from src/network/reconfiguration.rs of oxigrid. Copyright 2024-2026 COOLJAPAN OU (Team Kitasan), Apache License 2.0.
 ghost use mathlib.Core.Path.{_≡_};
-ghost use Rattle.network.specs.Answers.{accepted, _andThen_};
-ghost use Rattle.network.specs.Check.{checkRecords};
-ghost use Rattle.states.specs.Live.{checkState};
+ghost use Rattle.states.specs.Live.{onState};
 ghost use Rattle.network.specs.Records.{recordsOf};
 ghost use Rattle.losses.specs.Answers.{lossAnswerOf};
 ghost use Rattle.losses.specs.Loss.{lossIn};
@@ -49,8 +47,7 @@ pub fn loads_of(network: PowerNetwork) -> [Power; 256]
 
 // The loss of a state. It need not be radial.
 pub fn evaluate_config(network: PowerNetwork, state: &[u8]) -> LossAnswer
-    ensures { λ r. ⌜ lossAnswerOf r ≡ (checkRecords (recordsOf network) andThen checkState (recordsOf network) (now (state .entry)) 0
-        andThen accepted (lossIn (recordsOf network) (now (state .entry)))) ⌝ }
+    ensures { λ r. ⌜ lossAnswerOf r ≡ onState (recordsOf network) (now (state .entry)) (lossIn (recordsOf network) (now (state .entry))) ⌝ }
 {
     if let Verdict::Refused { number, place } = check(network) {
         return LossAnswer::Refused { number, place };

@@ -1,5 +1,5 @@
 -- Demand 3, one claim: the steps along a plan, what stands after a list of steps, and what holds of it for any two lists.
--- Read with: Plan (the planner's answer); crate graph's Graph (Path, Loop, Tree) and Feeder; crate network's Live.
+-- Read with: Plan (the planner's answer); crate graph's Graph (Path, Loop, Tree) and Feeder; crate states' Live.
 use mathlib.Core.Path.{_≡_}
 use mathlib.Core.Logic.{_↔_, _≢_}
 use mathlib.Core.Bool.{Bool, true, false, cond, _&&_}

@@ -180,6 +180,6 @@ module _ (n : PowerNetwork) (sized : length (n .buses) ≡ 256) where
       unfolding radialIn
       live-row-radial = feeder-row-radial _ live-short ∙ ap (radial (feeder (recordsOf n))) live-flags
 
-      pub live-row-path : (a b : ℕ) → a < 256
-          → rowPath (feederGraph n) (liveFlags (recordsOf n) s) a b ≡ bfsPath (feeder (recordsOf n)) (live (recordsOf n) s) a b
-      live-row-path a b h = feeder-row-path _ live-short a b h ∙ ap (λ E. bfsPath (feeder (recordsOf n)) E a b) live-flags
+      pub live-row-ends-path : (k : ℕ) → k < feeder (recordsOf n) .branches
+          → rowEndsPath (feederGraph n) (liveFlags (recordsOf n) s) k ≡ endsPath (recordsOf n) (live (recordsOf n) s) k
+      live-row-ends-path k h = feeder-row-ends-path _ live-short k h ∙ ap (λ E. endsPath (recordsOf n) E k) live-flags

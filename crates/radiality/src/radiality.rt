@@ -1,8 +1,6 @@
 // Translated and changed from src/network/reconfiguration.rs of oxigrid. Copyright 2024-2026 COOLJAPAN OU (Team Kitasan), Apache License 2.0.
 ghost use mathlib.Core.Path.{_≡_};
-ghost use Rattle.network.specs.Answers.{accepted, _andThen_};
-ghost use Rattle.network.specs.Check.{checkRecords};
-ghost use Rattle.states.specs.Live.{checkState};
+ghost use Rattle.states.specs.Live.{onState};
 ghost use Rattle.network.specs.Records.{recordsOf};
 ghost use Rattle.radiality.specs.Answers.{radialityOf};
 ghost use Rattle.radiality.specs.Feeder.{radialIn};
@@ -23,8 +21,7 @@ pub enum Radiality {
 
 // True for zero buses; else the state is radial when one branch less than there are buses is live and all buses are reached.
 pub fn verify_radiality(network: PowerNetwork, state: &[u8]) -> Radiality
-    ensures { λ r. ⌜ radialityOf r ≡ (checkRecords (recordsOf network) andThen checkState (recordsOf network) (now (state .entry)) 0
-        andThen accepted (radialIn (recordsOf network) (now (state .entry)))) ⌝ }
+    ensures { λ r. ⌜ radialityOf r ≡ onState (recordsOf network) (now (state .entry)) (radialIn (recordsOf network) (now (state .entry))) ⌝ }
 {
     if let Verdict::Refused { number, place } = check(network) {
         return Radiality::Refused { number, place };

@@ -8,7 +8,8 @@ use Rattle.numbers.specs.Every.{every}
 use Rattle.network.specs.declared.branch.Branch.{Branch}
 use Rattle.network.specs.declared.switch.Switch.{Switch}
 use Rattle.network.specs.Records.{Network, noBranch}
-use Rattle.network.specs.Answers.{Answer, _if_, judge}
+use Rattle.network.specs.Answers.{Answer, accepted, _andThen_, _if_, judge}
+use Rattle.network.specs.Check.{checkRecords}
 
 -- a state's bytes: "00 (closed) or 01 (open)"
 abbrev pub stateByte : Bool → ℕ
@@ -17,6 +18,10 @@ stateByte opened = cond opened 1 0
 -- refusal 10: "state isn't one byte 00 (closed) or 01 (open) for each switch"; place 0 for the present or only state, 1 for the wanted one
 unfoldable pub checkState : Network → List ℕ → ℕ → Answer (Unit {0})
 checkState N s place = judge ((10 if not (eqb (length s) (length (N .switches)) && every (λ b. leb b 1) s)) ∷ []) place
+
+-- a call on one state: "Calls test the network, then 10", and then it answers
+abbrev pub onState : {A : Type 0} → Network → List ℕ → A → Answer A
+onState N s answer = checkRecords N andThen checkState N s 0 andThen accepted answer
 
 -- some open switch is on branch k
 unfoldable pub openOn : List Switch → List ℕ → ℕ → Bool

@@ -12,7 +12,7 @@ use Rattle.states.specs.Listed.{buses-listed, branches-listed, switches-listed}
 use Rattle.network.specs.Answers.{Answer, accepted, refused, _andThen_}
 use Rattle.network.specs.AnswerLaws.{then-iff}
 use Rattle.network.specs.Check.{checkRecords}
-use Rattle.states.specs.Live.{checkState}
+use Rattle.states.specs.Live.{onState}
 use Rattle.network.specs.Records.{Network, recordsOf}
 use Rattle.network.specs.declared.topology.PowerNetwork.{PowerNetwork}
 use Rattle.printing.specs.Printed.{truthByte}
@@ -53,12 +53,12 @@ module _ (kind : ℕ) (t a b : List ℕ) where
 
   module _ (N : Network) where
     pub asked-radiality : kind ≡ 1 → readText t ≡ accepted N
-        → numbered truthByte (checkRecords N andThen checkState N a 0 andThen accepted (radialIn N a)) ≡ asked kind t a b
+        → numbered truthByte (onState N a (radialIn N a)) ≡ asked kind t a b
     unfolding asked
     asked-radiality e so = radiality-answered t N so a _ refl ∙ ap (λ k. asked k t a b) (sym e)
 
     pub asked-loss : kind ≡ 2 → readText t ≡ accepted N
-        → numbered (toBits binary64) (checkRecords N andThen checkState N a 0 andThen accepted (lossIn N a)) ≡ asked kind t a b
+        → numbered (toBits binary64) (onState N a (lossIn N a)) ≡ asked kind t a b
     unfolding asked
     asked-loss e so = loss-answered t N so a _ refl ∙ ap (λ k. asked k t a b) (sym e)
 

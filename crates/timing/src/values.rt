@@ -2,9 +2,8 @@
 ghost use mathlib.Core.Path.{_≡_};
 ghost use lib.Ieee.{binary64, toBits};
 ghost use lib.ListN.{replicate};
-ghost use Rattle.network.specs.Answers.{accepted, _andThen_};
-ghost use Rattle.network.specs.Check.{checkRecords};
-ghost use Rattle.states.specs.Live.{checkState};
+ghost use Rattle.network.specs.Answers.{accepted};
+ghost use Rattle.states.specs.Live.{onState};
 ghost use Rattle.network.specs.Records.{recordsOf};
 ghost use Rattle.printing.specs.Printed.{truthByte};
 ghost use Rattle.frames.specs.Text.{readText};
@@ -41,8 +40,7 @@ pub(crate) fn reading(text: &[u8]) -> u64
 
 // 1 for a radial state.
 pub(crate) fn radiality(network: PowerNetwork, state: &[u8]) -> u64
-    ensures { λ r. ⌜ r ≡ valueOf (numbered truthByte (checkRecords (recordsOf network) andThen checkState (recordsOf network) (now (state .entry)) 0
-        andThen accepted (radialIn (recordsOf network) (now (state .entry))))) ⌝ }
+    ensures { λ r. ⌜ r ≡ valueOf (numbered truthByte (onState (recordsOf network) (now (state .entry)) (radialIn (recordsOf network) (now (state .entry))))) ⌝ }
 {
     match verify_radiality(network, state) {
         Radiality::Refused { number, place } => 0,
@@ -52,8 +50,7 @@ pub(crate) fn radiality(network: PowerNetwork, state: &[u8]) -> u64
 
 // The bits of a loss.
 pub(crate) fn loss(network: PowerNetwork, state: &[u8]) -> u64
-    ensures { λ r. ⌜ r ≡ valueOf (numbered (toBits binary64) (checkRecords (recordsOf network) andThen checkState (recordsOf network) (now (state .entry)) 0
-        andThen accepted (lossIn (recordsOf network) (now (state .entry))))) ⌝ }
+    ensures { λ r. ⌜ r ≡ valueOf (numbered (toBits binary64) (onState (recordsOf network) (now (state .entry)) (lossIn (recordsOf network) (now (state .entry))))) ⌝ }
 {
     match evaluate_config(network, state) {
         LossAnswer::Refused { number, place } => 0,
