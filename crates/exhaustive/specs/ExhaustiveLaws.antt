@@ -13,7 +13,7 @@ use Rattle.states.specs.Live.{stateByte, live, baseState}
 use Rattle.states.specs.Switches.{byte, size, isTie, GoodState}
 use Rattle.radiality.specs.Feeder.{radialIn}
 use Rattle.losses.specs.Loss.{lossIn}
-use Rattle.plan.specs.LiveLaws.{live-less}
+use Rattle.states.specs.LiveBytes.{live-less}
 use Rattle.exhaustive.specs.Exhaustive.{bit, masked, Least, withLoss, Exhaustive, tryMask, exhaustive, leastOrBase, exhaustiveBest}
 use Rattle.searches.specs.IfSome.{IfSome}
 use Rattle.searches.specs.FromBase.{base-byte, base-good}

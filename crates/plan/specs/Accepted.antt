@@ -1,20 +1,20 @@
 -- What the planner's acceptance means: a network inside the limits, good states, both radial, and operable switches where they must move.
 -- From the law of the record check, from that of radiality, and from what the tests of refusals 10 to 12 look at.
-use mathlib.Core.Path.{_≡_, refl, sym, ap, _∙_}
+use mathlib.Core.Path.{_≡_, refl, ap, _∙_}
 use mathlib.Core.Logic.{_⊎_, inl, inr, _↔_, _≢_}
 use mathlib.Core.Bool.{Bool, true, false, not, _&&_, _||_, true≢false, false≢true}
-use mathlib.Core.List.{List, [], _∷_, map, List·Memᴰ·head, List·Memᴰ·not-nil}
+use mathlib.Core.List.{List, [], _∷_, List·Memᴰ·head, List·Memᴰ·not-nil}
 use Prim.Native.Nat.{ℕ, _<_}
 use native.Mathlib.Omega.{arith}
 use lib.Dec.{eqb}
 use lib.ListN.{length, getD}
 use borrow.Author.Tests.{eq-eqb, ne-eqb, not-true}
-use Rattle.numbers.specs.Choose.{indexOf, those}
+use Rattle.numbers.specs.Choose.{those}
 use Rattle.numbers.specs.ChooseLaws.{in-those, of-those}
 use Rattle.numbers.specs.Tests.{both, which, clash}
 use Rattle.network.specs.Records.{Network, noSwitch}
 use Rattle.network.specs.Answers.{accepted}
-use Rattle.network.specs.Faults.{switchId, on}
+use Rattle.network.specs.Faults.{switchId}
 use Rattle.network.specs.Check.{checkRecords}
 use Rattle.network.specs.AnswerLaws.{judge-accepted, then-iff}
 use Rattle.network.specs.InsideLaws.{check-inside}
@@ -28,21 +28,18 @@ use Rattle.radiality.specs.FeederLaws.{feeder-sound, feeder-small, radial-in-tr
 use Rattle.changes.specs.Change.{checkRadial, differing, lockedDifference, lockedDifferences, checkLocked, refuseLocked, checkPlan}
 use Rattle.plan.specs.Plan.{switchOn}
 use Rattle.plan.specs.Claim.{switchAt}
-use Rattle.plan.specs.LiveLaws.{On}
+use Rattle.states.specs.LiveBytes.{on-found, one-switch}
 use Rattle.plan.specs.Plannable.{Regular, Free, Plannable}
 
 module _ (N : Network) (inside : Inside N) where
-  on-found : {k i : ℕ} → On N k i → indexOf k (map on (N .switches)) ≡ i
-  on-found o = rw (← o .here) (index-own on (N .switches) (inside .alone) _ noSwitch (o .listed))
-
   pub inside-regular : Regular N
   inside-regular = record {
     ends = feeder-sound N inside;
     few = feeder-small N inside;
     placed = λ o. unfold feeder in rw (o .here) at (each-at (λ s. s .«branch_idx» < length (N .branches)) (N .switches) (inside .positions) _ noSwitch (o .listed));
-    alone = λ o p. sym (on-found o) ∙ on-found p;
+    alone = one-switch N inside;
     resolved = λ o. unfold switchOn in
-        ap (λ j. switchAt N (getD (N .switches) j noSwitch .id)) (on-found o) ∙ index-own switchId (N .switches) (inside .switch-ids) _ noSwitch (o .listed);
+        ap (λ j. switchAt N (getD (N .switches) j noSwitch .id)) (on-found N inside o) ∙ index-own switchId (N .switches) (inside .switch-ids) _ noSwitch (o .listed);
   }
 
 module _ (N : Network) where

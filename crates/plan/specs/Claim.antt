@@ -13,7 +13,7 @@ use Rattle.numbers.specs.Choose.{indexOf}
 use Rattle.network.specs.Records.{Network, noBranch}
 use Rattle.network.specs.Answers.{accepted}
 use Rattle.network.specs.Faults.{switchId}
-use Rattle.states.specs.Live.{live}
+use Rattle.states.specs.Live.{live, SameLive}
 use Rattle.states.specs.Switches.{State, byte, branchOf, operable, GoodState}
 use Rattle.graph.specs.Graph.{Path, Connected, Loop, Tree}
 use Rattle.radiality.specs.Feeder.{feeder, LiveIn}
@@ -74,9 +74,6 @@ unfoldable pub after : Network → State → State → List Step → Point
 after N present wanted xs = run N (plan N present wanted) xs (record { state = present; done = 0 })
 
 -- ---- what is claimed of them
-abbrev pub SameLive : Network → State → State → Type 0
-SameLive N s t = (k : ℕ) → live N s k ≡ live N t k
-
 -- from s to t branch e becomes live, branch f ceases to be, and every other stays as it is
 pub record Exchanged (N : Network) (s t : State) (e f : ℕ) : Type 0 where
   pub before : (live N s e ≡ false) × (live N s f ≡ true)

@@ -10,7 +10,8 @@ use Rattle.network.specs.Answers.{accepted}
 use Rattle.states.specs.Switches.{State}
 use Rattle.changes.specs.Change.{checkPlan}
 use Rattle.plan.specs.Plan.{Moves, plan}
-use Rattle.plan.specs.Claim.{run, after, SameLive, othersCarriedOut}
+use Rattle.plan.specs.Claim.{run, after, othersCarriedOut}
+use Rattle.states.specs.Live.{SameLive}
 use Rattle.plan.specs.Proof.{demand3}
 
 none : (l : List Moves) → length l ≤ 0 → l ≡ []

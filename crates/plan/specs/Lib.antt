@@ -2,7 +2,6 @@ pub mod Plan
 pub mod RowOpening
 pub mod Stored
 pub mod Claim
-pub mod LiveLaws
 pub mod Exchanges
 pub mod Missing
 pub mod Plannable

@@ -21,7 +21,7 @@ use Rattle.graph.specs.Graph.{Net}
 use Rattle.radiality.specs.Feeder.{feeder}
 use Rattle.plan.specs.Plan.{Pair, exchanged}
 use Rattle.plan.specs.Claim.{OtherPair, otherCarriedOut, othersCarriedOut}
-use Rattle.plan.specs.LiveLaws.{On, live-less}
+use Rattle.states.specs.LiveBytes.{On, live-less}
 use Rattle.plan.specs.Exchanges.{Fits, closing-closed, exchanged-other}
 
 -- wanted, and not among those flagged

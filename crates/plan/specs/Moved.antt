@@ -21,7 +21,7 @@ use Rattle.graph.specs.Trees.{tree-forest, tree-same}
 use Rattle.graph.specs.Loops.{closing-makes-loop, one-loop}
 use Rattle.plan.specs.Plan.{Pair, exchanged, Moves, movesOf}
 use Rattle.plan.specs.Claim.{switchAt, closed, carriedOut, turned, Exchanged, OnLoop}
-use Rattle.plan.specs.LiveLaws.{InService, On, moved-other, opened-dead, closed-live, byte-open, byte-closed}
+use Rattle.states.specs.LiveBytes.{InService, On, moved-other, opened-dead, closed-live, byte-open, byte-closed}
 use Rattle.plan.specs.Exchanges.{turnedPair, Fits, opened-live, pair-differs, closing-closed, opening-opened, exchanged-other, exchanged-tree, fits-back}
 use Rattle.plan.specs.Plannable.{Regular}
 

@@ -11,7 +11,7 @@ use Rattle.graph.specs.Graph.{Sound, Tree}
 use Rattle.radiality.specs.Feeder.{feeder, LiveIn}
 use Rattle.plan.specs.Plan.{switchOn}
 use Rattle.plan.specs.Claim.{switchAt}
-use Rattle.plan.specs.LiveLaws.{On}
+use Rattle.states.specs.LiveBytes.{On}
 
 pub record Regular (N : Network) : Type 0 where
   -- the ends of every branch are buses, at most 256

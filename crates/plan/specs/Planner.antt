@@ -21,7 +21,7 @@ use Rattle.graph.specs.Chains.{_⊆_}
 use Rattle.graph.specs.Trees.{tree-forest, part-is-whole}
 use Rattle.graph.specs.WalkLaws.{bfs-path}
 use Rattle.plan.specs.Plan.{Pair, closings, opening, exchanged, pairsFrom, pairs}
-use Rattle.plan.specs.LiveLaws.{live-one}
+use Rattle.states.specs.LiveBytes.{live-one}
 use Rattle.plan.specs.Plannable.{Regular, Free, Plannable}
 use Rattle.plan.specs.Exchanges.{Fits, opened-live, closing-closed, opening-opened, exchanged-other, exchanged-tree}
 use Rattle.plan.specs.Moved.{Switchable, Ready}

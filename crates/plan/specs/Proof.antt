@@ -10,12 +10,12 @@ use lib.ListN.{length, getD, drop, getElem?, length-drop, length-map}
 use lib.Seq.{drop-length}
 use Rattle.numbers.specs.Tests.{clash, not-so, same-test}
 use Rattle.network.specs.Records.{Network, noBranch}
-use Rattle.states.specs.Live.{live}
+use Rattle.states.specs.Live.{live, SameLive}
 use Rattle.states.specs.Switches.{State, byte, branchOf}
 use Rattle.radiality.specs.Feeder.{feeder}
 use Rattle.plan.specs.Plan.{Pair, pairs, Moves, movesOf, plan}
-use Rattle.plan.specs.Claim.{turnedIf, Step, back, found, Point, taken, run, after, SameLive, SwitchingPlan, Demand3}
-use Rattle.plan.specs.LiveLaws.{live-so, live-listed}
+use Rattle.plan.specs.Claim.{turnedIf, Step, back, found, Point, taken, run, after, SwitchingPlan, Demand3}
+use Rattle.states.specs.LiveBytes.{live-so, live-listed}
 use Rattle.plan.specs.Plannable.{Regular, Plannable}
 use Rattle.plan.specs.Moved.{Shows, shows-tree, pair-exchanges, pair-on-loop, pair-operable, other-bytes}
 use Rattle.plan.specs.Missing.{missing, missing-same, missing-none, others-missing}

@@ -6,7 +6,7 @@ use native.Mathlib.Decide.{decLt}
 use Rattle.numbers.specs.Tests.{clash, same-test}
 use Rattle.network.specs.Records.{Network}
 use Rattle.network.specs.Inside.{Inside}
-use Rattle.states.specs.Live.{live}
+use Rattle.states.specs.Live.{live, SameLive}
 use Rattle.states.specs.Switches.{State}
 use Rattle.graph.specs.Graph.{Tree}
 use Rattle.graph.specs.Trees.{part-is-whole}
@@ -14,8 +14,7 @@ use Rattle.graph.specs.RadialLaws.{radial-tree}
 use Rattle.radiality.specs.Feeder.{feeder, LiveIn, radialIn}
 use Rattle.radiality.specs.FeederLaws.{feeder-sound, feeder-small}
 use Rattle.losses.specs.Loss.{lossIn}
-use Rattle.plan.specs.Claim.{SameLive}
-use Rattle.plan.specs.LiveLaws.{live-listed}
+use Rattle.states.specs.LiveBytes.{live-listed}
 
 module _ (N : Network) (s t : State) where
   pub same-radial : SameLive N s t → radialIn N s ≡ radialIn N t

@@ -13,8 +13,7 @@ use Rattle.network.specs.Positions.{on-a-branch}
 use Rattle.states.specs.Live.{live}
 use Rattle.radiality.specs.FeederRows.{liveFlags}
 use Rattle.states.specs.Switches.{State, byte, branchOf, size, toggled, inService}
-use Rattle.plan.specs.LiveLaws.{On, live-so, moved-other, opened-dead, closed-live}
-use Rattle.plan.specs.Accepted.{inside-regular}
+use Rattle.states.specs.LiveBytes.{On, live-so, moved-other, opened-dead, closed-live, one-switch}
 use Rattle.searches.specs.TableSets.{table-set}
 
 module _ (N : Network) (inside : Inside N) where
@@ -40,7 +39,7 @@ module _ (N : Network) (inside : Inside N) where
     flags-closed = go (inService N (branchOf N i)) refl
       where
         go : (b : Bool) → inService N (branchOf N i) ≡ b → set (liveFlags N s) (branchOf N i) b ≡ liveFlags N (set s i 0)
-        go true e = moved-flag 0 true (closed-live N s (branchOf N i) i own long (λ j p. inside-regular N inside .alone p own) e)
+        go true e = moved-flag 0 true (closed-live N s (branchOf N i) i own long (λ j p. one-switch N inside p own) e)
         go false e = moved-flag 0 false (not-so _ (λ h. clash (live-so N (set s i 0) (branchOf N i) h .0) e))
 
     -- a switch on a branch in service makes it live or dead

@@ -3,3 +3,4 @@ pub mod Configuration
 pub mod LiveLaws
 pub mod Switches
 pub mod Listed
+pub mod LiveBytes

@@ -1,4 +1,5 @@
 -- States of the switches, the live branches, and the base state.
+use mathlib.Core.Path.{_≡_}
 use mathlib.Core.Bool.{Bool, false, cond, not, _&&_, _||_}
 use mathlib.Core.List.{List, [], _∷_, map}
 use Prim.Native.Nat.{ℕ}
@@ -33,7 +34,11 @@ openOn (w ∷ ws) (b ∷ bs) k = (eqb (w .«branch_idx») k && eqb b 1) || openO
 unfoldable pub live : Network → List ℕ → ℕ → Bool
 live N s k = getD (N .branches) k noBranch .status && not (openOn (N .switches) s k)
 
--- the same, from flags of the branches with an open switch
+-- the same branches are live in two states
+abbrev pub SameLive : Network → List ℕ → List ℕ → Type 0
+SameLive N s t = (k : ℕ) → live N s k ≡ live N t k
+
+-- what is live, from flags of the branches with an open switch
 unfoldable pub liveBy : List Branch → List Bool → ℕ → Bool
 liveBy branches opened k = getD branches k noBranch .status && not (getD opened k false)
 

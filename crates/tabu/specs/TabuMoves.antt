@@ -19,14 +19,13 @@ use Rattle.network.specs.Check.{checkRecords}
 use Rattle.network.specs.Faults.{among}
 use Rattle.network.specs.InsideLaws.{check-inside}
 use Rattle.states.specs.Configuration.{configurationOf}
-use Rattle.states.specs.Live.{live}
+use Rattle.states.specs.Live.{live, SameLive}
 use Rattle.numbers.specs.Tests.{both}
 use Rattle.numbers.specs.UpTo.{upTo, upTo-more, table}
 use Rattle.radiality.specs.Feeder.{radialIn}
 use Rattle.radiality.specs.FeederRows.{liveFlags}
 use Rattle.losses.specs.Loss.{lossIn}
 use Rattle.states.specs.Switches.{State, branchOf, operable, size, switch, toggled, inService}
-use Rattle.plan.specs.Claim.{SameLive}
 use Rattle.tabu.specs.declared.tabu.Candidate.{Candidate}
 use Rattle.tabu.specs.declared.tabu.TabuSearch.{TabuSearch}
 use Rattle.searches.specs.States.{stateOf}

@@ -11,12 +11,10 @@ use borrow.Author.Tests.{eq-eqb, eqb-true}
 use Rattle.numbers.specs.Tests.{clash, not-so}
 use Rattle.network.specs.Records.{Network, noBranch}
 use Rattle.network.specs.Inside.{Inside}
-use Rattle.states.specs.Live.{live}
+use Rattle.states.specs.Live.{live, SameLive}
 use Rattle.states.specs.Switches.{State, byte, branchOf, size, toggled, GoodState}
 use Rattle.radiality.specs.Feeder.{radialIn}
-use Rattle.plan.specs.Claim.{SameLive}
-use Rattle.plan.specs.LiveLaws.{InService, On, live-so, live-if, live-less, moved-other, opened-dead, closed-live}
-use Rattle.plan.specs.Accepted.{inside-regular}
+use Rattle.states.specs.LiveBytes.{InService, On, live-so, live-if, live-less, moved-other, opened-dead, closed-live, one-switch}
 use Rattle.searches.specs.LiveBranches.{same-radial, radial-part-same}
 
 module _ (N : Network) (inside : Inside N) (s : State) where
@@ -47,7 +45,7 @@ module _ (N : Network) (inside : Inside N) (s : State) where
     toggled-other served = go (eqb (byte s i) 1) refl
       where
         only : (j : ℕ) → On N (branchOf N i) j → j ≡ i
-        only j p = inside-regular N inside .alone p own
+        only j p = one-switch N inside p own
 
         go : (b : Bool) → eqb (byte s i) 1 ≡ b → live N s (branchOf N i) ≢ live N (set s i (cond b 0 1)) (branchOf N i)
         go true e h = live-so N s (branchOf N i) (h ∙ closed-live N s (branchOf N i) i own (good .long) only served) .1 i own (eqb-true _ _ e)

@@ -1,8 +1,8 @@
--- What is live in a state, said by the bytes of the switches on a branch; and what is live after a switch has moved.
+-- What is live in a state, said by the bytes of the switches on a branch; what is live after a switch has moved; and that a branch has one switch.
 use mathlib.Core.Path.{_≡_, sym, ap, _∙_}
 use mathlib.Core.Logic.{_⊎_, inl, inr, _≢_}
 use mathlib.Core.Bool.{true, false, not, _&&_, or-true, false≢true}
-use mathlib.Core.List.{List, [], _∷_}
+use mathlib.Core.List.{List, [], _∷_, map}
 use Prim.Native.Nat.{ℕ, zero, suc, _≤_, _<_}
 use native.Mathlib.Decide.{decLt}
 use native.Mathlib.Omega.{arith}
@@ -12,9 +12,13 @@ use lib.Seq.{getD-set-same, getD-set-other}
 use borrow.Author.Tests.{eq-eqb, eqb-true, not-true}
 use Rattle.numbers.specs.Tests.{both, either, which, clash, not-so, same-test}
 use Rattle.network.specs.declared.switch.Switch.{Switch}
+use Rattle.numbers.specs.Choose.{indexOf}
 use Rattle.network.specs.Records.{Network, noBranch, noSwitch}
+use Rattle.network.specs.Faults.{on}
+use Rattle.network.specs.Inside.{Inside}
+use Rattle.network.specs.Positions.{index-own}
 use Rattle.states.specs.Live.{live, openOn}
 use Rattle.states.specs.Switches.{State, byte, branchOf}
 
 -- the status of branch k is 01
 abbrev pub InService : Network → ℕ → Type 0
@@ -116,3 +120,11 @@ module _ (N : Network) (s : State) (k i : ℕ) (o : On N k i) where
 
   pub byte-closed : byte s i ≤ 1 → live N s k ≡ true → byte s i ≡ 0
   byte-closed b h = let n : byte s i ≢ 1 = live-so N s k h .1 i o in omega arith
+
+-- "second switch on a branch" is refused: the switch on a branch is found where it stands, and there is one
+module _ (N : Network) (inside : Inside N) where
+  pub on-found : {k i : ℕ} → On N k i → indexOf k (map on (N .switches)) ≡ i
+  on-found o = rw (← o .here) (index-own on (N .switches) (inside .alone) _ noSwitch (o .listed))
+
+  pub one-switch : {k i j : ℕ} → On N k i → On N k j → i ≡ j
+  one-switch o p = sym (on-found o) ∙ on-found p
