@@ -1,11 +1,12 @@
 -- The loss as the code takes it: the neighbours of each bus by live branches are listed off a graph's rows, and the walks go by the lists.
--- FeederLoss shows that over the graph of an accepted feeder it is document 01's loss.
+-- ListLossLaws shows that on every graph of `Graph::new` it is document 01's loss, FeederLoss that it is an accepted feeder's.
+use mathlib.Core.Path.{_≡_}
 use mathlib.Core.Bool.{Bool, cond}
 use mathlib.Core.List.{List, map}
-use Prim.Native.Nat.{ℕ, _+_, _*_}
+use Prim.Native.Nat.{ℕ, _+_, _*_, _≤_}
 use lib.Dec.{eqb}
 use lib.ListN.{getD}
-use lib.Ieee.{Float}
+use lib.Ieee.{Float, nan}
 use Rattle.numbers.specs.Constants.{zero64}
 use Rattle.numbers.specs.UpTo.{table}
 use Rattle.network.specs.declared.branch.Branch.{Branch}
@@ -15,10 +16,11 @@ use Rattle.network.specs.declared.topology.PowerNetwork.{PowerNetwork}
 use Rattle.network.specs.Records.{noBus, noBranch}
 use Rattle.graph.specs.declared.rows.Graph.{Graph}
 use Rattle.graph.specs.Walk.{walkBy}
-use Rattle.graph.specs.Rows.{flag}
+use Rattle.graph.specs.Graph.{Sound}
+use Rattle.graph.specs.Rows.{flag, netOf, graphOf}
 use Rattle.lists.specs.declared.lists.LiveLists.{LiveLists}
 use Rattle.lists.specs.Lists.{liveLists, listed, busLoad}
-use Rattle.losses.specs.Loss.{totalOf}
+use Rattle.losses.specs.Loss.{totalOf, loss}
 
 abbrev pub noPower : Power
 noPower = record { 0 = zero64 }
@@ -39,6 +41,12 @@ listTotal lists far mw live branches base n = totalOf (flag live) (λ k. getD br
 unfoldable pub listLoss : Graph → List Power → List Branch → Float → List Bool → Float
 listLoss g loads branches base live =
     cond (eqb (g .«bus_count») 0) zero64 (listTotal (liveLists g live) (g .far) (megawattsOf loads) live branches base (g .«branch_count»))
+
+-- a graph of `Graph::new` whose ends are buses loses what document 01 says of its net, in which the branches are scanned by rising position
+abbrev pub NetLoss : Graph → List Power → List Branch → Float → List Bool → Float → Type 0
+NetLoss g loads branches base live r =
+    (n m : ℕ) (from to : List ℕ) → n ≤ 256 → Sound (netOf n m from to) → g ≡ graphOf n m from to
+    → r ≡ loss (netOf n m from to) (flag live) (λ b. getD (megawattsOf loads) b nan) (λ k. getD branches k noBranch .r) base
 
 -- the loads of 256 buses
 abbrev pub loadsAt : List Bus → List Power

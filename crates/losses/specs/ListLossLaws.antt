@@ -12,6 +12,7 @@ use Rattle.numbers.specs.UpTo.{upTo-cong}
 use Rattle.network.specs.declared.branch.Branch.{Branch}
 use Rattle.network.specs.declared.bus.Power.{Power}
 use Rattle.network.specs.Records.{noBranch}
+use Rattle.graph.specs.declared.rows.Graph.{Graph}
 use Rattle.graph.specs.Graph.{Sound}
 use Rattle.graph.specs.Walk.{Visit, startAt}
 use Rattle.graph.specs.Rows.{flag, netOf, graphOf}
@@ -21,7 +22,7 @@ use Rattle.lists.specs.Lists.{liveLists, forget, busLoad}
 use Rattle.lists.specs.GraphLists.{flag-inside, list-walk-is-walk}
 use Rattle.losses.specs.Loss.{walkLoad, downstream, loss}
 use Rattle.losses.specs.LossSame.{total-same}
-use Rattle.losses.specs.ListLoss.{megawattsOf, loadBehind, listTotal, listLoss}
+use Rattle.losses.specs.ListLoss.{megawattsOf, loadBehind, listTotal, listLoss, NetLoss}
 
 -- a load is added by buses, whatever branches led to them
 load-forget : (mw : List Float) (o : List Visit) → busLoad mw (map forget o) ≡ walkLoad (λ b. getD mw b nan) o
@@ -44,3 +45,9 @@ module _ (n m : ℕ) (from to : List ℕ) (live : List Bool) (few : n ≤ 256) (
   unfolding listLoss listTotal loss graphOf
   list-loss loads branches base =
       ap (λ t. cond (eqb n 0) zero64 t) (total-same (flag live) (flag live) _ _ _ _ base m (λ k h. refl) (λ k h. refl) (λ k h e. load-behind (megawattsOf loads) k h e))
+
+-- so the loss by the lists of a graph that `Graph::new` made is that of its net
+pub net-loss : (g : Graph) (loads : List Power) (branches : List Branch) (base : Float) (live : List Bool) → length live ≤ 512 → (r : Float)
+    → r ≡ listLoss g loads branches base live → NetLoss g loads branches base live r
+net-loss g loads branches base live short r e n m from to few sound made =
+    e ∙ ap (λ (h : Graph). listLoss h loads branches base live) made ∙ list-loss n m from to live few short sound loads branches base

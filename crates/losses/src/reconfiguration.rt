@@ -4,7 +4,7 @@ ghost use Prim.Native.Nat.{_≤_};
 ghost use Rattle.graph.specs.Walk.{walkBy};
 ghost use Rattle.lists.specs.Lists.{listed, busLoad};
 ghost use Rattle.losses.specs.Loss.{termOf};
-ghost use Rattle.losses.specs.ListLoss.{megawattsOf, listTotal, listLoss};
+ghost use Rattle.losses.specs.ListLoss.{megawattsOf, listTotal, listLoss, NetLoss};
 use graph::rows::Graph;
 use lists::lists::LiveLists;
 use lists::lists::live_lists;
@@ -75,7 +75,8 @@ fn total_loss(
     total
 }
 
-// The loss of a state, in megawatts: live branches by rising position. The neighbours by live branches are listed once, and each walk reads the lists.
+// The loss of a state, in megawatts: live branches by rising position. The neighbours by live branches are listed once, and each walk reads the lists; on every graph
+// of Graph::new whose ends are buses that is the loss by document 01's scan.
 pub fn compute_losses_estimate(
     graph: Graph,
     loads: [Power; 256],
@@ -83,7 +84,7 @@ pub fn compute_losses_estimate(
     base_mva: f64,
     live: [bool; 512],
 ) -> f64
-    ensures { λ r. ⌜ r ≡ listLoss graph loads branches «base_mva» live ⌝ }
+    ensures { λ r. ⌜ (r ≡ listLoss graph loads branches «base_mva» live) × NetLoss graph loads branches «base_mva» live r ⌝ }
 {
     if graph.bus_count == 0 {
         return 0.0;

@@ -163,7 +163,7 @@ lost c =
     let live = tried-flags n (given .0) (start .args .configuration) (start .pre .2) (loop .loop .i) _ _ (here read) _ (flags made) (call .wide163 .result) (tried call .below (found .if2 .taken)) _ _
     (read .wide162 .ensures .0) (opened .wide164 .ensures .0) in
     flags-loss n sized (given .0) (swapped (stateOf n (start .args .configuration)) (loop .loop .i) (call .wide163 .result)) _ _ (given .1) (moved .swapped-live .ensures ∙ live) _ _ (given .2)
-    (c .compute-losses-estimate .ensures)
+    (c .compute-losses-estimate .ensures .0)
 
 better-of-requires : tie.Need-better-of-requires Inv-loop μ-loop
 better-of-requires c κs =

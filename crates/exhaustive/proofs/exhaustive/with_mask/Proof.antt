@@ -29,7 +29,7 @@ returns c =
     let n = start .args .network in
     let given = start .pre .0 in
     let sized = length-of (the-type .to) (n .buses) (start .good .0 .1 .1 .0 .1 .0 .1) in
-    let loses = flags-loss n sized (given .0) (masked (recordsOf n) (start .args .mask)) _ _ (given .1) (start .pre .2) _ _ (given .2) (lost .compute-losses-estimate .ensures) in
+    let loses = flags-loss n sized (given .0) (masked (recordsOf n) (start .args .mask)) _ _ (given .1) (start .pre .2) _ _ (given .2) (lost .compute-losses-estimate .ensures .0) in
     λ x e. c .with-radial .ensures (recordsOf n) x _ e (made .masked .ensures) ∙ ap (exhaustiveOf (recordsOf n)) (mask-radial (recordsOf n) x (start .args .mask) (start .pre .3) _ loses)
 
 pub with-mask-spec : {M : Type 1} → statement M

@@ -65,7 +65,7 @@ returns-3 c =
     let ok = sym (records .check .ensures) ∙ ap answerOf (head .enum-told .given .1) in
     let good = sym (state .check-state .ensures) ∙ ap answerOf (passed .enum-told2 .given .1) in
     ap accepted
-    (c .compute-losses-estimate .ensures
+    (c .compute-losses-estimate .ensures .0
     ∙ feeder-loss (start .args .network) (length-of (the-type .to) (start .args .network .buses) (start .good .0 .1 .1 .0 .1 .0 .1)) ok _ _ _ _ (c .before .graph-of .ensures) (loads .loads-of .ensures)
     (state-flags _ _ 0 ok good _ _ (flags .before .of .ensures) (flags .live-branches .ensures)))
     ∙ accepted-then _ _ _ (passed .enum-told2 .given .1) (state .check-state .ensures)

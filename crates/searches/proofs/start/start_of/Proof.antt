@@ -30,7 +30,7 @@ returns c =
     let base = flags .before in
     let loads = base .before in
     let rows = loads .before in
-    rw (c .compute-losses-estimate .ensures, judged .is-radial .ensures, flags .live-branches .ensures, base .build-base-configuration .ensures, loads .loads-of .ensures, rows .graph-of .ensures)
+    rw (c .compute-losses-estimate .ensures .0, judged .is-radial .ensures, flags .live-branches .ensures, base .build-base-configuration .ensures, loads .loads-of .ensures, rows .graph-of .ensures)
 
 pub start-of-spec : {M : Type 1} → statement M
 start-of-spec =

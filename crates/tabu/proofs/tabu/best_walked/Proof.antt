@@ -133,7 +133,7 @@ loop-again c =
           let can = connected ∙ w .0 .taken in
           let flags = w .2 .ensures ∙ toggled-flags n y x s (given .0) i _ _ at can _ (made .live-branches .ensures) _ (read .wide162 .ensures .0) in
           let radial = flags-radial n (sized start) (given .0) t _ _ (given .1) flags _ (w .3 .ensures) in
-          let loss = flags-loss n (sized start) (given .0) t _ _ (given .1) flags _ _ (given .2) (w .5 .ensures) in
+          let loss = flags-loss n (sized start) (given .0) t _ _ (given .1) flags _ _ (given .2) (w .5 .ensures .0) in
           w .7 ∙ see-walked n y x s (given .0) i _ _ at _ _ so-far _ can (sym radial ∙ w .4 .taken) _ loss (w .6 .ensures))
           (⊎-elim
           (λ w.
