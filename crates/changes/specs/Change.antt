@@ -15,7 +15,7 @@ use Rattle.states.specs.Configuration.{configurationOf}
 use Rattle.graph.specs.declared.rows.Graph.{Graph}
 use Rattle.radiality.specs.Feeder.{radialIn}
 use Rattle.radiality.specs.FeederRows.{feederGraph, liveFlags}
-use Rattle.changes.specs.declared.refusals.Change.{Change}
+use Rattle.changes.specs.declared.change.Change.{Change}
 
 -- ---- refusals 11 and 12
 unfoldable pub checkRadial : Network → State → ℕ → Answer (Unit {0})
