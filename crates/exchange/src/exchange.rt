@@ -23,7 +23,7 @@ ghost use Rattle.exchange.specs.ExchangeValues.{sectionAt, sectionsOf, r
 use bfs::radial::is_radial;
 use graph::rows::Graph;
 use graph::walks::Path;
-use losses::reconfiguration::compute_losses_estimate;
+use losses::estimate::compute_losses_estimate;
 use network::bus::Power;
 use network::error::Verdict;
 use network::switch::Switch;

@@ -23,7 +23,7 @@ ghost use Rattle.exhaustive.specs.Exhaustive.{masked, Exhaustive, noMask
 ghost use Rattle.exhaustive.specs.ExhaustiveValues.{tiesOf, closedBy, exhaustiveOf, askedFor};
 use bfs::radial::is_radial;
 use graph::rows::Graph;
-use losses::reconfiguration::compute_losses_estimate;
+use losses::estimate::compute_losses_estimate;
 use network::bus::Power;
 use network::error::Verdict;
 use network::switch::ReconfigAlgorithm;

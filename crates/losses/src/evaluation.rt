@@ -5,7 +5,7 @@ ghost use Rattle.network.specs.Records.{recordsOf};
 ghost use Rattle.losses.specs.Answers.{lossAnswerOf};
 ghost use Rattle.losses.specs.Loss.{lossIn};
 ghost use Rattle.losses.specs.ListLoss.{loadsAt, loadsOf};
-use crate::reconfiguration::compute_losses_estimate;
+use crate::estimate::compute_losses_estimate;
 use checks::check::check;
 use network::bus::Bus;
 use network::bus::Power;

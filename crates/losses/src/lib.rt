@@ -1,3 +1,3 @@
 // The loss of a state.
+pub mod estimate;
 pub mod evaluation;
-pub mod reconfiguration;

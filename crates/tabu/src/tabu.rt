@@ -23,7 +23,7 @@ ghost use Rattle.tabu.specs.TabuLaws.{MoveFrom};
 use crate::tabu_list::TabuList;
 use bfs::radial::is_radial;
 use graph::rows::Graph;
-use losses::reconfiguration::compute_losses_estimate;
+use losses::estimate::compute_losses_estimate;
 use network::bus::Power;
 use network::error::Verdict;
 use network::switch::Switch;

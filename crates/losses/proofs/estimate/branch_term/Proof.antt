@@ -1,8 +1,8 @@
 -- `branch_term` meets its contract: it computes as `termOf` does.
 use mathlib.Core.Path.{refl}
 use Rattle.losses.specs.Loss.{termOf}
-use Rattle.losses.proofs.reconfiguration.branch_term.Statement.{statement}
-use Rattle.losses.proofs.reconfiguration.branch_term.Tie as tie
+use Rattle.losses.proofs.estimate.branch_term.Statement.{statement}
+use Rattle.losses.proofs.estimate.branch_term.Tie as tie
 
 returns : tie.Need-returns
 unfolding termOf

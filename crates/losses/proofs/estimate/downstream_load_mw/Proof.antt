@@ -1,7 +1,7 @@
 -- `downstream_load_mw` meets its contract: the load is that of the walk.
 use borrow.Author.Needs.{needs}
-use Rattle.losses.proofs.reconfiguration.downstream_load_mw.Statement.{statement}
-use Rattle.losses.proofs.reconfiguration.downstream_load_mw.Tie as tie
+use Rattle.losses.proofs.estimate.downstream_load_mw.Statement.{statement}
+use Rattle.losses.proofs.estimate.downstream_load_mw.Tie as tie
 
 walk-load-requires : tie.Need-walk-load-requires
 walk-load-requires c κs = search needs

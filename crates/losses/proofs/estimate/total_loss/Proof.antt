@@ -7,8 +7,8 @@ use lib.ListN.{length}
 use borrow.Author.Needs.{needs}
 use Rattle.losses.specs.ListLoss.{listTotal}
 use Rattle.losses.proofs.Laws.{total-none, total-live, total-dead}
-use Rattle.losses.proofs.reconfiguration.total_loss.Statement.{statement}
-use Rattle.losses.proofs.reconfiguration.total_loss.Tie as tie
+use Rattle.losses.proofs.estimate.total_loss.Statement.{statement}
+use Rattle.losses.proofs.estimate.total_loss.Tie as tie
 
 abbrev Inv-loop : tie.InvT-loop
 Inv-loop far mw live base-mva n lists branches total₀ k₀ total k = (k ≤ n) × (total ≡ listTotal lists far mw live branches base-mva k)

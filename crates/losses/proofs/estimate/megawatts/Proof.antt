@@ -8,8 +8,8 @@ use Rattle.numbers.specs.Constants.{zero64}
 use Rattle.numbers.specs.TableLaws.{replicate-table, filled, filled-none, filled-more, filled-all}
 use Rattle.losses.specs.ListLoss.{noPower}
 use Rattle.losses.proofs.Laws.{load-inside, all-megawatts}
-use Rattle.losses.proofs.reconfiguration.megawatts.Statement.{statement}
-use Rattle.losses.proofs.reconfiguration.megawatts.Tie as tie
+use Rattle.losses.proofs.estimate.megawatts.Statement.{statement}
+use Rattle.losses.proofs.estimate.megawatts.Tie as tie
 
 abbrev Inv-loop : tie.InvT-loop
 Inv-loop loads mw₀ i₀ mw i = (i ≤ 256) × (mw ≡ filled (λ j. getD loads j noPower .0) zero64 256 i)

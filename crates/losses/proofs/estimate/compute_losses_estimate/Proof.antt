@@ -6,8 +6,8 @@ use lib.ListN.{length}
 use borrow.Author.Needs.{needs}
 use Rattle.losses.specs.ListLossLaws.{net-loss}
 use Rattle.losses.proofs.Laws.{loss-none, loss-all}
-use Rattle.losses.proofs.reconfiguration.compute_losses_estimate.Statement.{statement}
-use Rattle.losses.proofs.reconfiguration.compute_losses_estimate.Tie as tie
+use Rattle.losses.proofs.estimate.compute_losses_estimate.Statement.{statement}
+use Rattle.losses.proofs.estimate.compute_losses_estimate.Tie as tie
 
 live-long : (s : tie.Start) → length (s .args .t5) ≡ 512
 live-long s = search needs
