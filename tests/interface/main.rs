@@ -26,6 +26,8 @@ use random::Random;
 use reckoning::plan::{lines, plan, radial, well_formed};
 use reckoning::searches::Searches;
 use reckoning::{reader, Network, Refusal};
+use std::collections::BTreeMap;
+use std::ops::RangeInclusive;
 use std::process::ExitCode;
 
 const CASES: usize = 4000;
@@ -34,22 +36,37 @@ const MARGIN: usize = 16;
 const PAIR_LENGTH: usize = 11;
 const TEXT_LENGTH: usize = 7472;
 
+/// The calls, and the refusals that each can answer.
+const CALLS: [(&str, RangeInclusive<u8>); 4] = [("radiality", 1..=10), ("loss", 1..=10), ("plan", 1..=13), ("answer", 13..=13)];
+
+#[derive(Default)]
 struct Checks {
     count: usize,
-    refused: [usize; 14],
+    refused: BTreeMap<(&'static str, u8), usize>,
+}
+
+impl Checks {
+    /// Whether each refusal that can come was met.
+    fn all_met(&self) -> bool {
+        let mut all_met = true;
+        for (call, numbers) in CALLS {
+            let times = |number| self.refused.get(&(call, number)).copied().unwrap_or(0);
+            let counts: Vec<usize> = numbers.clone().map(times).collect();
+            println!("interface: Rust: {call}: refused with {} to {}: {counts:?}", numbers.start(), numbers.end());
+            all_met &= counts.iter().all(|&count| count > 0);
+        }
+        all_met
+    }
 }
 
 fn main() -> ExitCode {
-    let mut checks = Checks { count: 0, refused: [0; 14] };
+    let mut checks = Checks::default();
     let good = timed_feeders(&mut checks) && (0..CASES).all(|number| any_case(&mut checks, number));
-    for (number, count) in checks.refused.iter().enumerate().skip(1) {
-        println!("interface: Rust: {count:6} refused with {number}");
-    }
-    println!("interface: Rust: {} answers, {}", checks.count, if good { "0 wrong" } else { "1 wrong" });
-    let all_met = checks.refused[1..].iter().all(|&count| count > 0);
+    let all_met = checks.all_met();
     if !all_met {
         println!("interface: Rust: a refusal was never met");
     }
+    println!("interface: Rust: {} answers, {}", checks.count, if good { "0 wrong" } else { "1 wrong" });
     if good && all_met { ExitCode::SUCCESS } else { ExitCode::FAILURE }
 }
 
@@ -125,7 +142,7 @@ fn plan_answer(checks: &mut Checks, text: &[u8], present: &[u8], wanted: &[u8], 
 /// A call that is lent a slice: it lies between guard bytes and is full of them. Expected is the value with what stands at the slice's front.
 fn lent(
     checks: &mut Checks,
-    call: &str,
+    call: &'static str,
     text: &[u8],
     room: usize,
     expected: Result<(u64, Vec<u8>), Refusal>,
@@ -143,13 +160,13 @@ fn lent(
     bytes == right && compare(checks, call, text, expected.map(|(value, _)| value), answer)
 }
 
-fn compare(checks: &mut Checks, call: &str, text: &[u8], expected: Result<u64, Refusal>, answer: Answer) -> bool {
+fn compare(checks: &mut Checks, call: &'static str, text: &[u8], expected: Result<u64, Refusal>, answer: Answer) -> bool {
     let right = match expected {
         Ok(value) => Answer { number: 0, place: 0, value },
         Err(Refusal { number, place }) => Answer { number, place, value: 0 },
     };
     checks.count += 1;
-    checks.refused[usize::from(right.number)] += 1;
+    *checks.refused.entry((call, right.number)).or_default() += 1;
     if answer != right {
         println!("interface: Rust: {call}: {answer:?} for {right:?}, text:\n{}", String::from_utf8_lossy(text));
     }
