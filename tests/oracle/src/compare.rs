@@ -110,8 +110,10 @@ pub fn compare<R: Right>(compared: Compared<R>, program: &[String], workers: usi
         let work: Vec<_> =
             running.iter().map(|own| scope.spawn(|| worker(own, program, expected, &queue, &tally, &first))).collect();
         scope.spawn(|| watch(&running, &done));
-        work.into_iter().for_each(|worker| worker.join().expect("a worker panicked"));
+        // The watch must be told to end whatever became of the workers, or the scope waits for it forever.
+        let good = work.into_iter().map(|worker| worker.join().is_ok()).fold(true, |all, one| all & one);
         done.store(true, Ordering::Relaxed);
+        assert!(good, "a worker panicked");
     });
     let tally = tally.into_inner().expect("the workers are done");
     println!("{}", tally.lines());
