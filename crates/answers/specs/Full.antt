@@ -14,7 +14,7 @@ use Rattle.network.specs.Inside.{Inside}
 use Rattle.network.specs.InsideLaws.{check-inside}
 use Rattle.states.specs.Live.{checkState, onState}
 use Rattle.frames.specs.Acceptable.{Acceptable}
-use Rattle.frames.specs.Claim.{claim}
+use Rattle.frames.specs.Proof.{claim}
 use Rattle.slices.specs.Written.{written}
 use Rattle.printing.specs.Calls.{called}
 use Rattle.printing.specs.CallLaws.{call-done}

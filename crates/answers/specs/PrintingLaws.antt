@@ -18,7 +18,7 @@ use Rattle.network.specs.Check.{checkRecords}
 use Rattle.network.specs.InsideLaws.{check-inside}
 use Rattle.states.specs.Live.{baseState}
 use Rattle.frames.specs.Text.{readText}
-use Rattle.frames.specs.Claim.{claim}
+use Rattle.frames.specs.Proof.{claim, passed}
 use Rattle.slices.specs.Written.{written}
 use Rattle.printing.specs.Printed.{answer, answerText, refusal, refusalText}
 use Rattle.printing.specs.Calls.{Call}
@@ -97,7 +97,7 @@ unfolding printed
 printed-short text = go (readText text) refl
   where
     go : (a : Answer Network) → readText text ≡ a → length (printedOf a) ≤ 7472
-    go (accepted N) e = network-short N (claim .passed text N e)
+    go (accepted N) e = network-short N (passed text N e)
     go (refused number place) e = omega (arith, length-refusal number place)
 
 -- a program that reads 65,536 bytes of a longer text prints what the whole text would get

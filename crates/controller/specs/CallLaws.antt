@@ -9,7 +9,7 @@ use Rattle.network.specs.Answers.{Answer, accepted, refused, _andThen_}
 use Rattle.network.specs.Check.{checkRecords}
 use Rattle.states.specs.Live.{checkState, onState}
 use Rattle.network.specs.Records.{Network}
-use Rattle.frames.specs.Claim.{claim}
+use Rattle.frames.specs.Proof.{passed}
 use Rattle.printing.specs.Calls.{Call}
 use Rattle.printing.specs.Printed.{truthByte}
 use Rattle.frames.specs.Text.{readText}
@@ -64,7 +64,7 @@ module _ (t : List ℕ) (N : Network) (so : readText t ≡ accepted N) where
       → numbered f x ≡ onRecords (readText t) (λ M. check M andThen accepted (f (value M)))
   unfolding onRecords _andThen_
   call-answered f check value x h =
-      ap (numbered f) (h ∙ ap (λ c. c andThen check N andThen accepted (value N)) (claim .passed t N so))
+      ap (numbered f) (h ∙ ap (λ c. c andThen check N andThen accepted (value N)) (passed t N so))
       ∙ numbered-then f (check N) (value N)
       ∙ ap (λ a. onRecords a (λ M. check M andThen accepted (f (value M)))) (sym so)
 

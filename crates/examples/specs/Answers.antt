@@ -10,7 +10,7 @@ use Rattle.numbers.specs.Choose.{those, least, firstSome, firstOf, indexOf, _or
 use Rattle.states.specs.Live.{live, openOn, baseState}
 use Rattle.lines.specs.Hex.{digit, digits, writeFields}
 use Rattle.lines.specs.Frames.{frameText}
-use Rattle.frames.specs.Claim.{claim}
+use Rattle.frames.specs.Proof.{passed}
 use Rattle.examples.specs.Texts.{row, triangleText, triangle-read, manyTies, many-ties}
 use Rattle.examples.specs.Feeders.{float, triangle}
 use Rattle.printing.specs.Printed.{answerText, operationText, pairText, refusalText}
@@ -49,7 +49,7 @@ triangle-radial = refl
 
 triangle-has-plan : SwitchingPlan triangle (baseState triangle) (best triangle .state)
 unfolding best
-triangle-has-plan = search-has-plan triangle (triangle .algorithm) (claim .passed triangleText triangle triangle-read) triangle-radial
+triangle-has-plan = search-has-plan triangle (triangle .algorithm) (passed triangleText triangle triangle-read) triangle-radial
 
 -- 1 to 2 is a reduction of -100 percent; of 1e-12 there is none
 reductions :

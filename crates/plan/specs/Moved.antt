@@ -11,7 +11,7 @@ use lib.Seq.{getD-set-same, getD-set-other, set-set, set-comm, set-getD}
 use Rattle.numbers.specs.Tests.{clash}
 use Rattle.network.specs.Records.{Network}
 use Rattle.states.specs.Live.{live}
-use Rattle.states.specs.Switches.{State, byte, branchOf, operable, GoodState}
+use Rattle.states.specs.Switches.{State, byte, branchOf, operable, GoodState, inService}
 use Rattle.graph.specs.Graph.{Net, Branches, Live, Plus, Path, Connected, Loop, Tree}
 use Rattle.radiality.specs.Feeder.{feeder, LiveIn}
 use Rattle.graph.specs.Chains.{_⊆_, joined-more}
@@ -21,7 +21,7 @@ use Rattle.graph.specs.Trees.{tree-forest, tree-same}
 use Rattle.graph.specs.Loops.{closing-makes-loop, one-loop}
 use Rattle.plan.specs.Plan.{Pair, exchanged, Moves, movesOf}
 use Rattle.plan.specs.Claim.{switchAt, closed, carriedOut, turned, Exchanged, OnLoop}
-use Rattle.states.specs.LiveBytes.{InService, On, moved-other, opened-dead, closed-live, byte-open, byte-closed}
+use Rattle.states.specs.LiveBytes.{On, moved-other, opened-dead, closed-live, byte-open, byte-closed}
 use Rattle.plan.specs.Exchanges.{turnedPair, Fits, opened-live, pair-differs, closing-closed, opening-opened, exchanged-other, exchanged-tree, fits-back}
 use Rattle.plan.specs.Plannable.{Regular}
 
@@ -29,7 +29,7 @@ use Rattle.plan.specs.Plannable.{Regular}
 pub record Switchable (N : Network) (k : ℕ) : Type 0 where
   pub at : ℕ
   pub on : On N k at
-  pub served : InService N k
+  pub served : inService N k ≡ true
   pub free : operable N at ≡ true
 
 -- exactly the flagged branches are live in state s
