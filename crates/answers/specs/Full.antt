@@ -31,7 +31,7 @@ use Rattle.plan.specs.Length as PlanLength
 use Rattle.searches.specs.Results.{Best, resultBy, solvedBy}
 use Rattle.searches.specs.SearchLaws.{SoundBest}
 use Rattle.reconfiguration.specs.Solve.{best, result, solved}
-use Rattle.reconfiguration.specs.Answers.{best-sound}
+use Rattle.reconfiguration.specs.AnswersHavePlans.{best-sound}
 use Rattle.operations.specs.Operations.{operations, operationsText, operationsCall}
 use Rattle.operations.specs.OperationLines as Operations
 use Rattle.answers.specs.Printing.{networkText, printedOf, printed, answeredText}

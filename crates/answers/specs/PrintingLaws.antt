@@ -32,7 +32,7 @@ use Rattle.plan.specs.Plan.{plan, planText}
 use Rattle.plan.specs.Length as PlanLength
 use Rattle.searches.specs.Results.{Result, reduction, resultBy}
 use Rattle.reconfiguration.specs.Solve.{result, best}
-use Rattle.reconfiguration.specs.Answers.{best-loss, answers-have-plans}
+use Rattle.reconfiguration.specs.AnswersHavePlans.{best-loss, solve-plan-accepted}
 use Rattle.operations.specs.Operations.{operations}
 use Rattle.operations.specs.OperationLines as Operations
 use Rattle.operations.specs.OperationValues.{differs}
@@ -63,7 +63,7 @@ module _ (N : Network) (ok : checkRecords N ≡ accepted tt) where
       go : (b : Bool) → radialIn N (baseState N) ≡ b → length (cond b (planText (plan N (baseState N) (best N .state))) []) ≤ 2805
       go true e =
           let few = check-inside N .0 ok .counts in
-          omega (arith, few .0, PlanLength.length-text (plan N (baseState N) (best N .state)), PlanLength.plan-short N (baseState N) (best N .state) (answers-have-plans N ok e))
+          omega (arith, few .0, PlanLength.length-text (plan N (baseState N) (best N .state)), PlanLength.plan-short N (baseState N) (best N .state) (solve-plan-accepted N ok e))
       go false e = omega arith
 
   pub network-short : length (networkText N) ≤ 7472

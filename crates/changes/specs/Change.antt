@@ -25,7 +25,8 @@ checkRadial N s place = judge ((11 if not (radialIn N s)) ∷ []) place
 unfoldable pub differing : Network → State → State → ℕ → Bool
 differing N present wanted k = (live N present k && not (live N wanted k)) || (live N wanted k && not (live N present k))
 
--- the switch at position i differs, on a branch that is live in one of the two states only, and is locked
+-- the switch at position i differs, on a branch that is live in one of the two states only, and is locked. With one switch on a branch the branch's switch
+-- differs where the branch does: the first test says which switch would move
 unfoldable pub lockedDifference : Network → State → State → ℕ → Bool
 lockedDifference N present wanted i = not (eqb (byte present i) (byte wanted i)) && (differing N present wanted (branchOf N i) && not (operable N i))
 

@@ -25,7 +25,7 @@ use Rattle.exchange.specs.Exchange.{loopOf, sectionOf, swapWith, trial, improve
 use Rattle.searches.specs.Results.{reduction, resultBy}
 use Rattle.searches.specs.Rounds.{untilEnded}
 use Rattle.reconfiguration.specs.Solve.{bestBy, best, result}
-use Rattle.reconfiguration.specs.Answers.{search-has-plan}
+use Rattle.reconfiguration.specs.AnswersHavePlans.{solve-has-plan}
 use Rattle.operations.specs.Operations.{operationTo, operations, operationsText}
 use Rattle.answers.specs.Printing.{resultText, operationLines, planLines, moveLines, networkText, printed}
 
@@ -42,14 +42,13 @@ eleven-ties-printed : printed (manyTies 11) ≡ row 8 0x8F090019
 unfolding printed refusalText frameText writeFields digits digit
 eleven-ties-printed = rw (many-ties .1)
 
--- so the hypotheses of `search-has-plan` can be met
+-- so the hypotheses of `solve-has-plan` can be met
 triangle-radial : radialIn triangle (baseState triangle) ≡ true
 unfolding radialIn feeder position radial walk walkBy turn enterAll enter reached neighbours far baseState live openOn indexOf count upTo
 triangle-radial = refl
 
 triangle-has-plan : SwitchingPlan triangle (baseState triangle) (best triangle .state)
-unfolding best
-triangle-has-plan = search-has-plan triangle (triangle .algorithm) (passed triangleText triangle triangle-read) triangle-radial
+triangle-has-plan = solve-has-plan triangle (passed triangleText triangle triangle-read) triangle-radial
 
 -- 1 to 2 is a reduction of -100 percent; of 1e-12 there is none
 reductions :

@@ -22,7 +22,7 @@ use Rattle.losses.specs.Accepted.{loss-finite}
 use Rattle.losses.specs.Loss.{lossIn}
 use Rattle.printing.specs.Calls.{checkRoom, Call, answered, called}
 use Rattle.plan.specs.Plan.{planned}
-use Rattle.reconfiguration.specs.Answers.{best-loss}
+use Rattle.reconfiguration.specs.AnswersHavePlans.{best-loss}
 use Rattle.searches.specs.Results.{Result, resultBy, solvedBy}
 use Rattle.reconfiguration.specs.Solve.{best, result, solved}
 use Rattle.controller.specs.Calls.{numbered, onRecords}
