@@ -1,5 +1,6 @@
 -- Demand 1's first sentence, call by call: with records inside the limits, states of one byte 00 or 01 for each switch and room in the lent slice, nothing is refused, and the
--- answer is the full one: the value, and the bytes at the front of the slice, which keeps its tail. What a text says is `frames.specs.Claim.accepted-texts`.
+-- answer is the full one: the value, and the bytes at the front of the slice, which keeps its tail. What a text says is `frames.specs.Claim.accepted-texts`; the calls that take a
+-- text and states are in `controller.specs.Full`.
 use mathlib.Core.Path.{_≡_, refl, sym, ap, _∙_}
 use mathlib.Core.List.{List, _++_}
 use Prim.Native.Nat.{ℕ, _*_, _≤_}
@@ -7,6 +8,7 @@ use native.Mathlib.Omega.{arith}
 use lib.ListN.{length, drop}
 use borrow.Author.Tests.{le-leb}
 use Rattle.network.specs.Records.{Network}
+use Rattle.network.specs.declared.switch.ReconfigAlgorithm.{ReconfigAlgorithm}
 use Rattle.network.specs.Answers.{Answer, accepted, _andThen_}
 use Rattle.network.specs.AnswerLaws.{then-iff}
 use Rattle.network.specs.Check.{checkRecords}
@@ -28,10 +30,9 @@ use Rattle.plan.specs.Plannable.{Free}
 use Rattle.states.specs.Listed.{state-accepted}
 use Rattle.plan.specs.Accepted.{plan-accepted}
 use Rattle.plan.specs.Length as PlanLength
-use Rattle.searches.specs.Results.{Best, resultBy, solvedBy}
-use Rattle.searches.specs.SearchLaws.{SoundBest}
-use Rattle.reconfiguration.specs.Solve.{best, result, solved}
-use Rattle.reconfiguration.specs.AnswersHavePlans.{best-sound}
+use Rattle.searches.specs.Results.{resultBy, solvedBy}
+use Rattle.reconfiguration.specs.Solve.{bestBy, best, result, solved}
+use Rattle.reconfiguration.specs.AnswersHavePlans.{search-sound}
 use Rattle.operations.specs.Operations.{operations, operationsText, operationsCall}
 use Rattle.operations.specs.OperationLines as Operations
 use Rattle.answers.specs.Printing.{networkText, printedOf, printed, answeredText}
@@ -59,19 +60,20 @@ module _ (N : Network) (inside : Inside N) where
   pub loss-in-full : (s : State) → GoodState N s → onState N s (lossIn N s) ≡ accepted (lossIn N s)
   loss-in-full s good = answered s good (lossIn N s)
 
-  -- a search: a byte for each switch
-  pub searched-in-full : (search : Network → Best) → SoundBest N (search N) → (out : List ℕ) → length (N .switches) ≤ length out
-      → solvedBy search N out ≡ record { answer = accepted (resultBy search N); out = search N .state ++ drop (length (N .switches)) out }
+  -- `branch_exchange_solve`, `tabu_search` and `exhaustive_solve`, whichever search the head asks for: a byte for each switch. Where it asks for another, N of the last is
+  -- the network that asks for method 02
+  pub searched-in-full : (a : ReconfigAlgorithm) (out : List ℕ) → length (N .switches) ≤ length out
+      → solvedBy (bestBy a) N out ≡ record { answer = accepted (resultBy (bestBy a) N); out = bestBy a N .state ++ drop (length (N .switches)) out }
   unfolding solvedBy
-  searched-in-full search sound out room =
-      let long : length (search N .state) ≡ length (N .switches) = sound .good .long in
-      in-full (resultBy search N) (search N .state) out checked (rw long room) ∙ rw long
+  searched-in-full a out room =
+      let long : length (bestBy a N .state) ≡ length (N .switches) = search-sound N a .good .long in
+      in-full (resultBy (bestBy a) N) (bestBy a N .state) out checked (rw long room) ∙ rw long
 
   -- `solve`
   pub solved-in-full : (out : List ℕ) → length (N .switches) ≤ length out
       → solved N out ≡ record { answer = accepted (result N); out = best N .state ++ drop (length (N .switches)) out }
-  unfolding solved result
-  solved-in-full = searched-in-full best (best-sound N)
+  unfolding solved result best solvedBy resultBy
+  solved-in-full = searched-in-full (N .algorithm)
 
   -- `compute_switch_operations`: 9 bytes for each operation
   pub operations-in-full : (from to : State) → GoodState N from → GoodState N to → (out : List ℕ)

@@ -7,9 +7,8 @@ use lib.Dec.{T}
 use lib.Ieee.{Float, binary64, isNan, toBits}
 use Rattle.network.specs.Answers.{Answer, accepted, refused, _andThen_}
 use Rattle.network.specs.Check.{checkRecords}
-use Rattle.states.specs.Live.{checkState, onState}
+use Rattle.states.specs.Live.{onState}
 use Rattle.network.specs.Records.{Network}
-use Rattle.frames.specs.Proof.{passed}
 use Rattle.printing.specs.Calls.{Call}
 use Rattle.printing.specs.Printed.{truthByte}
 use Rattle.frames.specs.Text.{readText}
@@ -19,11 +18,6 @@ use Rattle.losses.specs.Loss.{lossIn}
 use Rattle.plan.specs.Plan.{planned}
 use Rattle.controller.specs.declared.answer.CallAnswer.{CallAnswer}
 use Rattle.controller.specs.Calls.{numbered, numbersOf, onRecords, textRadiality, textLoss, planOn, textPlan, writtenNumbers}
-
-numbered-then : {A : Type 0} (f : A → ℕ) (c : Answer (Unit {0})) (a : A) → numbered f (c andThen accepted a) ≡ (c andThen accepted (f a))
-unfolding numbered _andThen_
-numbered-then f (accepted u) a = refl
-numbered-then f (refused n p) a = refl
 
 -- ---- a loss has bits
 abbrev pub NoNan : Answer Float → Type 0
@@ -57,26 +51,17 @@ module _ (t : List ℕ) (n p : ℕ) (so : readText t ≡ refused n p) where
   unfolding textPlan planOn
   plan-refused present wanted out = ap (λ a. planOn a present wanted out) (sym so)
 
--- ---- an accepted text: the check of its records comes to nothing
+-- ---- an accepted text: what the call answered on its records
 module _ (t : List ℕ) (N : Network) (so : readText t ≡ accepted N) where
-  call-answered : {A : Type 0} (f : A → ℕ) (check : Network → Answer (Unit {0})) (value : Network → A) (x : Answer A)
-      → x ≡ (checkRecords N andThen check N andThen accepted (value N))
-      → numbered f x ≡ onRecords (readText t) (λ M. check M andThen accepted (f (value M)))
-  unfolding onRecords _andThen_
-  call-answered f check value x h =
-      ap (numbered f) (h ∙ ap (λ c. c andThen check N andThen accepted (value N)) (passed t N so))
-      ∙ numbered-then f (check N) (value N)
-      ∙ ap (λ a. onRecords a (λ M. check M andThen accepted (f (value M)))) (sym so)
-
   pub radiality-answered : (s : List ℕ) (x : Answer Bool) → x ≡ onState N s (radialIn N s)
       → numbered truthByte x ≡ textRadiality t s
-  unfolding textRadiality
-  radiality-answered s x = call-answered truthByte (λ M. checkState M s 0) (λ M. radialIn M s) x
+  unfolding textRadiality onRecords
+  radiality-answered s x h = rw (h, so)
 
   pub loss-answered : (s : List ℕ) (x : Answer Float) → x ≡ onState N s (lossIn N s)
       → numbered (toBits binary64) x ≡ textLoss t s
-  unfolding textLoss
-  loss-answered s x = call-answered (toBits binary64) (λ M. checkState M s 0) (λ M. lossIn M s) x
+  unfolding textLoss onRecords
+  loss-answered s x h = rw (h, so)
 
   pub plan-answered : (present wanted out : List ℕ) → planned N present wanted out ≡ textPlan t present wanted out
   unfolding textPlan planOn

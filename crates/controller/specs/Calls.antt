@@ -2,8 +2,8 @@
 use mathlib.Core.List.{List}
 use Prim.Native.Nat.{ℕ}
 use lib.Ieee.{binary64, toBits}
-use Rattle.network.specs.Answers.{Answer, accepted, refused, _andThen_}
-use Rattle.states.specs.Live.{checkState}
+use Rattle.network.specs.Answers.{Answer, accepted, refused}
+use Rattle.states.specs.Live.{onState}
 use Rattle.network.specs.Records.{Network}
 use Rattle.printing.specs.Calls.{Call}
 use Rattle.printing.specs.Printed.{truthByte}
@@ -23,18 +23,19 @@ abbrev pub numbersOf : Answer ℕ → CallAnswer
 numbersOf (accepted value) = record { number = 0; place = 0; value = value }
 numbersOf (refused number place) = record { number = number; place = place; value = 0 }
 
--- "Calls test the network": for a text that is its reading, and then comes what the call says of its records
+-- "Calls test the network": for a text that is its reading, and then comes what the call answers on its records, whose own check they have passed
+-- (`frames.specs.Claim.passed`)
 unfoldable pub onRecords : Answer Network → (Network → Answer ℕ) → Answer ℕ
 onRecords (accepted N) call = call N
 onRecords (refused number place) call = refused number place
 
 -- 1 where the state is radial, else 0, after refusal 10
 unfoldable pub textRadiality : List ℕ → List ℕ → Answer ℕ
-textRadiality text state = onRecords (readText text) (λ N. checkState N state 0 andThen accepted (truthByte (radialIn N state)))
+textRadiality text state = onRecords (readText text) (λ N. numbered truthByte (onState N state (radialIn N state)))
 
 -- the bits of the loss in MW, after refusal 10
 unfoldable pub textLoss : List ℕ → List ℕ → Answer ℕ
-textLoss text state = onRecords (readText text) (λ N. checkState N state 0 andThen accepted (toBits binary64 (lossIn N state)))
+textLoss text state = onRecords (readText text) (λ N. numbered (toBits binary64) (onState N state (lossIn N state)))
 
 -- ---- a call that writes: what it answers, and what the lent slice holds then
 pub record CallWritten : Type 0 where

@@ -1,9 +1,8 @@
--- Document 01's worked example: what is printed for the triangle's text, and a refusal's line. And the reduction where the best loss is above the base's, and of a base loss that is not above 1e-12.
+-- Document 01's worked example: what is printed for the triangle's text, and a refusal's line.
 use mathlib.Core.Bool.{true}
-use mathlib.Core.List.{_++_, flatMap}
+use mathlib.Core.List.{[], _∷_, _++_, flatMap}
 use mathlib.Core.Path.{_≡_, refl}
 use lib.Ieee.{ofBits, toBits, le, lt, neg, add, sub, mul, div}
-use Rattle.numbers.specs.Constants.{zero64, trillionth}
 use Rattle.numbers.specs.UpTo.{upTo, table}
 use Rattle.numbers.specs.Counts.{count}
 use Rattle.numbers.specs.Choose.{those, least, firstSome, firstOf, indexOf, _orElse_}
@@ -11,8 +10,8 @@ use Rattle.states.specs.Live.{live, openOn, baseState}
 use Rattle.lines.specs.Hex.{digit, digits, writeFields}
 use Rattle.lines.specs.Frames.{frameText}
 use Rattle.frames.specs.Proof.{passed}
-use Rattle.examples.specs.Texts.{row, triangleText, triangle-read, manyTies, many-ties}
-use Rattle.examples.specs.Feeders.{float, triangle}
+use Rattle.examples.specs.Texts.{line, triangleText, triangle-read, table-rows}
+use Rattle.examples.specs.Feeders.{triangle}
 use Rattle.printing.specs.Printed.{answerText, operationText, pairText, refusalText}
 use Rattle.graph.specs.Walk.{far, neighbours, reached, enter, enterAll, turn, walkBy, walk, byOf, across, back, bfsPath}
 use Rattle.graph.specs.Radial.{radial}
@@ -30,17 +29,17 @@ use Rattle.operations.specs.Operations.{operationTo, operations, operationsText
 use Rattle.answers.specs.Printing.{resultText, operationLines, planLines, moveLines, networkText, printed}
 
 triangle-printed : printed triangleText
-    ≡ row 58 0x810140100000000000003FF00000000000004052C00000000000000201
-    ++ (row 8 0x82000A00
-    ++ (row 8 0x82000B01
-    ++ row 10 0x83000B000A))
+    ≡ line 58 0x810140100000000000003FF00000000000004052C00000000000000201
+    ++ (line 8 0x82000A00
+    ++ (line 8 0x82000B01
+    ++ line 10 0x83000B000A))
 unfolding printed networkText moveLines planLines operationLines resultText result resultBy reduction best bestBy exchangeBest exchange untilEnded afterRound roundOf kept improves trial swapWith sectionOf loopOf swapped operations operationTo operationsText plan planText pairs pairsFrom closings opening exchanged switchOn endsPath lossIn loss totalOf termOf downstream walkLoad radialIn feeder position radial bfsPath back across byOf walk walkBy turn enterAll enter reached neighbours far baseState live openOn those least firstSome firstOf indexOf _orElse_ count upTo table answerText operationText pairText frameText writeFields digits digit flatMap ofBits toBits add sub mul div lt le neg
 triangle-printed = rw triangle-read
 
--- "A refusal prints one line": eleven ties are 9 at line 25
-eleven-ties-printed : printed (manyTies 11) ≡ row 8 0x8F090019
+-- "A refusal prints one line": `0G` is 1 at line 1
+refusal-printed : printed (48 ∷ 71 ∷ []) ≡ line 8 0x8F010001
 unfolding printed refusalText frameText writeFields digits digit
-eleven-ties-printed = rw (many-ties .1)
+refusal-printed = rw (table-rows .0)
 
 -- so the hypotheses of `solve-has-plan` can be met
 triangle-radial : radialIn triangle (baseState triangle) ≡ true
@@ -49,10 +48,3 @@ triangle-radial = refl
 
 triangle-has-plan : SwitchingPlan triangle (baseState triangle) (best triangle .state)
 triangle-has-plan = solve-has-plan triangle (passed triangleText triangle triangle-read) triangle-radial
-
--- 1 to 2 is a reduction of -100 percent; of 1e-12 there is none
-reductions :
-    (reduction (float 0x3FF0000000000000) (float 0x4000000000000000) ≡ float 0xC059000000000000)
-    × (reduction trillionth zero64 ≡ zero64)
-unfolding reduction ofBits sub mul div lt
-reductions = (refl, refl)

@@ -5,7 +5,7 @@ use mathlib.Core.Bool.{false}
 use mathlib.Core.List.{List, [], _∷_, flatMap}
 use Prim.Native.Nat.{ℕ}
 use lib.Ieee.{ofBits, le, neg}
-use lib.ListN.{drop, replicate}
+use lib.ListN.{replicate}
 use Rattle.numbers.specs.UpTo.{upTo}
 use Rattle.numbers.specs.Counts.{count}
 use Rattle.numbers.specs.Choose.{those, firstOf, indexOf}
@@ -48,30 +48,30 @@ wanted = 1 ∷ 0 ∷ []
 
 -- Four buses in a row by branches 0, 1 and 2; branch 3 from the first to the third, branch 4 from the first to the last, and branch 5, out of service.
 -- The switch of branch 4 is listed before that of branch 3; the switch of branch 5 is locked
-abbrev row : Network
-row =
+abbrev fourBuses : Network
+fourBuses =
     records
     (bus 1 0 ∷ bus 2 0 ∷ bus 3 0 ∷ bus 4 0 ∷ [])
     (branch 1 2 0 ∷ branch 2 3 0 ∷ branch 3 4 0 ∷ branch 1 3 0 ∷ branch 1 4 0 ∷ outOfService (branch 2 4 0) ∷ [])
     (tie 20 4 ∷ tie 21 3 ∷ section 22 2 ∷ section 23 1 ∷ locked (tie 24 5) ∷ [])
 
 -- all five switches differ
-abbrev row-present : State
-row-present = 1 ∷ 1 ∷ 0 ∷ 0 ∷ 1 ∷ []
+abbrev four-present : State
+four-present = 1 ∷ 1 ∷ 0 ∷ 0 ∷ 1 ∷ []
 
-abbrev row-wanted : State
-row-wanted = 0 ∷ 0 ∷ 1 ∷ 1 ∷ 0 ∷ []
+abbrev four-wanted : State
+four-wanted = 0 ∷ 0 ∷ 1 ∷ 1 ∷ 0 ∷ []
 
--- The triangle's pair is document 01's line 83000B000A. In the row, branch 4 comes first by switch order, and on the path 0, 1, 2 between its ends branch 1 is the first
+-- The triangle's pair is document 01's line 83000B000A. In the feeder of four buses, branch 4 comes first by switch order, and on the path 0, 1, 2 between its ends branch 1 is the first
 -- that is not wanted; then branch 3, on the path 4, 2. By branch order the pairs would be 21 with 23 and 20 with 22; along the path from the to bus, 20 with 22 and 21 with 23.
 -- Switch 24 is left as found, and that it is locked is no refusal
 computed : (baseState triangle ≡ present)
     × (checkPlan triangle present wanted ≡ accepted tt)
     × (plan triangle present wanted ≡ record { closes = 11; opens = 10 } ∷ [])
-    × (checkPlan row row-present row-wanted ≡ accepted tt)
-    × (plan row row-present row-wanted ≡ record { closes = 20; opens = 23 } ∷ record { closes = 21; opens = 22 } ∷ [])
+    × (checkPlan fourBuses four-present four-wanted ≡ accepted tt)
+    × (plan fourBuses four-present four-wanted ≡ record { closes = 20; opens = 23 } ∷ record { closes = 21; opens = 22 } ∷ [])
     × (endsPath triangle (live triangle present) 2 ≡ 0 ∷ 1 ∷ [])
-    × (endsPath row (live row row-present) 4 ≡ 0 ∷ 1 ∷ 2 ∷ [])
+    × (endsPath fourBuses (live fourBuses four-present) 4 ≡ 0 ∷ 1 ∷ 2 ∷ [])
 unfolding le ofBits neg upTo those firstOf indexOf count _andThen_ judge okBase okLoad okR among ties headFaults busFaults branchFaults switchFaults headOf checkRun checkRecords live openOn every checkState baseState far neighbours reached enter enterAll turn walkBy walk byOf across Walk.back bfsPath radial position feeder radialIn endsPath closings opening exchanged pairsFrom pairs switchOn plan checkRadial differing lockedDifference lockedDifferences checkLocked checkPlan
 computed = (refl, refl, refl, refl, refl, refl, refl)
 
@@ -85,28 +85,23 @@ triangle-holds : SwitchingPlan triangle present wanted
 triangle-holds = demand3 triangle present wanted (computed .1)
 
 -- switch 24 stands as the present state has it after every list of steps, and not as the wanted one has it
-row-as-found : (xs : List Step) → byte (after row row-present row-wanted xs .state) 4 ≡ 1
-row-as-found xs = demand3 row row-present row-wanted (computed .3) .as-found xs 4 refl
+four-as-found : (xs : List Step) → byte (after fourBuses four-present four-wanted xs .state) 4 ≡ 1
+four-as-found xs = demand3 fourBuses four-present four-wanted (computed .3) .as-found xs 4 refl
 
 -- ---- the call
+abbrev sevens : List ℕ
+sevens = replicate 10 7
+
 -- the triangle with switch 10 locked
 abbrev lockedTriangle : Network
 lockedTriangle = records buses branches (locked (section 10 1) ∷ tie 11 2 ∷ [])
 
--- eleven sevens
-abbrev full : List ℕ
-full = replicate 11 7
-
--- A slice of 11 bytes is full with the line 83000B000A, one of 12 keeps its last byte, one of 10 keeps them all. From a state to itself there is no pair, and nothing is written.
--- Refusals as document 01's table has them: state 02; the triangle, all closed; switch 10 locked. 10 of the wanted state comes before 11 of the present one
-calls :
-    (planned triangle present wanted full ≡ record { answer = accepted 1; out = 56 ∷ 51 ∷ 48 ∷ 48 ∷ 48 ∷ 66 ∷ 48 ∷ 48 ∷ 48 ∷ 65 ∷ 10 ∷ [] })
-    × (planned triangle present wanted (7 ∷ full) ≡ record { answer = accepted 1; out = 56 ∷ 51 ∷ 48 ∷ 48 ∷ 48 ∷ 66 ∷ 48 ∷ 48 ∷ 48 ∷ 65 ∷ 10 ∷ 7 ∷ [] })
-    × (planned triangle present wanted (drop 1 full) ≡ record { answer = refused 13 0; out = drop 1 full })
-    × (planned triangle present present full ≡ record { answer = accepted 0; out = full })
-    × (planned triangle (0 ∷ 2 ∷ []) wanted full ≡ record { answer = refused 10 0; out = full })
-    × (planned triangle (0 ∷ 0 ∷ []) (1 ∷ []) full ≡ record { answer = refused 10 1; out = full })
-    × (planned triangle present (0 ∷ 0 ∷ []) full ≡ record { answer = refused 11 1; out = full })
-    × (planned lockedTriangle present wanted full ≡ record { answer = refused 12 10; out = full })
+-- document 01's examples of rows 10 to 13, with the last one's slice for the planner: state 02; the triangle, all closed; switch 10 locked; 10 bytes for a line of 11. Nothing is
+-- written. A plan with room is in `Answers.triangle-printed`
+refusals :
+    (planned triangle (0 ∷ 2 ∷ []) wanted sevens ≡ record { answer = refused 10 0; out = sevens })
+    × (planned triangle (0 ∷ 0 ∷ []) wanted sevens ≡ record { answer = refused 11 0; out = sevens })
+    × (planned lockedTriangle present wanted sevens ≡ record { answer = refused 12 10; out = sevens })
+    × (planned triangle present wanted sevens ≡ record { answer = refused 13 0; out = sevens })
 unfolding le ofBits neg upTo those firstOf indexOf count _andThen_ judge okBase okLoad okR among ties headFaults busFaults branchFaults switchFaults headOf checkRun checkRecords live openOn every checkState baseState far neighbours reached enter enterAll turn walkBy walk byOf across Walk.back bfsPath radial position feeder radialIn endsPath closings opening exchanged pairsFrom pairs switchOn plan checkRadial differing lockedDifference lockedDifferences checkLocked checkPlan flatMap written pairText frameText writeFields digits digit planText checkRoom called planned
-calls = (refl, refl, refl, refl, refl, refl, refl, refl)
+refusals = (refl, refl, refl, refl)

@@ -27,34 +27,38 @@ use Rattle.reconfiguration.specs.Solve.{bestBy, best}
 use Rattle.examples.specs.Feeders.{float, bus, branch, section, tie, network, records, buses, branchesWith, switches, triangleWith, triangle}
 
 -- without switches the one state has no byte
-abbrev pub plain : List Bus → List Branch → Network
+abbrev plain : List Bus → List Branch → Network
 plain buses branches = records buses branches []
 
+-- the triangle with branch 0 from 2 to 1
+abbrev turned : Network
+turned = records buses (branchesWith (branch 2 1 0x3FD0000000000000)) switches
+
 -- a state of a feeder's switches, or a search
-pub data Case : Type 0 where
+data Case : Type 0 where
   inState : Network → State → Case
   searched : Network → Case
 
 -- radial or not, and the loss; or state, loss, iterations and converged
-pub data Value : Type 0 where
+data Value : Type 0 where
   stands : Bool → Float → Value
   finds : State → Float → ℕ → Bool → Value
 
-abbrev pub valueOf : Case → Value
+abbrev valueOf : Case → Value
 valueOf (inState N s) = stands (radialIn N s) (lossIn N s)
 valueOf (searched N) = let b = best N in finds (b .state) (b .loss) (b .iterations) (b .converged)
 
 infix 68 _gives_
-pub data Row : Type 0 where
+data Row : Type 0 where
   _gives_ : Case → Value → Row
 
-abbrev pub reckoned : Row → Value
+abbrev reckoned : Row → Value
 reckoned (c gives v) = valueOf c
 
-abbrev pub said : Row → Value
+abbrev said : Row → Value
 said (c gives v) = v
 
-abbrev pub marked : List Row
+abbrev marked : List Row
 marked =
     -- "no buses: radial, loss 0"
     inState (plain [] []) [] gives stands true (float 0)
@@ -65,11 +69,11 @@ marked =
     ∷ inState (plain (bus 1 0 ∷ bus 2 0 ∷ []) (branch 1 2 0 ∷ [])) [] gives stands true (float 0)
     ∷ inState (plain (bus 1 0 ∷ bus 2 0 ∷ []) (branch 1 2 0 ∷ branch 1 2 0 ∷ [])) [] gives stands false (float 0)
     -- "triangle base loss 4", "exchanged 1", "all closed: not radial, loss 5.6875"
-    ∷ inState triangle (0 ∷ 1 ∷ []) gives stands true (float 0x4010000000000000)
+    ∷ inState triangle (baseState triangle) gives stands true (float 0x4010000000000000)
     ∷ inState triangle (1 ∷ 0 ∷ []) gives stands true (float 0x3FF0000000000000)
     ∷ inState triangle (0 ∷ 0 ∷ []) gives stands false (float 0x4016C00000000000)
     -- "branch 0 turned (2 to 1): base loss 1.75"
-    ∷ inState (records buses (branchesWith (branch 2 1 0x3FD0000000000000)) switches) (0 ∷ 1 ∷ []) gives stands true (float 0x3FFC000000000000)
+    ∷ inState turned (baseState turned) gives stands true (float 0x3FFC000000000000)
     -- "exchange with 0 rounds: base, 0, not converged", "1: loss 1, 1, not", "2: 2, not", "3: 2, converged"
     ∷ searched (triangleWith BranchExchange 0) gives finds (0 ∷ 1 ∷ []) (float 0x4010000000000000) 0 false
     ∷ searched (triangleWith BranchExchange 1) gives finds (1 ∷ 0 ∷ []) (float 0x3FF0000000000000) 1 false
@@ -82,30 +86,30 @@ marked =
     ∷ []
 
 -- document 01: "One proved table holds the marked (*) cases under one theorem"
-pub marked-cases : map reckoned marked ≡ map said marked
+marked-cases : map reckoned marked ≡ map said marked
 unfolding best bestBy exchangeBest tabuBest exhaustiveBest exchange untilEnded afterRound roundOf kept improves trial swapWith sectionOf loopOf swapped tabu bestMove afterMove lastSeven lesserBy allowed among toggled exhaustive tryMask leastOrBase masked ties lossIn loss totalOf termOf downstream walkLoad radialIn endsPath feeder position radial bfsPath back across byOf walk walkBy turn enterAll enter reached neighbours far baseState live openOn those least firstSome firstOf indexOf _orElse_ count upTo table ofBits add sub mul div lt le
 marked-cases = refl
 
 -- Five buses in a row, 1 MW at each but the first, and three ties. In the first round, with 9.75 at its start, tie 5 improves to 8.75 and tie 6 to 9.5; tie 7's first
 -- section does not improve, its next one would to 5. The last improving tie wins, and tie 7's next section is not tried
-abbrev pub row : ℕ → Network
-row iterations =
+abbrev fiveBuses : ℕ → Network
+fiveBuses iterations =
     network BranchExchange iterations
     (bus 1 0 ∷ bus 2 0x3FF0000000000000 ∷ bus 3 0x3FF0000000000000 ∷ bus 4 0x3FF0000000000000 ∷ bus 5 0x3FF0000000000000 ∷ [])
     (branch 1 2 0x3FD0000000000000 ∷ branch 2 3 0x3FE0000000000000 ∷ branch 3 4 0x3FD0000000000000 ∷ branch 4 5 0x3FD0000000000000
     ∷ branch 2 4 0x3FD0000000000000 ∷ branch 2 5 0x3FD0000000000000 ∷ branch 1 4 0x3FD0000000000000 ∷ [])
     (section 1 0 ∷ section 2 1 ∷ section 3 2 ∷ section 4 3 ∷ tie 5 4 ∷ tie 6 5 ∷ tie 7 6 ∷ [])
 
-abbrev pub rounds : List Row
+abbrev rounds : List Row
 rounds =
-    inState (row 1) (0 ∷ 0 ∷ 0 ∷ 0 ∷ 1 ∷ 1 ∷ 1 ∷ []) gives stands true (float 0x4023800000000000)
-    ∷ searched (row 1) gives finds (0 ∷ 1 ∷ 0 ∷ 0 ∷ 1 ∷ 0 ∷ 1 ∷ []) (float 0x4023000000000000) 1 false
+    inState (fiveBuses 1) (0 ∷ 0 ∷ 0 ∷ 0 ∷ 1 ∷ 1 ∷ 1 ∷ []) gives stands true (float 0x4023800000000000)
+    ∷ searched (fiveBuses 1) gives finds (0 ∷ 1 ∷ 0 ∷ 0 ∷ 1 ∷ 0 ∷ 1 ∷ []) (float 0x4023000000000000) 1 false
     -- the better one of tie 5, and the one that tie 7's next section would give
-    ∷ inState (row 1) (0 ∷ 1 ∷ 0 ∷ 0 ∷ 0 ∷ 1 ∷ 1 ∷ []) gives stands true (float 0x4021800000000000)
-    ∷ inState (row 1) (0 ∷ 1 ∷ 0 ∷ 0 ∷ 1 ∷ 1 ∷ 0 ∷ []) gives stands true (float 0x4014000000000000)
-    ∷ searched (row 100) gives finds (0 ∷ 1 ∷ 0 ∷ 1 ∷ 0 ∷ 0 ∷ 1 ∷ []) (float 0x401E000000000000) 3 true
+    ∷ inState (fiveBuses 1) (0 ∷ 1 ∷ 0 ∷ 0 ∷ 0 ∷ 1 ∷ 1 ∷ []) gives stands true (float 0x4021800000000000)
+    ∷ inState (fiveBuses 1) (0 ∷ 1 ∷ 0 ∷ 0 ∷ 1 ∷ 1 ∷ 0 ∷ []) gives stands true (float 0x4014000000000000)
+    ∷ searched (fiveBuses 100) gives finds (0 ∷ 1 ∷ 0 ∷ 1 ∷ 0 ∷ 0 ∷ 1 ∷ []) (float 0x401E000000000000) 3 true
     ∷ []
 
-pub round-cases : map reckoned rounds ≡ map said rounds
+round-cases : map reckoned rounds ≡ map said rounds
 unfolding best bestBy exchangeBest tabuBest exhaustiveBest exchange untilEnded afterRound roundOf kept improves trial swapWith sectionOf loopOf swapped tabu bestMove afterMove lastSeven lesserBy allowed among toggled exhaustive tryMask leastOrBase masked ties lossIn loss totalOf termOf downstream walkLoad radialIn endsPath feeder position radial bfsPath back across byOf walk walkBy turn enterAll enter reached neighbours far baseState live openOn those least firstSome firstOf indexOf _orElse_ count upTo table ofBits add sub mul div lt le
 round-cases = refl

@@ -25,8 +25,8 @@ use Rattle.plan.specs.Plan.{planned}
 use Rattle.reconfiguration.specs.AnswersHavePlans.{best-loss}
 use Rattle.searches.specs.Results.{Result, resultBy, solvedBy}
 use Rattle.reconfiguration.specs.Solve.{best, result, solved}
-use Rattle.controller.specs.Calls.{numbered, onRecords}
-use Rattle.controller.specs.CallLaws.{NoNan, radiality-answered, loss-answered, plan-answered, radiality-refused, loss-refused, plan-refused}
+use Rattle.controller.specs.Calls.{numbered, onRecords, textRadiality, textLoss, planOn, textPlan}
+use Rattle.controller.specs.CallLaws.{NoNan, radiality-refused, loss-refused, plan-refused}
 use Rattle.timing.specs.Rounds.{valueOf, recordCount, searchValue, textSearch, asked, total}
 
 -- ---- how many records a text has
@@ -54,17 +54,17 @@ module _ (kind : ℕ) (t a b : List ℕ) where
   module _ (N : Network) where
     pub asked-radiality : kind ≡ 1 → readText t ≡ accepted N
         → numbered truthByte (onState N a (radialIn N a)) ≡ asked kind t a b
-    unfolding asked
-    asked-radiality e so = radiality-answered t N so a _ refl ∙ ap (λ k. asked k t a b) (sym e)
+    unfolding asked textRadiality onRecords
+    asked-radiality e so = rw (e, so)
 
     pub asked-loss : kind ≡ 2 → readText t ≡ accepted N
         → numbered (toBits binary64) (onState N a (lossIn N a)) ≡ asked kind t a b
-    unfolding asked
-    asked-loss e so = loss-answered t N so a _ refl ∙ ap (λ k. asked k t a b) (sym e)
+    unfolding asked textLoss onRecords
+    asked-loss e so = rw (e, so)
 
     pub asked-pairs : kind ≡ 3 → readText t ≡ accepted N → planned N a b (replicate 2805 0) .answer ≡ asked kind t a b
-    unfolding asked
-    asked-pairs e so = ap (λ (p : Call ℕ). p .answer) (plan-answered t N so a b (replicate 2805 0)) ∙ ap (λ k. asked k t a b) (sym e)
+    unfolding asked textPlan planOn
+    asked-pairs e so = rw (e, so)
 
 -- ---- a best loss has bits
 abbrev pub lossOf : Answer Result → Answer Float
