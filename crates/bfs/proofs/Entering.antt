@@ -1,15 +1,16 @@
 -- One bus more of a walk, in the arrays of the code: from the flags and the entries to the definition's list of visits.
 use mathlib.Core.Path.{_≡_, refl, sym, ap, _∙_}
-use mathlib.Core.Bool.{Bool, true, false, cond, _||_, or-true, or-false, or-assoc}
+use mathlib.Core.Bool.{Bool, true, false, cond, _||_, or-true}
 use mathlib.Core.List.{List, [], _∷_, _++_, map, map-append}
 use Prim.Native.Nat.{ℕ, suc, _+_, _-_, _<_, _≤_}
+use native.Mathlib.Decide.{ℕ-discrete}
 use native.Mathlib.Omega.{arith}
 use lib.Dec.{eqb}
 use lib.ListN.{length, getD, set, replicate, length-append, length-set, length-map, List·getD-append, List·getD-map}
 use lib.Seq.{getD-set-same, getD-set-other, set-append-seam, append-snoc}
-use borrow.Author.Tests.{eqb-true, eqb-false}
 use Rattle.numbers.specs.Counts.{count, count-le, count-drop}
 use Rattle.graph.specs.Walk.{Visit, startAt, reached, enter}
+use Rattle.graph.specs.Visits.{reached-last, reached-before}
 use Rattle.graph.specs.Rows.{flag, filled}
 use Rattle.graph.specs.Walking.{Walking, enterLive}
 
@@ -29,11 +30,6 @@ filled-first l i h = List·getD-append l _ 0 i h
 pub filled-read : (f : Visit → ℕ) (o : List Visit) (i : ℕ) → f (startAt 0) ≡ 0 → i < length o → getD (filled (map f o)) i 0 ≡ f (getD o i (startAt 0))
 filled-read f o i z l =
     filled-first (map f o) i (rw length-map l) ∙ ap (λ (d : ℕ). getD (map f o) i d) (sym z) ∙ List·getD-map f o i (startAt 0)
-
-reached-snoc : (x : ℕ) (o : List Visit) (v : Visit) → reached x (o ++ (v ∷ [])) ≡ (reached x o || eqb x (v .bus))
-unfolding reached
-reached-snoc x [] v = or-false (eqb x (v .bus))
-reached-snoc x (w ∷ o) v = rw (reached-snoc x o v) (sym (or-assoc (eqb x (w .bus)) (reached x o) (eqb x (v .bus))))
 
 -- a walk in the arrays
 module _ {barred : ℕ} {o : List Visit} {seen : List Bool} {bus by : List ℕ} {n : ℕ} (w : Walking barred o seen bus by n) where
@@ -58,19 +54,18 @@ module _ {barred : ℕ} {o : List Visit} {seen : List Bool} {bus by : List ℕ} 
           buses = rw (map-append, w .buses) (column (λ (v : Visit). v .bus) v);
           branches = rw (map-append, w .branches) (column (λ (v : Visit). v .by) v);
           flags = simp length-set (w .flags);
-          marks = λ y h. rw (reached-snoc y o v) (mark y h (eqb y x) refl);
+          marks = λ y h. mark y h v refl (ℕ-discrete y x);
           room = rw (length-append, more-flags) (omega (arith, w .room));
         }
       where
         column : (f : Visit → ℕ) (v : Visit) → set (filled (map f o)) n (f v) ≡ filled (map f o ++ (f v ∷ []))
         column f v = filled-more (map f o) (f v) n (w .counted ∙ sym (length-map o f)) one-fits
 
-        mark : (y : ℕ) → y < 256 → (b : Bool) → eqb y x ≡ b → getD (set seen x true) y false ≡ (eqb y barred || (reached y o || eqb y x))
-        mark y h true e =
-            let q : y ≡ x = eqb-true y x e in
+        mark : (y : ℕ) → y < 256 → (v : Visit) → v .bus ≡ x → Dec (y ≡ x) → getD (set seen x true) y false ≡ (eqb y barred || reached y (o ++ (v ∷ [])))
+        mark y h v e (yes q) =
             let l : x < length seen = omega (arith, w .flags) in
-            rw (e, or-true (reached y o), or-true (eqb y barred), q) (getD-set-same seen x true false l)
-        mark y h false e = rw (e, or-false, getD-set-other seen x y true false (eqb-false y x e)) (w .marks y h)
+            rw (reached-last y o v (q ∙ sym e), or-true (eqb y barred), q) (getD-set-same seen x true false l)
+        mark y h v e (no n) = rw (reached-before y o v (λ q. n (q ∙ e)), getD-set-other seen x y true false n) (w .marks y h)
 
 -- what becomes of a bus that a half-branch leads to
 module _ (live : Bool) (x k : ℕ) {seen : List Bool} {bus by : List ℕ} {n : ℕ} where

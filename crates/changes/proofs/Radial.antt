@@ -1,5 +1,5 @@
 -- Refusal 11, as the graph and the flags of a state show it.
-use mathlib.Core.Path.{_≡_, sym, _∙_}
+use mathlib.Core.Path.{_≡_, sym}
 use mathlib.Core.Bool.{Bool, true, false}
 use mathlib.Core.List.{List}
 use Prim.Native.Nat.{ℕ}
@@ -13,13 +13,13 @@ use Rattle.graph.specs.declared.rows.Graph.{Graph}
 use Rattle.graph.specs.Rows.{rowRadial}
 use Rattle.radiality.specs.Feeder.{radialIn}
 use Rattle.radiality.specs.FeederRows.{feederGraph, liveFlags}
-use Rattle.radiality.specs.FeederRowLaws.{live-row-radial}
+use Rattle.radiality.specs.FeederRowLaws.{flags-radial}
 use Rattle.changes.specs.Change.{checkRadial}
 
 module _ (n : PowerNetwork) (buses : length (n .buses) ≡ 256) (passed : checkRecords (recordsOf n) ≡ accepted tt) (s : State) (place : ℕ)
     {graph : Graph} (g : graph ≡ feederGraph n) {live : List Bool} (l : live ≡ liveFlags (recordsOf n) s) {b : Bool} (e : b ≡ rowRadial graph live) where
   as-radial : radialIn (recordsOf n) s ≡ b
-  as-radial = sym (e ∙ rw (g, l) (live-row-radial n buses passed s))
+  as-radial = sym (flags-radial n buses passed s graph live g l b e)
 
   pub not-radial : b ≡ false → checkRadial (recordsOf n) s place ≡ refused 11 place
   unfolding checkRadial judge

@@ -21,9 +21,13 @@ use Rattle.changes.specs.declared.change.Change.{Change}
 unfoldable pub checkRadial : Network → State → ℕ → Answer (Unit {0})
 checkRadial N s place = judge ((11 if not (radialIn N s)) ∷ []) place
 
+-- branch k is flagged in E and not in F
+abbrev pub onlyIn : (ℕ → Bool) → (ℕ → Bool) → ℕ → Bool
+onlyIn E F k = E k && not (F k)
+
 -- live in one of the two states only
 unfoldable pub differing : Network → State → State → ℕ → Bool
-differing N present wanted k = (live N present k && not (live N wanted k)) || (live N wanted k && not (live N present k))
+differing N present wanted k = onlyIn (live N present) (live N wanted) k || onlyIn (live N wanted) (live N present) k
 
 -- the switch at position i differs, on a branch that is live in one of the two states only, and is locked. With one switch on a branch the branch's switch
 -- differs where the branch does: the first test says which switch would move

@@ -2,7 +2,7 @@
 -- without e or goes by way of it.
 use mathlib.Core.Path.{_≡_, refl, sym, ap}
 use mathlib.Core.Logic.{_⊎_, inl, inr, _↔_}
-use mathlib.Core.List.{List, [], _∷_, _++_, List·Memᴰ, List·Memᴰ·head, List·Memᴰ·tail, List·Memᴰ·not-nil}
+use mathlib.Core.List.{List, [], _∷_, _++_, List·Memᴰ, List·Memᴰ·head, List·Memᴰ·tail, List·Memᴰ·not-nil, Memᴰ·cast}
 use Prim.Native.Nat.{ℕ}
 use native.Mathlib.Decide.{ℕ-discrete}
 use Rattle.graph.specs.Graph.{Net, Branches, Plus, Minus, Ends, along, against, Chain, stay, step, visited, Joined}
@@ -46,7 +46,7 @@ module _ {N : Net} where
   ends-own = along refl refl
 
   module _ {S : Branches} where
-    pub chain-append : {a b c : ℕ} {l r : List ℕ} → Chain N S a b l → Chain N S b c r → Chain N S a c (l ++ r)
+    chain-append : {a b c : ℕ} {l r : List ℕ} → Chain N S a b l → Chain N S b c r → Chain N S a c (l ++ r)
     chain-append (stay e) d = rw e d
     chain-append (step s e c) d = step s e (chain-append c d)
 
@@ -76,17 +76,20 @@ module _ {N : Net} where
     on-chain (step s e c) (List·Memᴰ·head p) = rw p s
     on-chain (step s e c) (List·Memᴰ·tail m) = on-chain c m
 
-    -- a chain on which f does not stand does without f
-    pub chain-without : {a b f : ℕ} {l : List ℕ} → Chain N S a b l → ¬ List·Memᴰ f l → Chain N (Minus S f) a b l
-    chain-without (stay e) n = stay e
-    chain-without (step s e c) n = step (s, λ (p : _ ≡ _). n (List·Memᴰ·head (sym p))) e (chain-without c (λ m. n (List·Memᴰ·tail m)))
+  -- a chain whose every branch is of R
+  pub chain-within : {S R : Branches} {a b : ℕ} {l : List ℕ} → Chain N S a b l → ((x : ℕ) → List·Memᴰ x l → S x → R x) → Chain N R a b l
+  chain-within (stay e) h = stay e
+  chain-within (step {k = k} s e c) h = step (h k (List·Memᴰ·head refl) s) e (chain-within c (λ x m. h x (List·Memᴰ·tail m)))
+
+  -- a chain on which f does not stand does without f
+  pub chain-without : {S : Branches} {a b f : ℕ} {l : List ℕ} → Chain N S a b l → ¬ List·Memᴰ f l → Chain N (Minus S f) a b l
+  chain-without c n = chain-within c (λ x m s. (s, λ p. n (Memᴰ·cast (sym p) m)))
 
   pub chain-more : {S R : Branches} → S ⊆ R → {a b : ℕ} {l : List ℕ} → Chain N S a b l → Chain N R a b l
-  chain-more h (stay e) = stay e
-  chain-more h (step s e c) = step (h _ s) e (chain-more h c)
+  chain-more h c = chain-within c (λ x m s. h x s)
 
   pub visited-more : {S R : Branches} (h : S ⊆ R) {a b : ℕ} {l : List ℕ} (c : Chain N S a b l) → visited (chain-more h c) ≡ visited c
-  unfolding visited chain-more
+  unfolding visited chain-more chain-within
   visited-more h (stay e) = refl
   visited-more h (step {a = a} s e c) = ap (_∷_ a) (visited-more h c)
 

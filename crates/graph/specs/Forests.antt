@@ -21,7 +21,7 @@ module _ {N : Net} {S : Branches} where
     λ n k s j. let p = joined-path j in n (record { branch = k; rest = p .0; own = s; around = p .1 }),
   )
 
-  pub bridge : Forest N S → {k a b : ℕ} → S k → Ends N k a b → ¬ Joined N (Minus S k) a b
+  bridge : Forest N S → {k a b : ℕ} → S k → Ends N k a b → ¬ Joined N (Minus S k) a b
   bridge h s e j = h _ s (joined-ends e .0 j)
 
   pub forest-less : {R : Branches} → R ⊆ S → Forest N S → Forest N R

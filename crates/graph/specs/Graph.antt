@@ -58,7 +58,7 @@ Joined N S a b = (l : List ℕ) × Chain N S a b l
 unfoldable pub Connected : (N : Net) (S : Branches) → Type 0
 Connected N S = (a b : ℕ) → a < N .buses → b < N .buses → Joined N S a b
 
--- a loop: a branch of S and a path between its ends that does without it. Its branches are e and those of the path.
+-- a loop: a branch of S and a path between its ends that does without it. Its branches are `branch` and `rest`.
 -- With equal ends the path is empty; of two parallel branches the other one is the path
 pub record Loop (N : Net) (S : Branches) : Type 0 where
   pub branch : ℕ

@@ -31,6 +31,10 @@ module _ {N : Net} {S : Branches} where
         around = (step (t, n) (between e f) (stay refl), (λ m. d (List·Memᴰ·eq-of-singleton m), (List·Memᴰ·not-nil, tt)));
       }
 
+-- with more branches a loop is still a loop
+unfoldable pub loop-more : {N : Net} {S R : Branches} → S ⊆ R → Loop N S → Loop N R
+loop-more h l = record { branch = l .branch; rest = l .rest; own = h _ (l .own); around = path-more (λ k t. (h k (t .0), t .1)) (l .around) }
+
 module _ {N : Net} {S : Branches} (o : Loop N S) {x : ℕ} where
   pub on-loop : List·Memᴰ x (o .branch ∷ o .rest) → S x
   on-loop (List·Memᴰ·head p) = rw p (o .own)

@@ -40,7 +40,7 @@ module _ {N : Net} {S : Branches} where
   visits (step s e r) (List·Memᴰ·tail m) n = List·Memᴰ·tail (visits r m n)
 
   -- what a chain visits is joined with its start
-  pub visited-joined : {a b x : ℕ} {l : List ℕ} (c : Chain N S a b l) → List·Memᴰ x (visited c) → Joined N S a x
+  visited-joined : {a b x : ℕ} {l : List ℕ} (c : Chain N S a b l) → List·Memᴰ x (visited c) → Joined N S a x
   unfolding visited
   visited-joined (stay e) m = joined-same (sym (List·Memᴰ·eq-of-singleton m))
   visited-joined (step s e c) (List·Memᴰ·head p) = joined-same (sym p)

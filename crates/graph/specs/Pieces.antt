@@ -5,7 +5,7 @@ use mathlib.Core.Path.{_≡_, refl, sym, ap, _∙_}
 use mathlib.Core.Logic.{_⊎_, inl, inr, _↔_, _≢_}
 use mathlib.Core.Bool.{Bool, true, false, cond, not, _&&_, and-false, true≢false}
 use mathlib.Core.List.{List}
-use Prim.Native.Nat.{ℕ, zero, suc, _+_, _≤_, _<_}
+use Prim.Native.Nat.{ℕ, zero, suc, _+_, _-_, _≤_, _<_}
 use native.Mathlib.Decide.{ℕ-discrete}
 use native.Mathlib.Omega.{arith}
 use lib.Dec.{eqb}
@@ -17,20 +17,20 @@ use Rattle.graph.specs.Paths.{joined-path, path-more}
 use Rattle.graph.specs.Forests.{Forest, forest-no-loop, forest-less, forest-plus}
 
 -- the live branches among the first k
-abbrev pub First : (ℕ → Bool) → ℕ → Branches
+abbrev First : (ℕ → Bool) → ℕ → Branches
 First E k i = (i < k) × (E i ≡ true)
 
 -- label q becomes p, every other stays
-unfoldable pub relabel : ℕ → ℕ → ℕ → ℕ
+unfoldable relabel : ℕ → ℕ → ℕ → ℕ
 relabel p q z = cond (eqb z q) p z
 
 -- the label of bus x after the first k branches: a live branch merges the labels of its ends
-unfoldable pub label : Net → (ℕ → Bool) → ℕ → ℕ → ℕ
+unfoldable label : Net → (ℕ → Bool) → ℕ → ℕ → ℕ
 label N E zero x = x
 label N E (suc k) x = cond (E k) (relabel (label N E k (N .from k)) (label N E k (N .to k)) (label N E k x)) (label N E k x)
 
 -- branch k is live and closes a loop with the live branches before it
-unfoldable pub closes : Net → (ℕ → Bool) → ℕ → Bool
+unfoldable closes : Net → (ℕ → Bool) → ℕ → Bool
 closes N E k = E k && eqb (label N E k (N .from k)) (label N E k (N .to k))
 
 -- branch k is live and joins two pieces
@@ -38,7 +38,7 @@ links : Net → (ℕ → Bool) → ℕ → Bool
 links N E k = E k && not (eqb (label N E k (N .from k)) (label N E k (N .to k)))
 
 -- how many pieces the first k branches leave: one for each bus that is its own label
-unfoldable pub pieces : Net → (ℕ → Bool) → ℕ → ℕ
+unfoldable pieces : Net → (ℕ → Bool) → ℕ → ℕ
 pieces N E k = count (λ x. eqb (label N E k x) x) (N .buses)
 
 relabel-hit : (p q z : ℕ) → z ≡ q → relabel p q z ≡ p
@@ -124,7 +124,7 @@ module _ (N : Net) (E : ℕ → Bool) where
       go (no n) false t ih = rw (label-dead k (N .from i) t, label-dead k (N .to i) t) (ih (omega arith))
 
   -- two buses have one label exactly where the first k branches join them
-  pub same-label : (k x y : ℕ) → (label N E k x ≡ label N E k y) ↔ Joined N (First E k) x y
+  same-label : (k x y : ℕ) → (label N E k x ≡ label N E k y) ↔ Joined N (First E k) x y
   same-label k x y = (fore, λ j. back (j .1))
     where
       fore : label N E k x ≡ label N E k y → Joined N (First E k) x y
@@ -160,7 +160,7 @@ module _ (N : Net) (E : ℕ → Bool) where
   links-linking k e n = rw (e, ne-eqb _ _ n)
 
   -- a live branch closes exactly where the branches before it join its ends
-  pub closes-joined : (k : ℕ) → (closes N E k ≡ true) ↔ ((E k ≡ true) × Joined N (First E k) (N .from k) (N .to k))
+  closes-joined : (k : ℕ) → (closes N E k ≡ true) ↔ ((E k ≡ true) × Joined N (First E k) (N .from k) (N .to k))
   closes-joined k = (λ e. go (kind N E k) e, λ h. closes-closing k (h .0) (same-label k _ _ .1 (h .1)))
     where
       go : Kind N E k → closes N E k ≡ true → (E k ≡ true) × Joined N (First E k) (N .from k) (N .to k)
@@ -193,7 +193,7 @@ module _ (N : Net) (E : ℕ → Bool) where
               here (no n) = inl (omega arith, t .1)
 
   -- among the first k branches one closes exactly where they have a loop
-  pub closing-loop : (k : ℕ) → ((i : ℕ) × (i < k) × (closes N E i ≡ true)) ↔ Loop N (First E k)
+  closing-loop : (k : ℕ) → ((i : ℕ) × (i < k) × (closes N E i ≡ true)) ↔ Loop N (First E k)
   closing-loop k = (λ (i, l, e). fore i l (closes-joined i .0 e), λ o. back (some-below (closes N E) k) o)
     where
       fore : (i : ℕ) → i < k → (E i ≡ true) × Joined N (First E i) (N .from i) (N .to i) → Loop N (First E k)
@@ -283,10 +283,10 @@ module _ (N : Net) (E : ℕ → Bool) where
         go (linking e n) ih = omega (arith, pieces-drop k m e n, count-yes (links N E) k (links-linking k e n))
 
     -- live branches and pieces are as many as buses and closing branches
-    pub balance : (k : ℕ) → k ≤ N .branches → count E k + pieces N E k ≡ N .buses + count (closes N E) k
+    balance : (k : ℕ) → k ≤ N .branches → count E k + pieces N E k ≡ N .buses + count (closes N E) k
     balance k l = omega (arith, pieces-links k l, links-closes k)
 
-    pub one-piece : 0 < N .buses → Connected N (Live N E) → pieces N E (N .branches) ≡ 1
+    one-piece : 0 < N .buses → Connected N (Live N E) → pieces N E (N .branches) ≡ 1
     unfolding pieces Connected
     one-piece some h =
         count-cong (λ x. eqb (L x) x) (λ x. eqb (L 0) x) (N .buses) (λ x l. ap (λ z. eqb z x) (same-label _ x 0 .1 (h x 0 l some)))
@@ -316,3 +316,15 @@ module _ (N : Net) (E : ℕ → Bool) where
 
     pub tree-branches : 0 < N .buses → Tree N (Live N E) → suc (count E (N .branches)) ≡ N .buses
     tree-branches some t = tree-count some (t .connected) .1 (t .no-loop)
+
+    -- also without buses, for then there are no branches
+    pub tree-few : Tree N (Live N E) → count E (N .branches) ≤ N .buses - 1
+    tree-few t = go (ℕ-discrete (N .buses) 0)
+      where
+        none : (n : ℕ) → n ≡ N .branches → N .buses ≡ 0 → count E n ≤ 0
+        none zero e z = unfold count in omega arith
+        none (suc n) e z = let s = sound 0 (omega arith) .0 in absurd (omega arith)
+
+        go : Dec (N .buses ≡ 0) → count E (N .branches) ≤ N .buses - 1
+        go (yes z) = omega (arith, none (N .branches) refl z)
+        go (no n) = omega (arith, tree-branches (omega arith) t)

@@ -46,7 +46,7 @@ module _ (N : Net) (E : ℕ → Bool) (sound : Sound N) (m : N .buses ≤ 256) w
         back h = sym (walk-count N E 0 0 sound some) ∙ count-all met (N .buses) (λ b l. walk-joined N E sound m 0 some b .1 (h 0 b some l))
 
   pub radial-tree : (radial N E ≡ true) ↔ Tree N (Live N E)
-  unfolding radial
+  unfolding radial walk
   radial-tree = go (ℕ-discrete (N .buses) 0)
     where
       counted : Bool

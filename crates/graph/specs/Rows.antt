@@ -1,18 +1,19 @@
 -- The branches of a feeder by their buses, as the code has them, and what it reads off them: neighbours, radiality, path.
 -- RowsNeighbours and RowsWalk show that these are document 01's.
 -- Half-branch 2k is branch k at its from bus, half-branch 2k + 1 is branch k at its to bus. 1024 is none.
-use mathlib.Core.Bool.{Bool, true, false, cond, _&&_, _||_}
-use mathlib.Core.List.{List, [], _∷_, _++_, map, reverse}
-use Prim.Native.Nat.{ℕ, zero, suc, _+_, _*_, _-_, _/_}
+use mathlib.Core.Bool.{Bool, true, false, cond}
+use mathlib.Core.List.{List, [], _∷_, _++_, map}
+use Prim.Native.Nat.{ℕ, zero, suc, _+_, _*_, _-_, _/_, _%_}
 use lib.Dec.{eqb, ltb}
 use lib.ListN.{length, getD, set, replicate}
-use Rattle.numbers.specs.UpTo.{upTo}
+use Rattle.numbers.specs.UpTo.{upTo, table}
 use Rattle.numbers.specs.Counts.{count}
 use Rattle.graph.specs.declared.rows.Graph.{Graph}
 use Rattle.graph.specs.declared.walks.Walk.{Walk}
 use Rattle.graph.specs.declared.walks.Path.{Path}
 use Rattle.graph.specs.Graph.{Net}
-use Rattle.graph.specs.Walk.{Visit, walkBy, reached, across, back}
+use Rattle.graph.specs.Walk.{Visit, across, pathBy}
+use Rattle.graph.specs.Radial.{radialBy}
 
 -- the flags of an array, false behind its end
 abbrev pub flag : List Bool → ℕ → Bool
@@ -34,47 +35,41 @@ walked o = record { count = length o; bus = filled (map (λ (v : Visit). v .bus)
 unfoldable pub pathOf : List ℕ → Path
 pathOf l = record { count = length l; branch = filled l }
 
--- far: the bus at the other end of each half-branch. first: the lowest half-branch at each bus. next: the next higher one at the same bus
+-- the bus at the other end of half-branch h
+abbrev pub farEnd : List ℕ → List ℕ → ℕ → ℕ
+farEnd from to h = cond (eqb (h % 2) 0) (getD to (h / 2) 0) (getD from (h / 2) 0)
+
+unfoldable pub farOf : List ℕ → List ℕ → List ℕ
+farOf from to = table (farEnd from to) 1024
+
+-- first: the lowest half-branch at each bus. next: the next higher one at the same bus
 pub record Rows : Type 0 where
-  pub far : List ℕ
   pub first : List ℕ
   pub next : List ℕ
 
-abbrev pub rows : List ℕ → List ℕ → List ℕ → Rows
-rows far first next = record { far = far; first = first; next = next }
+abbrev pub rows : List ℕ → List ℕ → Rows
+rows first next = record { first = first; next = next }
 
 -- half-branch h is put in front of bus u's row
 unfoldable pub putHalf : ℕ → ℕ → Rows → Rows
-putHalf u h r = rows (r .far) (set (r .first) u h) (set (r .next) h (getD (r .first) u 0))
+putHalf u h r = rows (set (r .first) u h) (set (r .next) h (getD (r .first) u 0))
 
 -- branch k, from bus f to bus t, goes into the rows of its buses. With equal ends it stands there once
 unfoldable pub putBranch : ℕ → ℕ → ℕ → Rows → Rows
 putBranch k f t r = putHalf f (2 * k) (cond (eqb f t) r (putHalf t (2 * k + 1) r))
 
--- the ends of branch k
-abbrev pub noteEnds : ℕ → ℕ → ℕ → Rows → Rows
-noteEnds k f t r = rows (set (set (r .far) (2 * k) t) (2 * k + 1) f) (r .first) (r .next)
-
--- the ends of branch k are noted, and it goes into the rows if it is one of m branches
-unfoldable pub addBranch : ℕ → ℕ → ℕ → ℕ → Rows → Rows
-addBranch m k f t r = cond (ltb k m) (putBranch k f t (noteEnds k f t r)) (noteEnds k f t r)
-
--- the other ends of the half-branches of the last n of 512 branches
-unfoldable pub farOf : List ℕ → List ℕ → ℕ → List ℕ
-farOf from to n = upTo (λ far i. set (set far (2 * (511 - i)) (getD to (511 - i) 0)) (2 * (511 - i) + 1) (getD from (511 - i) 0)) (replicate 1024 0) n
-
--- the rows with the last n of 512 branches, put in from the last on
+-- the rows with the last n of 512 branches, put in from the last on if they are among m branches
 unfoldable pub rowsOf : ℕ → List ℕ → List ℕ → ℕ → Rows
 rowsOf m from to n =
-    upTo (λ r i. addBranch m (511 - i) (getD from (511 - i) 0) (getD to (511 - i) 0) r)
-    (rows (replicate 1024 0) (replicate 256 1024) (replicate 1024 1024))
+    upTo (λ r i. cond (ltb (511 - i) m) (putBranch (511 - i) (getD from (511 - i) 0) (getD to (511 - i) 0) r) r)
+    (rows (replicate 256 1024) (replicate 1024 1024))
     n
 
 -- the graph of n buses, and m branches with these ends
 unfoldable pub graphOf : ℕ → ℕ → List ℕ → List ℕ → Graph
 graphOf n m from to =
     let r = rowsOf m from to 512 in
-    record { «bus_count» = n; «branch_count» = m; far = r .far; first = r .first; next = r .next }
+    record { «bus_count» = n; «branch_count» = m; far = farOf from to; first = r .first; next = r .next }
 
 -- a row from half-branch h on, at most n: any arrays have rows that end
 unfoldable pub rowFrom : List ℕ → ℕ → ℕ → List ℕ
@@ -106,15 +101,11 @@ acrossFar far k u = across (farNet 0 0 far) k u
 
 -- document 01's radiality, by the rows
 unfoldable pub rowRadial : Graph → List Bool → Bool
-rowRadial g live =
-    let n = g .«bus_count» in
-    eqb n 0 || (eqb (suc (count (flag live) (g .«branch_count»))) n && eqb (length (walkBy (rowNeighbours g live) 0 0)) n)
+rowRadial g live = radialBy (rowNeighbours g live) (g .«bus_count») (count (flag live) (g .«branch_count»))
 
 -- the branches of the path from bus a to bus b, by the rows
 unfoldable pub rowPath : Graph → List Bool → ℕ → ℕ → List ℕ
-rowPath g live a b =
-    let o = walkBy (rowNeighbours g live) a a in
-    cond (reached b o) (reverse (back (rowNet g) o a 256 b)) []
+rowPath g live a b = pathBy (rowNeighbours g live) (rowNet g) a b
 
 -- the same between the ends of branch k, from its from bus
 abbrev pub rowEndsPath : Graph → List Bool → ℕ → List ℕ

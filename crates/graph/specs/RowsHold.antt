@@ -3,46 +3,43 @@ use mathlib.Core.Path.{_≡_, refl, sym, ap, _∙_}
 use mathlib.Core.Logic.{_≢_}
 use mathlib.Core.Bool.{Bool, true, false, cond}
 use mathlib.Core.List.{List, [], _∷_, _++_}
-use Prim.Native.Nat.{ℕ, zero, suc, _+_, _*_, _-_, _<_, _≤_}
+use Prim.Native.Nat.{ℕ, zero, suc, _+_, _*_, _-_, _/_, _%_, _<_, _≤_}
 use native.Mathlib.Decide.{ℕ-discrete}
 use native.Mathlib.Omega.{arith}
-use lib.Dec.{eqb, ltb}
+use native.Mathlib.Nat.{mul-div-cancel-left, mul-add-div}
+use lib.Dec.{eqb, ltb, lit<}
 use lib.ListN.{length, getD, set, length-set, length-replicate, getD-replicate}
 use lib.Seq.{getD-set-same, getD-set-other}
 use borrow.Author.Tests.{lt-ltb, le-ltb, eq-eqb, ne-eqb, ltb-true, ltb-false}
 use Rattle.numbers.specs.UpTo.{upTo}
-use Rattle.graph.specs.Rows.{Rows, putHalf, putBranch, noteEnds, addBranch, rowsOf, rowFrom}
+use Rattle.numbers.specs.TableLaws.{length-table, getD-table}
+use Rattle.graph.specs.Rows.{farEnd, farOf, Rows, putHalf, putBranch, rowsOf, rowFrom}
 
 -- the arrays keep their lengths
 pub record Long (r : Rows) : Type 0 where
-  pub far : length (r .far) ≡ 1024
   pub first : length (r .first) ≡ 256
   pub next : length (r .next) ≡ 1024
 
 half-long : (u h : ℕ) (r : Rows) → Long r → Long (putHalf u h r)
 unfolding putHalf
-half-long u h r l = record { far = l .far; first = simp length-set (l .first); next = simp length-set (l .next) }
+half-long u h r l = record { first = simp length-set (l .first); next = simp length-set (l .next) }
 
-noted-long : (k f t : ℕ) (r : Rows) → Long r → Long (noteEnds k f t r)
-noted-long k f t r l = record { far = simp length-set (l .far); first = l .first; next = l .next }
-
-branch-long : (m k f t : ℕ) (r : Rows) → Long r → Long (addBranch m k f t r)
-unfolding addBranch putBranch
-branch-long m k f t r l = go (ltb k m) (eqb f t)
+branch-long : (k f t : ℕ) (r : Rows) → Long r → Long (putBranch k f t r)
+unfolding putBranch
+branch-long k f t r l = go (eqb f t)
   where
-    n : Long (noteEnds k f t r)
-    n = noted-long k f t r l
-
-    go : (a b : Bool) → Long (cond a (putHalf f (2 * k) (cond b (noteEnds k f t r) (putHalf t (2 * k + 1) (noteEnds k f t r)))) (noteEnds k f t r))
-    go false b = n
-    go true true = half-long f (2 * k) _ n
-    go true false = half-long f (2 * k) _ (half-long t (2 * k + 1) _ n)
+    go : (b : Bool) → Long (putHalf f (2 * k) (cond b r (putHalf t (2 * k + 1) r)))
+    go true = half-long f (2 * k) _ l
+    go false = half-long f (2 * k) _ (half-long t (2 * k + 1) _ l)
 
 pub rows-long : (m : ℕ) (from to : List ℕ) (i : ℕ) → Long (rowsOf m from to i)
 unfolding rowsOf upTo
-rows-long m from to zero =
-    record { far = length-replicate {A = ℕ} 1024 0; first = length-replicate {A = ℕ} 256 1024; next = length-replicate {A = ℕ} 1024 1024 }
-rows-long m from to (suc i) = branch-long m (511 - i) _ _ _ (rows-long m from to i)
+rows-long m from to zero = record { first = length-replicate {A = ℕ} 256 1024; next = length-replicate {A = ℕ} 1024 1024 }
+rows-long m from to (suc i) = go (ltb (511 - i) m) _ (rows-long m from to i)
+  where
+    go : (b : Bool) (r : Rows) → Long r → Long (cond b (putBranch (511 - i) (getD from (511 - i) 0) (getD to (511 - i) 0) r) r)
+    go true r l = branch-long (511 - i) _ _ r l
+    go false r l = l
 
 -- every entry is above h
 abbrev Above : ℕ → List ℕ → Type 0
@@ -81,7 +78,7 @@ row-apart next h y (suc n) a b = go (ltb a 1024) refl (row-apart next h y n (get
         row-more (set next h y) n a l ∙ rw (s, ih (c .1)) (sym (row-more next n a l))
 
 -- the row of bus x, read with as much as i or more
-abbrev pub RowIs : Rows → ℕ → List ℕ → ℕ → Type 0
+abbrev RowIs : Rows → ℕ → List ℕ → ℕ → Type 0
 RowIs r x l i = (n : ℕ) → i ≤ n → rowFrom (r .next) n (getD (r .first) x 0) ≡ l
 
 module _ (r : Rows) (long : Long r) (u h : ℕ) (small : h < 1024) (l : List ℕ) (i : ℕ) (above : Above h l) where
@@ -130,41 +127,10 @@ put-row r long k f t x small kl l i above e = go (ℕ-discrete f t) (ℕ-discret
         rw (ne-eqb f t a, ne-eqb f x (λ q. b (sym q)), ne-eqb t x (λ q. c (sym q)))
         (λ n g. put-elsewhere _ (half-long t (2 * k + 1) r long) f (2 * k) (omega arith) l i low x b w n (omega arith))
 
-add-row : (r : Rows) → Long r → (m k f t x : ℕ) → x < 256 → k < 512 → (l : List ℕ) (i : ℕ) → Above (2 * k + 1) l → RowIs r x l i
-    → RowIs (addBranch m k f t r) x (cond (ltb k m) (halfAt f t x k) [] ++ l) (suc i)
-unfolding addBranch
-add-row r long m k f t x small kl l i above e = go (ltb k m)
-  where
-    go : (b : Bool) → RowIs (cond b (putBranch k f t (noteEnds k f t r)) (noteEnds k f t r)) x (cond b (halfAt f t x k) [] ++ l) (suc i)
-    go true = put-row (noteEnds k f t r) (noted-long k f t r long) k f t x small kl l i above e
-    go false = λ n g. e n (omega arith)
-
--- the other ends of branch k's halves
-abbrev pub FarIs : List ℕ → ℕ → ℕ → ℕ → Type 0
-FarIs far k f t = (getD far (2 * k) 0 ≡ t) × (getD far (2 * k + 1) 0 ≡ f)
-
-far-there : (far : List ℕ) (k f t : ℕ) → length far ≡ 1024 → k < 512 → FarIs (set (set far (2 * k) t) (2 * k + 1) f) k f t
-far-there far k f t l h =
-    let a : 2 * k < length far = omega arith in
-    let b : 2 * k + 1 < length (set far (2 * k) t) = simp length-set (omega arith) in
-    (getD-set-other (set far (2 * k) t) (2 * k + 1) (2 * k) f 0 (omega arith) ∙ getD-set-same far (2 * k) t 0 a, getD-set-same (set far (2 * k) t) (2 * k + 1) f 0 b)
-
-far-elsewhere : (far : List ℕ) (k f t j : ℕ) {g s : ℕ} → j ≢ k → FarIs far j g s → FarIs (set (set far (2 * k) t) (2 * k + 1) f) j g s
-far-elsewhere far k f t j ne w = (
-  getD-set-other (set far (2 * k) t) (2 * k + 1) (2 * j) f 0 (omega arith) ∙ getD-set-other far (2 * k) (2 * j) t 0 (omega arith) ∙ w .0,
-  getD-set-other (set far (2 * k) t) (2 * k + 1) (2 * j + 1) f 0 (omega arith) ∙ getD-set-other far (2 * k) (2 * j + 1) t 0 (omega arith) ∙ w .1,
-)
-
-add-far : (m k f t : ℕ) (r : Rows) → addBranch m k f t r .far ≡ set (set (r .far) (2 * k) t) (2 * k + 1) f
-unfolding addBranch putBranch putHalf
-add-far m k f t r = go (ltb k m) (eqb f t)
-  where
-    go : (a b : Bool)
-        → cond a (putHalf f (2 * k) (cond b (noteEnds k f t r) (putHalf t (2 * k + 1) (noteEnds k f t r)))) (noteEnds k f t r) .far
-        ≡ set (set (r .far) (2 * k) t) (2 * k + 1) f
-    go false b = refl
-    go true true = refl
-    go true false = refl
+add-row : (r : Rows) → Long r → (b : Bool) (k f t x : ℕ) → x < 256 → k < 512 → (l : List ℕ) (i : ℕ) → Above (2 * k + 1) l → RowIs r x l i
+    → RowIs (cond b (putBranch k f t r) r) x (cond b (halfAt f t x k) [] ++ l) (suc i)
+add-row r long true k f t x small kl l i above e = put-row r long k f t x small kl l i above e
+add-row r long false k f t x small kl l i above e = λ n g. e n (omega arith)
 
 module _ (m : ℕ) (from to : List ℕ) where
   -- the half-branches at bus u of d branches from k on, of those below m
@@ -193,21 +159,35 @@ module _ (m : ℕ) (from to : List ℕ) where
       let s : 512 - i ≡ suc (511 - i) = omega arith in
       let a : Above (2 * (511 - i) + 1) (halvesFrom u i (suc (511 - i))) = halves-above _ u i (suc (511 - i)) (omega arith) in
       rw d
-      (add-row (rowsOf m from to i) (rows-long m from to i) m (511 - i) (getD from (511 - i) 0) (getD to (511 - i) 0) u small (omega arith)
+      (add-row (rowsOf m from to i) (rows-long m from to i) (ltb (511 - i) m) (511 - i) (getD from (511 - i) 0) (getD to (511 - i) 0) u small (omega arith)
       (halvesFrom u i (suc (511 - i)))
       i
       a
       (rw s at (rows-hold u small i (omega arith))))
 
-  -- and far has the other ends of the last i
-  pub far-hold : (i : ℕ) → i ≤ 512 → (j : ℕ) → 512 - i ≤ j → j < 512 → FarIs (rowsOf m from to i .far) j (getD from j 0) (getD to j 0)
-  unfolding rowsOf upTo
-  far-hold zero h j a b = absurd (omega arith)
-  far-hold (suc i) h j a b =
-      rw (add-far m (511 - i) (getD from (511 - i) 0) (getD to (511 - i) 0) (rowsOf m from to i))
-      (go (ℕ-discrete j (511 - i)) (λ c. far-hold i (omega arith) j c b))
-    where
-      go : Dec (j ≡ 511 - i) → (512 - i ≤ j → FarIs (rowsOf m from to i .far) j (getD from j 0) (getD to j 0))
-          → FarIs (set (set (rowsOf m from to i .far) (2 * (511 - i)) (getD to (511 - i) 0)) (2 * (511 - i) + 1) (getD from (511 - i) 0)) j (getD from j 0) (getD to j 0)
-      go (yes e) ih = rw (← e) (far-there (rowsOf m from to i .far) j _ _ (rows-long m from to i .far) b)
-      go (no d) ih = far-elsewhere (rowsOf m from to i .far) (511 - i) _ _ j d (ih (omega arith))
+-- ---- the far ends
+pub even-half : (k : ℕ) → 2 * k / 2 ≡ k
+even-half k = mul-div-cancel-left k (lit< tt)
+
+pub odd-half : (k : ℕ) → (2 * k + 1) / 2 ≡ k
+odd-half k = mul-add-div (lit< tt) k 1 ∙ omega arith
+
+-- the other ends of branch k's halves
+abbrev pub FarIs : List ℕ → ℕ → ℕ → ℕ → Type 0
+FarIs far k f t = (getD far (2 * k) 0 ≡ t) × (getD far (2 * k + 1) 0 ≡ f)
+
+module _ (from to : List ℕ) where
+  pub far-long : length (farOf from to) ≡ 1024
+  unfolding farOf
+  far-long = length-table _ 1024
+
+  -- at an even position the to bus, at an odd one the from bus
+  pub far-even : (k : ℕ) → farEnd from to (2 * k) ≡ getD to k 0
+  far-even k = let z : 2 * k % 2 ≡ 0 = omega arith in rw (z, even-half k)
+
+  pub far-odd : (k : ℕ) → farEnd from to (2 * k + 1) ≡ getD from k 0
+  far-odd k = let z : (2 * k + 1) % 2 ≡ 1 = omega arith in rw (z, odd-half k)
+
+  pub far-hold : (k : ℕ) → k < 512 → FarIs (farOf from to) k (getD from k 0) (getD to k 0)
+  unfolding farOf
+  far-hold k h = (getD-table _ 1024 (2 * k) 0 (omega arith) ∙ far-even k, getD-table _ 1024 (2 * k + 1) 0 (omega arith) ∙ far-odd k)

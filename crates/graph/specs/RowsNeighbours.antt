@@ -4,15 +4,15 @@ use mathlib.Core.Bool.{Bool, true, false, cond}
 use mathlib.Core.List.{List, [], _∷_, _++_, append-nil, append-assoc}
 use Prim.Native.Nat.{ℕ, zero, suc, _+_, _*_, _/_, _<_, _≤_}
 use native.Mathlib.Omega.{arith}
-use native.Mathlib.Nat.{add-zero, mul-div-cancel-left, mul-add-div}
-use lib.Dec.{eqb, ltb, lit<}
+use native.Mathlib.Nat.{add-zero}
+use lib.Dec.{eqb, ltb}
 use lib.ListN.{length, getD, List·getD-eq-default}
 use borrow.Author.Tests.{lt-ltb, le-ltb}
 use Rattle.numbers.specs.UpTo.{upTo, upTo-cong, upTo-idle}
 use Rattle.graph.specs.Walk.{Visit, neighbours}
 use Rattle.graph.specs.Walk as walk
-use Rattle.graph.specs.Rows.{flag, netOf, rowsOf, graphOf, leads, rowLeads, rowNeighbours}
-use Rattle.graph.specs.RowsHold.{halfAt, halvesFrom, FarIs, rows-hold, far-hold}
+use Rattle.graph.specs.Rows.{flag, netOf, farOf, graphOf, leads, rowLeads, rowNeighbours}
+use Rattle.graph.specs.RowsHold.{halfAt, halvesFrom, rows-hold, even-half, odd-half, FarIs, far-hold}
 
 -- lists put one behind the other
 concatFrom : {A : Type 0} → (ℕ → List A) → ℕ → ℕ → List A
@@ -25,12 +25,6 @@ upTo-concat g zero k = rw (append-nil, add-zero)
 upTo-concat g (suc d) k =
     let e : suc k + d ≡ k + suc d = omega arith in
     rw (← append-assoc) (rw e at (upTo-concat g d (suc k)))
-
-even-half : (k : ℕ) → 2 * k / 2 ≡ k
-even-half k = mul-div-cancel-left k (lit< tt)
-
-odd-half : (k : ℕ) → (2 * k + 1) / 2 ≡ k
-odd-half k = mul-add-div (lit< tt) k 1 ∙ omega arith
 
 module _ (n m : ℕ) (from to : List ℕ) (live : List Bool) (u : ℕ) where
   -- what branch k adds to the neighbours
@@ -102,7 +96,7 @@ module _ (n m : ℕ) (from to : List ℕ) (live : List Bool) (u : ℕ) where
   pub rows-are-neighbours : u < 256 → length live ≤ 512 → rowNeighbours (graphOf n m from to) live u ≡ neighbours (netOf n m from to) (flag live) u
   unfolding graphOf rowLeads upTo
   rows-are-neighbours small s =
-      ap (λ (l : List ℕ). leads (rowsOf m from to 512 .far) live l) (rows-hold m from to u small 512 (omega arith) 1024 (omega arith))
-      ∙ row-shares _ 512 0 (λ j a b. far-hold m from to 512 (omega arith) j (omega arith) b)
+      ap (λ (l : List ℕ). leads (farOf from to) live l) (rows-hold m from to u small 512 (omega arith) 1024 (omega arith))
+      ∙ row-shares _ 512 0 (λ j a b. far-hold from to j b)
       ∙ upTo-concat share 512 0
       ∙ sym (scan-shares s)

@@ -11,8 +11,8 @@ use Rattle.numbers.specs.UpTo.{upTo}
 use Rattle.graph.specs.Walk.{Visit, startAt, neighbours, reached, enter, enterAll, turn, walkBy, byOf, across, back, bfsPath}
 use Rattle.graph.specs.Walk as walk
 use Rattle.graph.specs.Radial.{radial}
-use Rattle.graph.specs.Rows.{flag, netOf, rowsOf, graphOf, rowNeighbours, farNet, rowNet, rowRadial, rowPath}
-use Rattle.graph.specs.RowsHold.{far-hold, rows-long}
+use Rattle.graph.specs.Rows.{flag, netOf, farOf, graphOf, rowNeighbours, farNet, rowNet, rowRadial, rowPath}
+use Rattle.graph.specs.RowsHold.{far-long, far-hold}
 use Rattle.graph.specs.RowsNeighbours.{rows-are-neighbours}
 
 -- visits of bus positions below size
@@ -109,7 +109,7 @@ module _ (n m : ℕ) (from to : List ℕ) (live : List Bool) (p : Positions from
       same-walk 256 _ _ (λ u s. rows-are-neighbours n m from to live u s l) (λ u s. small-neighbours n m from to live 256 (λ k b. (p .from-small k, p .to-small k)) u) start barred h
 
   pub row-radial-is-radial : rowRadial (graphOf n m from to) live ≡ radial (netOf n m from to) (flag live)
-  unfolding rowRadial radial graphOf
+  unfolding rowRadial radial graphOf walk.walk
   row-radial-is-radial = rw (row-walk-is-walk 0 0 (omega arith))
 
   -- the ends are the same, behind the arrays too
@@ -117,13 +117,13 @@ module _ (n m : ℕ) (from to : List ℕ) (live : List Bool) (p : Positions from
   unfolding across graphOf
   same-across k u = go (ltb k 512) refl
     where
-      go : (b : Bool) → ltb k 512 ≡ b → across (farNet n m (rowsOf m from to 512 .far)) k u ≡ across (netOf n m from to) k u
-      go true e = let f = far-hold m from to 512 (omega arith) k (omega arith) (ltb-true k 512 e) in rw (f .0, f .1)
+      go : (b : Bool) → ltb k 512 ≡ b → across (farNet n m (farOf from to)) k u ≡ across (netOf n m from to) k u
+      go true e = let f = far-hold from to k (ltb-true k 512 e) in rw (f .0, f .1)
       go false e =
           let h = ltb-false k 512 e in
-          let w = rows-long m from to 512 .far in
-          let a : getD (rowsOf m from to 512 .far) (2 * k) 0 ≡ 0 = List·getD-eq-default (rowsOf m from to 512 .far) 0 (omega arith) in
-          let b : getD (rowsOf m from to 512 .far) (2 * k + 1) 0 ≡ 0 = List·getD-eq-default (rowsOf m from to 512 .far) 0 (omega arith) in
+          let w = far-long from to in
+          let a : getD (farOf from to) (2 * k) 0 ≡ 0 = List·getD-eq-default (farOf from to) 0 (omega arith) in
+          let b : getD (farOf from to) (2 * k + 1) 0 ≡ 0 = List·getD-eq-default (farOf from to) 0 (omega arith) in
           let c : getD from k 0 ≡ 0 = List·getD-eq-default from 0 (omega (arith, p .from-length)) in
           let d : getD to k 0 ≡ 0 = List·getD-eq-default to 0 (omega (arith, p .to-length)) in
           rw (a, b, c, d)
@@ -134,5 +134,5 @@ module _ (n m : ℕ) (from to : List ℕ) (live : List Bool) (p : Positions from
   same-back o a (suc i) b = rw (same-across (byOf b o) b, same-back o a i (across (netOf n m from to) (byOf b o) b))
 
   pub row-path-is-path : (a b : ℕ) → a < 256 → rowPath (graphOf n m from to) live a b ≡ bfsPath (netOf n m from to) (flag live) a b
-  unfolding rowPath bfsPath
+  unfolding rowPath bfsPath walk.walk
   row-path-is-path a b h = rw (row-walk-is-walk a a h, same-back)

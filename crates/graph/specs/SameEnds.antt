@@ -24,10 +24,10 @@ module _ (N M : Net) (E F : ℕ → Bool) (buses : N .buses ≡ M .buses) (branc
 
   pub radial-same : radial N E ≡ radial M F
   unfolding radial
-  radial-same = rw (walk-same 0 0, count-cong E F (N .branches) live, branches, buses)
+  radial-same = rw (fun-ext neighbours-same, count-cong E F (N .branches) live, branches, buses)
 
   pub path-same : (a b : ℕ) → bfsPath N E a b ≡ bfsPath M F a b
-  unfolding bfsPath
+  unfolding bfsPath walk
   path-same a b = rw (← walk-same a a) (go (reached b (walk N E a a)) refl)
     where
       go : (t : Bool) → reached b (walk N E a a) ≡ t

@@ -1,10 +1,13 @@
 -- Laws of trees: between two buses there is exactly one path; a branch of a path gives its place to a branch between the
--- path's ends, and can take it back; no tree is a part of another.
+-- path's ends, and can take it back; no tree is a part of another, also where the sets are said by flags.
 use mathlib.Core.Path.{_≡_}
-use mathlib.Core.Logic.{inl, inr, _≢_}
+use mathlib.Core.Logic.{_⊎_, inl, inr, _≢_}
+use mathlib.Core.Bool.{Bool, true, false}
 use mathlib.Core.List.{List, List·Memᴰ}
 use Prim.Native.Nat.{ℕ, _<_}
-use Rattle.graph.specs.Graph.{Net, Branches, Plus, Minus, Chain, Path, Connected, Loop, Tree}
+use native.Mathlib.Decide.{decLt}
+use Rattle.numbers.specs.Tests.{which, clash, same-test}
+use Rattle.graph.specs.Graph.{Net, Sound, Branches, Live, Plus, Minus, Chain, Path, Connected, Loop, Tree}
 use Rattle.graph.specs.Chains.{_⊆_, plus-minus-swap, on-chain, chain-without, chain-more, joined-more}
 use Rattle.graph.specs.Paths.{mem?, path-via, joined-path}
 use Rattle.graph.specs.Forests.{Forest, forest-no-loop, forest-less, path-unique, exchange-forest, exchange-joined}
@@ -29,7 +32,7 @@ tree-same more less t = record {
 
 -- e is closed, and f is opened on the path that joined the ends of e before
 module _ {N : Net} {S : Branches} (t : Tree N S) {e f : ℕ} (new : ¬ S e) {l : List ℕ} (p : Path N S (N .from e) (N .to e) l) (m : List·Memᴰ f l) where
-  pub exchange-differs : e ≢ f
+  exchange-differs : e ≢ f
   exchange-differs q = new (rw q (on-chain (p .0) m))
 
   pub exchange-keeps-tree : Tree N (Minus (Plus S e) f)
@@ -67,3 +70,19 @@ part-is-whole {N} {S} {R} h n w ends dec k r = go (dec k)
       where
         less : S ⊆ Minus R k
         less i s = (w i s, λ q. d (rw q at s))
+
+-- the same of flagged branches
+pub live-part-is-whole : {N : Net} (E F : ℕ → Bool) → Sound N → Tree N (Live N E) → Tree N (Live N F) → ((k : ℕ) → E k ≡ true → F k ≡ true)
+    → (k : ℕ) → k < N .branches → E k ≡ F k
+live-part-is-whole {N} E F sound t u part k l = same-test (E k) (F k) (part k) (λ h. whole k (l, h) .1)
+  where
+    live? : (j : ℕ) → Dec (Live N E j)
+    live? j = go (decLt j (N .branches)) (which (E j))
+      where
+        go : Dec (j < N .branches) → (E j ≡ true) ⊎ (E j ≡ false) → Dec (Live N E j)
+        go (yes b) (inl e) = yes (b, e)
+        go (yes b) (inr e) = no (λ h. clash (h .1) e)
+        go (no n) e = no (λ h. n (h .0))
+
+    whole : Live N F ⊆ Live N E
+    whole = part-is-whole (t .connected) (u .no-loop) (λ j h. (h .0, part j (h .1))) (λ j h. sound j (h .0)) live?

@@ -52,7 +52,7 @@ walkBy next start barred = upTo (turn next barred) (startAt start ∷ []) 256
 unfoldable pub walk : Net → (ℕ → Bool) → ℕ → ℕ → List Visit
 walk N E start barred = walkBy (neighbours N E) start barred
 
--- the branch by which a bus was reached. The start, and a bus that was not reached, have the 0 of none: a path asks for neither (`WalkLaws.bfs-path`, `tree-bfs-path`)
+-- the branch by which a bus was reached. The start, and a bus that was not reached, have 0, which stands for no branch: a path asks for neither (`WalkLaws.bfs-path`, `tree-bfs-path`)
 unfoldable pub byOf : ℕ → List Visit → ℕ
 byOf b [] = 0
 byOf b (v ∷ o) = cond (eqb b (v .bus)) (v .by) (byOf b o)
@@ -66,6 +66,10 @@ unfoldable pub back : Net → List Visit → ℕ → ℕ → ℕ → List ℕ
 back N o start zero b = []
 back N o start (suc n) b = cond (eqb b start) [] (byOf b o ∷ back N o start n (across N (byOf b o) b))
 
--- the branches of the path from bus a to bus b that the walk finds, beginning at a; none where a is b or b is not reached
+-- the branches of the path from bus a to bus b that a walk with these neighbours finds, beginning at a; none where a is b or b is not reached
+abbrev pub pathBy : (ℕ → List Visit) → Net → ℕ → ℕ → List ℕ
+pathBy next N a b = let o = walkBy next a a in cond (reached b o) (reverse (back N o a 256 b)) []
+
+-- by document 01's scan
 unfoldable pub bfsPath : Net → (ℕ → Bool) → ℕ → ℕ → List ℕ
-bfsPath N E a b = let o = walk N E a a in cond (reached b o) (reverse (back N o a 256 b)) []
+bfsPath N E a b = pathBy (neighbours N E) N a b

@@ -152,7 +152,7 @@ module _ (N : Net) (E : ℕ → Bool) (sound : Sound N) (m : N .buses ≤ 256) (
 
   -- between joined buses the walk finds a path
   pub bfs-path : (b : ℕ) → Joined N (Live N E) a b → Path N (Live N E) a b (bfsPath N E a b)
-  unfolding bfsPath
+  unfolding bfsPath walk
   bfs-path b j =
       let r = walk-joined b .1 j in
       let p = back-path (walk-walked N E a a) 256 (omega (arith, walk-length N E a a sound l)) b r in

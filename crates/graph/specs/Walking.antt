@@ -1,4 +1,4 @@
--- What the arrays of the code hold in the middle of a walk.
+-- What the arrays of the code hold in the middle of a walk, and what they say of a walk that is done.
 use mathlib.Core.Path.{_≡_}
 use mathlib.Core.Bool.{Bool, false, cond, _||_}
 use mathlib.Core.List.{List, map}

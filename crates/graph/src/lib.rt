@@ -1,3 +1,4 @@
-// Feeders as graphs: their branches by their buses.
+// Feeders as graphs: their branches by their buses, flags of branches, and what the walks answer.
+pub mod flags;
 pub mod rows;
 pub mod walks;

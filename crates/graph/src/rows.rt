@@ -1,8 +1,7 @@
 // Translated and changed from src/network/reconfiguration.rs of oxigrid. Copyright 2024-2026 COOLJAPAN OU (Team Kitasan), Apache License 2.0.
 // The branches of a feeder by their buses, in place of the source's map of neighbours.
 ghost use mathlib.Core.Path.{_≡_};
-ghost use mathlib.Core.List.{List};
-ghost use Prim.Native.Nat.{ℕ, _<_};
+ghost use Prim.Native.Nat.{_<_};
 ghost use lib.ListN.{length, getD, set};
 ghost use Rattle.graph.specs.Rows.{rows, putBranch, farOf, graphOf};
 use numbers::at_most;
@@ -33,8 +32,7 @@ fn put_half(first: &mut [u16; 256], next: &mut [u16; 1024], u: u8, h: u16)
 // Branch k goes into the rows of its buses. With equal ends it stands there once.
 fn put_branch(first: &mut [u16; 256], next: &mut [u16; 1024], k: u16, from: u8, to: u8)
     requires { ⌜ (length (now first) ≡ 256) × (length (now next) ≡ 1024) × (k < 512) ⌝ }
-    ensures { λ _. ⌜ ((far : List ℕ) → rows far (now (first .exit)) (now (next .exit))
-        ≡ putBranch k from to (rows far (now (first .entry)) (now (next .entry)))) ⌝ }
+    ensures { λ _. ⌜ rows (now (first .exit)) (now (next .exit)) ≡ putBranch k from to (rows (now (first .entry)) (now (next .entry))) ⌝ }
 {
     let h = 2 * k;
     if from == to {
@@ -47,15 +45,14 @@ fn put_branch(first: &mut [u16; 256], next: &mut [u16; 1024], k: u16, from: u8, 
 
 // The bus at the other end of each half-branch.
 fn far_ends(from: &[u8; 512], to: &[u8; 512]) -> [u8; 1024]
-    ensures { λ r. ⌜ r ≡ farOf (now (from .entry)) (now (to .entry)) 512 ⌝ }
+    ensures { λ r. ⌜ r ≡ farOf (now (from .entry)) (now (to .entry)) ⌝ }
 {
     let mut far = [0u8; 1024];
-    let mut i = 0usize;
-    while i < 512 {
-        let k = 511 - i;
+    let mut k = 0usize;
+    while k < 512 {
         far[2 * k] = to[k];
         far[2 * k + 1] = from[k];
-        i += 1;
+        k += 1;
     }
     far
 }

@@ -37,7 +37,7 @@ module _ (n m : ℕ) (from to : List ℕ) (live : List Bool) (few : n ≤ 256) (
       → loadBehind lists (graphOf n m from to .far) mw k ≡ walkLoad (λ b. getD mw b nan) (downstream (netOf n m from to) (flag live) k)
   unfolding loadBehind downstream graphOf
   load-behind mw k l e =
-      let f = far-hold m from to 512 (omega arith) k (omega arith) (omega (arith, flag-inside live k e)) in
+      let f = far-hold from to k (omega (arith, flag-inside live k e)) in
       rw (f .0, f .1) (ap (busLoad mw) (list-walk-is-walk n m from to live few short sound (getD to k 0) (getD from k 0) (sound k l .1)) ∙ load-forget mw _)
 
   pub list-loss : (loads : List Power) (branches : List Branch) (base : Float)

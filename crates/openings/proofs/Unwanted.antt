@@ -15,13 +15,13 @@ use Rattle.openings.specs.Opening.{firstUnwanted}
 module _ (path : Path) (wanted : List Bool) where
   pub record Wanted (i : ℕ) : Type 0 where
     pub within : i ≤ path .count
-    rest : (l : List ℕ) → path ≡ pathOf l → firstUnwanted wanted l ≡ firstUnwanted wanted (drop i l)
+    rest : (l : List ℕ) → path ≡ pathOf l → firstUnwanted (flag wanted) l ≡ firstUnwanted (flag wanted) (drop i l)
 
   pub none-wanted : Wanted 0
   none-wanted = record { within = omega arith; rest = λ l e. refl }
 
   module _ (i : ℕ) (w : Wanted i) where
-    pub all-wanted : path .count ≤ i → (l : List ℕ) → path ≡ pathOf l → 0 ≡ firstUnwanted wanted l
+    pub all-wanted : path .count ≤ i → (l : List ℕ) → path ≡ pathOf l → 0 ≡ firstUnwanted (flag wanted) l
     unfolding firstOf pathOf
     all-wanted h l e = sym (w .rest l e ∙ rw (drop-of-length-le l {i = i} (omega (arith, ap (λ (p : Path). p .count) e))))
 
@@ -37,6 +37,6 @@ module _ (path : Path) (wanted : List Bool) where
       unfolding firstOf
       one-wanted t = record { within = omega arith; rest = λ l e. w .rest l e ∙ rw (next-branch l e, ← f, t) }
 
-      pub one-unwanted : b ≡ false → (l : List ℕ) → path ≡ pathOf l → getD (path .branch) at 0 ≡ firstUnwanted wanted l
+      pub one-unwanted : b ≡ false → (l : List ℕ) → path ≡ pathOf l → getD (path .branch) at 0 ≡ firstUnwanted (flag wanted) l
       unfolding firstOf
       one-unwanted t l e = sym (w .rest l e ∙ rw (next-branch l e, ← f, t))

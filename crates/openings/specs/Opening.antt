@@ -6,10 +6,10 @@ use Rattle.numbers.specs.Choose.{firstOf}
 use Rattle.graph.specs.declared.rows.Graph.{Graph}
 use Rattle.graph.specs.Rows.{flag, rowEndsPath}
 
--- the first branch of a path that is not wanted
-abbrev pub firstUnwanted : List Bool → List ℕ → ℕ
-firstUnwanted wanted path = firstOf (λ k. not (flag wanted k)) 0 path
+-- the first branch of a path that is not among the wanted ones; 0 where all are
+abbrev pub firstUnwanted : (ℕ → Bool) → List ℕ → ℕ
+firstUnwanted wanted path = firstOf (λ k. not (wanted k)) 0 path
 
 -- the opening that goes with closing branch k, by the rows
 unfoldable pub rowOpening : Graph → List Bool → List Bool → ℕ → ℕ
-rowOpening g live wanted k = firstUnwanted wanted (rowEndsPath g live k)
+rowOpening g live wanted k = firstUnwanted (flag wanted) (rowEndsPath g live k)

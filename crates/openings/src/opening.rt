@@ -2,9 +2,9 @@
 ghost use mathlib.Core.Path.{_≡_};
 ghost use mathlib.Core.List.{List};
 ghost use Prim.Native.Nat.{ℕ, _≤_};
-ghost use Rattle.graph.specs.Rows.{pathOf};
+ghost use Rattle.graph.specs.Rows.{flag, pathOf};
 ghost use Rattle.openings.specs.Opening.{firstUnwanted, rowOpening};
-use changes::flags::flagged;
+use graph::flags::flagged;
 use graph::rows::Graph;
 use graph::walks::Path;
 use numbers::wide16;
@@ -13,7 +13,7 @@ use paths::path::path_of_ends;
 // The first branch of a path that is not wanted; 0 where all are.
 fn first_unwanted(path: Path, wanted: &[bool]) -> u16
     requires { ⌜ path .count ≤ 256 ⌝ }
-    ensures { λ r. ⌜ ((l : List ℕ) → path ≡ pathOf l → r ≡ firstUnwanted (now (wanted .entry)) l) ⌝ }
+    ensures { λ r. ⌜ ((l : List ℕ) → path ≡ pathOf l → r ≡ firstUnwanted (flag (now (wanted .entry))) l) ⌝ }
 {
     let n = path.count;
     let mut i = 0u16;

@@ -1,7 +1,7 @@
 -- The pairs as a loop over the switches makes them: the first i switches are done with, the pairs of the others are still to come, and lead from
 -- the branches flagged now to the wanted ones.
 use mathlib.Core.Path.{_≡_, refl, sym, ap, _∙_, fun-ext}
-use mathlib.Core.Bool.{Bool, true, false, not, _&&_}
+use mathlib.Core.Bool.{Bool, true, false}
 use mathlib.Core.List.{List, [], _∷_, _++_, map, append-assoc, append-nil}
 use Prim.Native.Nat.{ℕ, _+_, _≤_, _<_}
 use native.Mathlib.Decide.{ℕ-discrete}
@@ -27,6 +27,7 @@ use Rattle.plan.specs.declared.pairs.PairList.{PairList}
 use Rattle.states.specs.Switches.{State, branchOf}
 use Rattle.states.specs.Listed.{switches-listed, few-switches, switch-at}
 use Rattle.changes.specs.declared.change.Change.{Change}
+use Rattle.changes.specs.Change.{onlyIn}
 use Rattle.openings.specs.Opening.{rowOpening}
 use Rattle.plan.specs.Plan.{Pair, closings, opening, exchanged, pairsFrom, pairs, switchOn, movesOf, plan}
 use Rattle.plan.specs.RowOpening.{row-opening}
@@ -67,7 +68,7 @@ module _ (n : PowerNetwork) (present wanted : State) where
 
   -- the switch's branch is live in the wanted state only
   closes : ℕ → Bool
-  closes i = live N wanted (branchOf N i) && not (live N present (branchOf N i))
+  closes i = onlyIn (live N wanted) (live N present) (branchOf N i)
 
   -- the pairs of the switches from i on, from these flags on
   left : List Bool → ℕ → List Pair
@@ -139,7 +140,7 @@ module _ (n : PowerNetwork) (present wanted : State) where
             }
 
         -- the code's test
-        module _ {b : Bool} (x : b ≡ (flag after k && not (flag before k))) where
+        module _ {b : Bool} (x : b ≡ onlyIn (flag after) (flag before) k) where
           tested : closes i ≡ b
           unfolding closes
           tested = rw (wanted-live, present-live, x)
@@ -148,7 +149,7 @@ module _ (n : PowerNetwork) (present wanted : State) where
           not-closed e = passed-by (tested ∙ e)
 
         -- it is live in the wanted state only: a pair closes it
-        module _ {b : Bool} (x : b ≡ (flag after k && not (flag before k))) (t : b ≡ true) (buses : length (n .buses) ≡ 256) where
+        module _ {b : Bool} (x : b ≡ onlyIn (flag after) (flag before) k) (t : b ≡ true) (buses : length (n .buses) ≡ 256) where
           abbrev graph : Graph
           graph = change .graph
 

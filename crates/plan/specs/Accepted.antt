@@ -17,7 +17,7 @@ use Rattle.network.specs.Faults.{switchId}
 use Rattle.network.specs.Check.{checkRecords}
 use Rattle.network.specs.AnswerLaws.{judge-accepted, then-iff, no-refusal}
 use Rattle.network.specs.InsideLaws.{check-inside}
-use Rattle.network.specs.Positions.{each-at, index-own}
+use Rattle.network.specs.Positions.{on-a-branch, index-own}
 use Rattle.network.specs.Inside.{Inside}
 use Rattle.states.specs.Live.{live}
 use Rattle.states.specs.Listed.{state-accepted}
@@ -31,18 +31,18 @@ use Rattle.states.specs.LiveBytes.{on-found, one-switch}
 use Rattle.plan.specs.Plannable.{Regular, Free, Plannable}
 
 module _ (N : Network) (inside : Inside N) where
-  pub inside-regular : Regular N
+  inside-regular : Regular N
   inside-regular = record {
     ends = feeder-sound N inside;
     few = feeder-small N inside;
-    placed = λ o. unfold feeder in rw (o .here) at (each-at (λ s. s .«branch_idx» < length (N .branches)) (N .switches) (inside .positions) _ noSwitch (o .listed));
+    placed = λ o. unfold feeder in rw (o .here) at (on-a-branch N inside _ (o .listed));
     alone = one-switch N inside;
     resolved = λ o. unfold switchOn in
         ap (λ j. switchAt N (getD (N .switches) j noSwitch .id)) (on-found N inside o) ∙ index-own switchId (N .switches) (inside .switch-ids) _ noSwitch (o .listed);
   }
 
 module _ (N : Network) where
-  pub radial-accepted : (s : State) (place : ℕ) → (checkRadial N s place ≡ accepted tt) ↔ (radialIn N s ≡ true)
+  radial-accepted : (s : State) (place : ℕ) → (checkRadial N s place ≡ accepted tt) ↔ (radialIn N s ≡ true)
   unfolding checkRadial
   radial-accepted s place = judge-accepted 11 (radialIn N s) place
 
@@ -64,7 +64,7 @@ module _ (N : Network) where
     none-locked [] = (λ e. refl, λ e. refl)
     none-locked (i ∷ l) = (λ e. no-refusal e, λ e. absurd (cons≢nil e))
 
-    pub locked-accepted : (checkLocked N present wanted ≡ accepted tt) ↔ Free N present wanted
+    locked-accepted : (checkLocked N present wanted ≡ accepted tt) ↔ Free N present wanted
     unfolding checkLocked lockedDifferences lockedDifference
     locked-accepted = (λ e i l n d. fore (none-locked _ .0 e) i l n d (which (operable N i)), λ h. none-locked _ .1 (back h _ refl))
       where

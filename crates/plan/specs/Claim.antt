@@ -1,5 +1,5 @@
 -- Demand 3, one claim: the steps along a plan, what stands after a list of steps, and what holds of it for any two lists.
--- Read with: Plan; crate changes' Change; crate radiality's Feeder; crate graph's Graph (Path, Loop, Tree); crate states' Live and Switches.
+-- Read with: Plan; crate changes' Change; crate openings' Opening; crate radiality's Feeder; crate graph's Graph (Path, Loop, Tree); crate states' Live and Switches.
 use mathlib.Core.Path.{_≡_}
 use mathlib.Core.Logic.{_↔_, _≢_}
 use mathlib.Core.Bool.{Bool, true, false, cond, _&&_}

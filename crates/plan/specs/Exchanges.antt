@@ -29,7 +29,7 @@ module _ {G : Net} {E : ℕ → Bool} {q : Pair} (h : Fits G E q) where
   pub opened-live : Live G E (q .opened)
   opened-live = on-chain (h .joins .0) (h .lies)
 
-  pub closing-new : ¬ Live G E (q .closed)
+  closing-new : ¬ Live G E (q .closed)
   closing-new t = clash (t .1) (h .dead)
 
   pub pair-differs : q .closed ≢ q .opened

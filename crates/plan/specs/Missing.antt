@@ -19,49 +19,45 @@ use Rattle.states.specs.Live.{live}
 use Rattle.states.specs.Switches.{State, byte, branchOf}
 use Rattle.graph.specs.Graph.{Net}
 use Rattle.radiality.specs.Feeder.{feeder}
+use Rattle.changes.specs.Change.{onlyIn}
 use Rattle.plan.specs.Plan.{Pair, exchanged}
 use Rattle.plan.specs.Claim.{OtherPair, otherCarriedOut, othersCarriedOut}
 use Rattle.states.specs.LiveBytes.{On, live-less}
 use Rattle.plan.specs.Exchanges.{Fits, closing-closed, exchanged-other}
 
--- wanted, and not among those flagged
-unfoldable pub lacks : (ℕ → Bool) → (ℕ → Bool) → ℕ → Bool
-lacks W E k = W k && not (E k)
-
+-- how many branches are wanted and not among those flagged
 unfoldable pub missing : Net → (ℕ → Bool) → (ℕ → Bool) → ℕ
-missing G W E = count (lacks W E) (G .branches)
+missing G W E = count (onlyIn W E) (G .branches)
 
 module _ (W E : ℕ → Bool) (k : ℕ) where
-  pub lacks-so : lacks W E k ≡ true → (W k ≡ true) × (E k ≡ false)
-  unfolding lacks
-  lacks-so h = let p = both (W k) _ h in (p .0, not-true _ (p .1))
+  pub only-so : onlyIn W E k ≡ true → (W k ≡ true) × (E k ≡ false)
+  only-so h = let p = both (W k) _ h in (p .0, not-true _ (p .1))
 
-  pub lacks-if : W k ≡ true → E k ≡ false → lacks W E k ≡ true
-  unfolding lacks
-  lacks-if p q = rw (p, q)
+  only-if : W k ≡ true → E k ≡ false → onlyIn W E k ≡ true
+  only-if p q = rw (p, q)
 
 module _ (G : Net) (W E : ℕ → Bool) where
   pub missing-same : (D : ℕ → Bool) → ((k : ℕ) → k < G .branches → E k ≡ D k) → missing G W E ≡ missing G W D
-  unfolding missing lacks
+  unfolding missing
   missing-same D h = count-cong _ _ (G .branches) (λ k l. ap (λ b. W k && not b) (h k l))
 
   pub missing-none : ((k : ℕ) → k < G .branches → E k ≡ W k) → missing G W E ≡ 0
   unfolding missing
-  missing-none h = count-none _ (G .branches) (λ k l. not-so _ (λ p. let w = lacks-so W E k p in clash (w .0) (sym (h k l) ∙ w .1)))
+  missing-none h = count-none _ (G .branches) (λ k l. not-so _ (λ p. let w = only-so W E k p in clash (w .0) (sym (h k l) ∙ w .1)))
 
   -- a pair that closes a wanted branch and opens one that is not wanted
   pub missing-less : (q : Pair) → Fits G E q → W (q .closed) ≡ true → W (q .opened) ≡ false → missing G W E ≡ suc (missing G W (exchanged E q))
   unfolding missing
-  missing-less q h c o = count-drop (lacks W E) (lacks W (exchanged E q)) (G .branches) (q .closed) (h .listed) (lacks-if W E _ c (h .dead))
-      (not-so _ (λ p. clash (closing-closed h) (lacks-so W (exchanged E q) _ p .1)))
+  missing-less q h c o = count-drop (onlyIn W E) (onlyIn W (exchanged E q)) (G .branches) (q .closed) (h .listed) (only-if W E _ c (h .dead))
+      (not-so _ (λ p. clash (closing-closed h) (only-so W (exchanged E q) _ p .1)))
       (λ k l n. same k n (ℕ-discrete k (q .opened)))
     where
-      unwanted : (k : ℕ) → k ≡ q .opened → (D : ℕ → Bool) → lacks W D k ≡ false
-      unwanted k e D = not-so _ (λ p. clash (lacks-so W D k p .0) (ap W e ∙ o))
+      unwanted : (k : ℕ) → k ≡ q .opened → (D : ℕ → Bool) → onlyIn W D k ≡ false
+      unwanted k e D = not-so _ (λ p. clash (only-so W D k p .0) (ap W e ∙ o))
 
-      same : (k : ℕ) → k ≢ q .closed → Dec (k ≡ q .opened) → lacks W E k ≡ lacks W (exchanged E q) k
+      same : (k : ℕ) → k ≢ q .closed → Dec (k ≡ q .opened) → onlyIn W E k ≡ onlyIn W (exchanged E q) k
       same k n (yes e) = unwanted k e E ∙ sym (unwanted k e (exchanged E q))
-      same k n (no m) = unfold lacks in ap (λ b. W k && not b) (sym (exchanged-other E q k n m))
+      same k n (no m) = ap (λ b. W k && not b) (sym (exchanged-other E q k n m))
 
 module _ (N : Network) (W : ℕ → Bool) where
   -- any other pair makes at most the branch that it closes live
@@ -82,8 +78,8 @@ module _ (N : Network) (W : ℕ → Bool) where
   other-missing : (q : OtherPair) (s : State) → missing (feeder N) W (live N s) ≤ suc (missing (feeder N) W (live N (otherCarriedOut N q s)))
   unfolding missing
   other-missing q s = count-but _ _ (feeder N .branches) (q .closed) (λ k l n h.
-      let w = lacks-so W (live N s) k h in
-      lacks-if W _ k (w .0) (not-so _ (λ t. clash (other-live q s k n t) (w .1))))
+      let w = only-so W (live N s) k h in
+      only-if W (live N (otherCarriedOut N q s)) k (w .0) (not-so _ (λ t. clash (other-live q s k n t) (w .1))))
 
   pub others-missing : (qs : List OtherPair) (s : State) → missing (feeder N) W (live N s) ≤ length qs + missing (feeder N) W (live N (othersCarriedOut N qs s))
   unfolding othersCarriedOut

@@ -12,13 +12,13 @@ use Rattle.numbers.specs.Tests.{clash}
 use Rattle.network.specs.Records.{Network}
 use Rattle.states.specs.Live.{live}
 use Rattle.states.specs.Switches.{State, byte, branchOf, operable, GoodState, inService}
-use Rattle.graph.specs.Graph.{Net, Branches, Live, Plus, Path, Connected, Loop, Tree}
+use Rattle.graph.specs.Graph.{Live, Plus, Path, Connected, Tree}
 use Rattle.radiality.specs.Feeder.{feeder, LiveIn}
 use Rattle.graph.specs.Chains.{_⊆_, joined-more}
 use Rattle.graph.specs.Paths.{path-more}
 use Rattle.graph.specs.Forests.{path-unique}
 use Rattle.graph.specs.Trees.{tree-forest, tree-same}
-use Rattle.graph.specs.Loops.{closing-makes-loop, one-loop}
+use Rattle.graph.specs.Loops.{loop-more, closing-makes-loop, one-loop}
 use Rattle.plan.specs.Plan.{Pair, exchanged, Moves, movesOf}
 use Rattle.plan.specs.Claim.{switchAt, afterClosing, carriedOut, turned, Exchanged, OnLoop}
 use Rattle.states.specs.LiveBytes.{On, moved-other, opened-dead, closed-live, byte-open, byte-closed}
@@ -53,10 +53,6 @@ module _ {N : Network} {s : State} {E : ℕ → Bool} (h : Shows N s E) where
 
   pub shows-tree : Tree (feeder N) (Live (feeder N) E) → Tree (feeder N) (LiveIn N s)
   shows-tree t = tree-same shows-more shows-less t
-
--- with more branches a loop is still a loop
-loop-more : {G : Net} {S R : Branches} → S ⊆ R → Loop G S → Loop G R
-loop-more h l = record { branch = l .branch; rest = l .rest; own = h _ (l .own); around = path-more (λ k t. (h k (t .0), t .1)) (l .around) }
 
 module _ {N : Network} (regular : Regular N) {s : State} {E : ℕ → Bool} {q : Pair} (h : Shows N s E) (r : Ready N E q) where
   abbrev m : Moves

@@ -1,10 +1,10 @@
 -- Document 01's planner: pairs of branches, the switches that a pair moves, and the lines that are written.
-use mathlib.Core.Bool.{Bool, true, false, cond, not, _&&_}
+use mathlib.Core.Bool.{Bool, true, false, cond}
 use mathlib.Core.List.{List, [], _∷_, map, flatMap}
 use Prim.Native.Nat.{ℕ}
 use lib.Dec.{eqb}
 use lib.ListN.{length, getD}
-use Rattle.numbers.specs.Choose.{those, firstOf, indexOf}
+use Rattle.numbers.specs.Choose.{those, indexOf}
 use Rattle.network.specs.Records.{Network, noSwitch}
 use Rattle.states.specs.Switches.{State, branchOf}
 use Rattle.network.specs.Answers.{Answer, accepted, refused}
@@ -13,7 +13,8 @@ use Rattle.states.specs.Live.{live}
 use Rattle.printing.specs.Printed.{pairText}
 use Rattle.printing.specs.Calls.{Call, called}
 use Rattle.radiality.specs.Feeder.{endsPath}
-use Rattle.changes.specs.Change.{checkPlan}
+use Rattle.changes.specs.Change.{onlyIn, checkPlan}
+use Rattle.openings.specs.Opening.{firstUnwanted}
 use Rattle.plan.specs.declared.planner.PlanAnswer.{PlanAnswer}
 use Rattle.plan.specs.declared.planner.PlanAnswer.the-variants.{Pairs, Refused}
 
@@ -26,12 +27,12 @@ pub record Pair : Type 0 where
 -- "Take branches live in the wanted state only, by switch order": each once, for a branch has one switch, and one without is live in both states or in neither (`Planner.pairs-lead`)
 unfoldable pub closings : Network → State → State → List ℕ
 closings N present wanted =
-    map (branchOf N) (those (λ i. live N wanted (branchOf N i) && not (live N present (branchOf N i))) (length (N .switches)))
+    map (branchOf N) (those (λ i. onlyIn (live N wanted) (live N present) (branchOf N i)) (length (N .switches)))
 
 -- "walk the path that joined its from bus to its to bus before the closing, beginning at the from bus; open the first branch there that the wanted state
 -- doesn't have live": E has the branches live before. Between radial states there is one (`Planner.found`), so that no pair takes the 0
 unfoldable pub opening : Network → State → (ℕ → Bool) → ℕ → ℕ
-opening N wanted E e = firstOf (λ k. not (live N wanted k)) 0 (endsPath N E e)
+opening N wanted E e = firstUnwanted (live N wanted) (endsPath N E e)
 
 -- the live branches after a pair
 unfoldable pub exchanged : (ℕ → Bool) → Pair → ℕ → Bool

@@ -2,35 +2,32 @@
 -- ends of each closing stands a branch that is not wanted, for the wanted state has no loop.
 use mathlib.Core.Path.{_≡_, refl, sym, ap, _∙_}
 use mathlib.Core.Logic.{_⊎_, inl, inr}
-use mathlib.Core.Bool.{Bool, true, false, not, _&&_}
+use mathlib.Core.Bool.{Bool, true, false, not}
 use mathlib.Core.List.{List, [], _∷_, List·Memᴰ, List·Memᴰ·head, List·Memᴰ·tail, List·Memᴰ·not-nil, List·Memᴰ·cases-cons, Memᴰ·cast, Memᴰ·map, Memᴰ·of-map}
 use Prim.Native.Nat.{ℕ, _<_}
-use native.Mathlib.Decide.{ℕ-discrete, decLt}
+use native.Mathlib.Decide.{ℕ-discrete}
 use lib.ListN.{length}
 use borrow.Author.Tests.{not-true, not-false}
 use Rattle.numbers.specs.Choose.{those}
 use Rattle.numbers.specs.ChooseLaws.{in-those, of-those, first-cases}
-use Rattle.numbers.specs.Tests.{both, which, clash, same-test}
+use Rattle.numbers.specs.Tests.{which, clash}
 use Rattle.numbers.specs.Distinct.{Distinct, distinct-those, distinct-map}
 use Rattle.network.specs.Records.{Network}
 use Rattle.states.specs.Live.{live}
 use Rattle.states.specs.Switches.{State, branchOf}
-use Rattle.graph.specs.Graph.{Net, Branches, Live, Chain, stay, step, Path, Connected, Tree}
+use Rattle.graph.specs.Graph.{Net, Live, Path, Connected, Tree}
 use Rattle.radiality.specs.Feeder.{feeder, endsPath}
-use Rattle.graph.specs.Chains.{_⊆_}
-use Rattle.graph.specs.Trees.{tree-forest, part-is-whole}
+use Rattle.graph.specs.Chains.{chain-within}
+use Rattle.graph.specs.Trees.{tree-forest, live-part-is-whole}
 use Rattle.graph.specs.WalkLaws.{bfs-path}
+use Rattle.changes.specs.Change.{onlyIn}
 use Rattle.plan.specs.Plan.{Pair, closings, opening, exchanged, pairsFrom, pairs}
 use Rattle.states.specs.LiveBytes.{live-one}
 use Rattle.plan.specs.Plannable.{Regular, Free, Plannable}
 use Rattle.plan.specs.Exchanges.{Fits, opened-live, closing-closed, opening-opened, exchanged-other, exchanged-tree}
 use Rattle.plan.specs.Moved.{Switchable, Ready}
+use Rattle.plan.specs.Missing.{only-so}
 use Rattle.plan.specs.Stages.{Leads, there, next}
-
--- a chain whose every branch is of R
-chain-within : {G : Net} {S R : Branches} {a b : ℕ} {l : List ℕ} → Chain G S a b l → ((x : ℕ) → List·Memᴰ x l → S x → R x) → Chain G R a b l
-chain-within (stay e) h = stay e
-chain-within (step {k = k} s e c) h = step (h k (List·Memᴰ·head refl) s) e (chain-within c (λ x m. h x (List·Memᴰ·tail m)))
 
 -- a branch live in one of two states only is in service, and it has a switch that differs: where those are operable, it can be moved
 one-only : (N : Network) (s t : State) → Free N s t → (k : ℕ) → live N s k ≡ true → live N t k ≡ false → Switchable N k
@@ -71,22 +68,11 @@ module _ (N : Network) (present wanted : State) (given : Plannable N present wan
 
   -- no tree is a part of another
   arrived : (E : ℕ → Bool) → Remaining E [] → (k : ℕ) → k < G .branches → E k ≡ W k
-  arrived E t k l = same-test (E k) (W k) (λ p. part-is-whole (given .wanted-tree .connected) (t .tree .no-loop) more (λ j r. regular .ends j (r .0)) dec k (l, p) .1) (λ w. more k (l, w) .1)
+  arrived E t k l = sym (live-part-is-whole W E (regular .ends) (given .wanted-tree) (t .tree) (λ j w. more j w (which (E j))) k l)
     where
-      more : Live G W ⊆ Live G E
-      more j (b, w) = (b, go (which (E j)))
-        where
-          go : (E j ≡ true) ⊎ (E j ≡ false) → E j ≡ true
-          go (inl p) = p
-          go (inr p) = absurd (List·Memᴰ·not-nil (t .left j w p))
-
-      dec : (j : ℕ) → Dec (Live G W j)
-      dec j = go (decLt j (G .branches)) (which (W j))
-        where
-          go : Dec (j < G .branches) → (W j ≡ true) ⊎ (W j ≡ false) → Dec (Live G W j)
-          go (yes b) (inl w) = yes (b, w)
-          go (yes b) (inr w) = no (λ r. clash (r .1) w)
-          go (no n) w = no (λ r. n (r .0))
+      more : (j : ℕ) → W j ≡ true → (E j ≡ true) ⊎ (E j ≡ false) → E j ≡ true
+      more j w (inl p) = p
+      more j w (inr p) = absurd (List·Memᴰ·not-nil (t .left j w p))
 
   module _ (E : ℕ → Bool) (e : ℕ) (es : List ℕ) (t : Remaining E (e ∷ es)) where
     abbrev f : ℕ
@@ -167,12 +153,12 @@ module _ (N : Network) (present wanted : State) (given : Plannable N present wan
   leads (e ∷ es) E t = next (ready E e es t) (e-wanted E e es t) (found E e es t .1) (leads es _ (then E e es t))
 
   -- a switch of a closing
-  closing-switch : (i : ℕ) → List·Memᴰ i (those (λ i. live N wanted (branchOf N i) && not (live N present (branchOf N i))) (length (N .switches)))
+  closing-switch : (i : ℕ) → List·Memᴰ i (those (λ i. onlyIn (live N wanted) (live N present) (branchOf N i)) (length (N .switches)))
       → (i < length (N .switches)) × (live N wanted (branchOf N i) ≡ true) × (live N present (branchOf N i) ≡ false)
   closing-switch i m =
       let h = of-those _ (length (N .switches)) i m in
-      let w = both (live N wanted (branchOf N i)) _ (h .1) in
-      (h .0, w .0, not-true _ (w .1))
+      let (w, d) = only-so (live N wanted) (live N present) (branchOf N i) (h .1) in
+      (h .0, w, d)
 
   pub pairs-lead : Leads N (live N wanted) (live N present) (pairs N present wanted)
   unfolding pairs closings

@@ -1,10 +1,9 @@
 -- The opening that the code reads off the rows of a feeder that is accepted is the plan's.
 use mathlib.Core.Path.{_≡_, ap, _∙_}
-use mathlib.Core.Bool.{Bool, not}
+use mathlib.Core.Bool.{Bool}
 use mathlib.Core.List.{List}
 use Prim.Native.Nat.{ℕ, _≤_, _<_}
 use lib.ListN.{length}
-use Rattle.numbers.specs.Choose.{firstOf}
 use Rattle.network.specs.declared.topology.PowerNetwork.{PowerNetwork}
 use Rattle.network.specs.Records.{recordsOf}
 use Rattle.network.specs.Answers.{accepted}
@@ -15,7 +14,7 @@ use Rattle.graph.specs.Rows.{flag}
 use Rattle.radiality.specs.Feeder.{feeder, endsPath}
 use Rattle.radiality.specs.FeederRows.{feederGraph, liveFlags}
 use Rattle.radiality.specs.FeederRowLaws.{flags-live, feeder-row-ends-path}
-use Rattle.openings.specs.Opening.{rowOpening}
+use Rattle.openings.specs.Opening.{firstUnwanted, rowOpening}
 use Rattle.plan.specs.Plan.{opening}
 
 -- of the value handed over it is only used that its array has room for 256 buses, as every one has
@@ -24,5 +23,5 @@ pub row-opening : (n : PowerNetwork) → length (n .buses) ≡ 256 → checkReco
     → rowOpening (feederGraph n) live (liveFlags (recordsOf n) wanted) k ≡ opening (recordsOf n) wanted (flag live) k
 unfolding rowOpening opening
 row-opening n sized ok live short wanted k h =
-    ap (λ (l : List ℕ). firstOf (λ j. not (flag (liveFlags (recordsOf n) wanted) j)) 0 l) (feeder-row-ends-path n sized ok live short k h)
-    ∙ ap (λ (E : ℕ → Bool). firstOf (λ j. not (E j)) 0 (endsPath (recordsOf n) (flag live) k)) (flags-live (recordsOf n) wanted (check-inside (recordsOf n) .0 ok .counts .1))
+    ap (firstUnwanted (flag (liveFlags (recordsOf n) wanted))) (feeder-row-ends-path n sized ok live short k h)
+    ∙ ap (λ (E : ℕ → Bool). firstUnwanted E (endsPath (recordsOf n) (flag live) k)) (flags-live (recordsOf n) wanted (check-inside (recordsOf n) .0 ok .counts .1))

@@ -1,6 +1,6 @@
 // The pairs of a plan.
 ghost use mathlib.Core.Path.{_≡_};
-ghost use mathlib.Core.Bool.{true, false, not, _&&_};
+ghost use mathlib.Core.Bool.{true, false};
 ghost use mathlib.Core.List.{[], _∷_, _++_};
 ghost use Prim.Native.Nat.{_<_, _≤_};
 ghost use lib.ListN.{getD, set};
@@ -10,12 +10,13 @@ ghost use Rattle.network.specs.Check.{checkRecords};
 ghost use Rattle.network.specs.Records.{recordsOf};
 ghost use Rattle.states.specs.Switches.{State};
 ghost use Rattle.graph.specs.Rows.{flag};
+ghost use Rattle.changes.specs.Change.{onlyIn};
 ghost use Rattle.changes.specs.Passing.{Passed};
 ghost use Rattle.openings.specs.Opening.{rowOpening};
 ghost use Rattle.plan.specs.Plan.{switchOn, plan};
 ghost use Rattle.plan.specs.Stored.{movesIn};
 use changes::change::Change;
-use changes::flags::flagged;
+use graph::flags::flagged;
 use graph::rows::Graph;
 use network::topology::PowerNetwork;
 use numbers::wide16;
@@ -99,7 +100,7 @@ fn pair_done(stage: Stage, graph: Graph, wanted: [bool; 512], ids: [u16; 512], k
 
 // Whether a pair closes branch k: it is live in the wanted state only.
 fn is_closing(present: &[bool], wanted: &[bool], k: u16) -> bool
-    ensures { λ r. ⌜ r ≡ (flag (now (wanted .entry)) k && not (flag (now (present .entry)) k)) ⌝ }
+    ensures { λ r. ⌜ r ≡ onlyIn (flag (now (wanted .entry))) (flag (now (present .entry))) k ⌝ }
 {
     if flagged(wanted, k) {
         return !flagged(present, k);

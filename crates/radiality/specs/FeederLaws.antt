@@ -2,19 +2,19 @@
 use mathlib.Core.Path.{_≡_}
 use mathlib.Core.Logic.{_↔_}
 use mathlib.Core.Bool.{true}
-use mathlib.Core.List.{List, map}
+use mathlib.Core.List.{List, map, List·Memᴰ}
 use Prim.Native.Nat.{ℕ, _≤_, _<_}
 use native.Mathlib.Omega.{arith}
 use lib.ListN.{length, length-map}
 use Rattle.numbers.specs.Choose.{indexOf}
 use Rattle.numbers.specs.ChooseLaws.{index-found}
-use Rattle.network.specs.Records.{Network, noBranch}
+use Rattle.network.specs.Records.{Network}
 use Rattle.network.specs.Answers.{accepted}
 use Rattle.network.specs.Faults.{busId}
 use Rattle.network.specs.Check.{checkRecords}
-use Rattle.network.specs.Inside.{HasBus, Inside}
+use Rattle.network.specs.Inside.{Inside}
 use Rattle.network.specs.InsideLaws.{check-inside}
-use Rattle.network.specs.Positions.{each-at}
+use Rattle.network.specs.Positions.{from-listed, to-listed}
 use Rattle.states.specs.Live.{live}
 use Rattle.graph.specs.Graph.{Sound, Tree}
 use Rattle.radiality.specs.Feeder.{position, feeder, LiveIn, radialIn}
@@ -23,9 +23,9 @@ use Rattle.graph.specs.RadialLaws.{radial-tree}
 module _ (N : Network) (inside : Inside N) where
   pub feeder-sound : Sound (feeder N)
   unfolding feeder position
-  feeder-sound k l = let h = each-at (λ b. HasBus N (b .«from_bus») × HasBus N (b .«to_bus»)) (N .branches) (inside .ends) k noBranch l in (found _ (h .0), found _ (h .1))
+  feeder-sound k l = (found _ (from-listed N inside k l), found _ (to-listed N inside k l))
     where
-      found : (id : ℕ) → HasBus N id → indexOf id (map busId (N .buses)) < length (N .buses)
+      found : (id : ℕ) → List·Memᴰ id (map busId (N .buses)) → indexOf id (map busId (N .buses)) < length (N .buses)
       found id m = omega (arith, index-found id (map busId (N .buses)) m, length-map (N .buses) busId)
 
   pub feeder-small : feeder N .buses ≤ 256
@@ -36,7 +36,11 @@ module _ (N : Network) (inside : Inside N) where
   unfolding feeder
   feeder-few = inside .counts .1
 
--- what `verify_radiality` answers is true exactly where the live branches connect all buses without a loop
+  -- what `verify_radiality` answers is true exactly where the live branches connect all buses without a loop
+  pub inside-radial-tree : (s : List ℕ) → (radialIn N s ≡ true) ↔ Tree (feeder N) (LiveIn N s)
+  unfolding radialIn
+  inside-radial-tree s = radial-tree (feeder N) (live N s) feeder-sound feeder-small
+
+-- so for every accepted network
 pub radial-in-tree : (N : Network) → checkRecords N ≡ accepted tt → (s : List ℕ) → (radialIn N s ≡ true) ↔ Tree (feeder N) (LiveIn N s)
-unfolding radialIn
-radial-in-tree N e s = let inside = check-inside N .0 e in radial-tree (feeder N) (live N s) (feeder-sound N inside) (feeder-small N inside)
+radial-in-tree N e = inside-radial-tree N (check-inside N .0 e)

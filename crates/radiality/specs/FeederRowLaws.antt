@@ -27,6 +27,7 @@ use Rattle.network.specs.LookupLaws.{listed-buses}
 use Rattle.states.specs.Live.{checkState, live}
 use Rattle.states.specs.LiveLaws.{live-configuration}
 use Rattle.states.specs.Configuration.{configurationOf}
+use Rattle.graph.specs.declared.rows.Graph.{Graph}
 use Rattle.graph.specs.Graph.{Net}
 use Rattle.graph.specs.Walk.{bfsPath}
 use Rattle.graph.specs.Radial.{radial}
@@ -93,7 +94,7 @@ module _ (n : PowerNetwork) (sized : length (n .buses) ≡ 256) where
   few-ids : length (listedIds n) ≤ 256
   few-ids = simp (length-map, length-take) (omega arith)
 
-  pub feeder-positions : Positions (fromEnds n) (toEnds n)
+  feeder-positions : Positions (fromEnds n) (toEnds n)
   feeder-positions = record {
     from-length = length-table _ 512;
     to-length = length-table _ 512;
@@ -135,11 +136,11 @@ module _ (n : PowerNetwork) (sized : length (n .buses) ≡ 256) where
       end-at (λ b. b .«to_bus») k h (to-listed (recordsOf n) inside k h),
     )
 
-    pub feeder-row-ends : (k : ℕ) → k < feeder (recordsOf n) .branches
+    feeder-row-ends : (k : ℕ) → k < feeder (recordsOf n) .branches
         → (rowNet (feederGraph n) .from k ≡ feeder (recordsOf n) .from k) × (rowNet (feederGraph n) .to k ≡ feeder (recordsOf n) .to k)
     unfolding feederGraph graphOf
     feeder-row-ends k h =
-        let f = far-hold (n .«branch_count») (fromEnds n) (toEnds n) 512 (omega arith) k (omega arith) (omega (arith, feeder-few (recordsOf n) inside)) in
+        let f = far-hold (fromEnds n) (toEnds n) k (omega (arith, feeder-few (recordsOf n) inside)) in
         let e = feeder-ends k h in
         (f .1 ∙ sym (e .0), f .0 ∙ sym (e .1))
 
@@ -147,13 +148,13 @@ module _ (n : PowerNetwork) (sized : length (n .buses) ≡ 256) where
     arrays = netOf (n .«bus_count») (n .«branch_count») (fromEnds n) (toEnds n)
 
     module _ (flags : List Bool) (short : length flags ≤ 512) where
-      pub feeder-row-radial : rowRadial (feederGraph n) flags ≡ radial (feeder (recordsOf n)) (flag flags)
+      feeder-row-radial : rowRadial (feederGraph n) flags ≡ radial (feeder (recordsOf n)) (flag flags)
       unfolding feederGraph
       feeder-row-radial =
           row-radial-is-radial _ _ (fromEnds n) (toEnds n) flags feeder-positions short
           ∙ sym (radial-same _ arrays (flag flags) _ same-buses same-branches (λ k l. refl) feeder-ends)
 
-      pub feeder-row-path : (a b : ℕ) → a < 256 → rowPath (feederGraph n) flags a b ≡ bfsPath (feeder (recordsOf n)) (flag flags) a b
+      feeder-row-path : (a b : ℕ) → a < 256 → rowPath (feederGraph n) flags a b ≡ bfsPath (feeder (recordsOf n)) (flag flags) a b
       unfolding feederGraph
       feeder-row-path a b h =
           row-path-is-path _ _ (fromEnds n) (toEnds n) flags feeder-positions short a b h
@@ -179,6 +180,10 @@ module _ (n : PowerNetwork) (sized : length (n .buses) ≡ 256) where
       pub live-row-radial : rowRadial (feederGraph n) (liveFlags (recordsOf n) s) ≡ radialIn (recordsOf n) s
       unfolding radialIn
       live-row-radial = feeder-row-radial _ live-short ∙ ap (radial (feeder (recordsOf n))) live-flags
+
+      -- by a graph and flags that are the feeder's and the state's
+      pub flags-radial : (g : Graph) (flags : List Bool) → g ≡ feederGraph n → flags ≡ liveFlags (recordsOf n) s → (r : Bool) → r ≡ rowRadial g flags → r ≡ radialIn (recordsOf n) s
+      flags-radial g flags a b r e = e ∙ rw (a, b) live-row-radial
 
       pub live-row-ends-path : (k : ℕ) → k < feeder (recordsOf n) .branches
           → rowEndsPath (feederGraph n) (liveFlags (recordsOf n) s) k ≡ endsPath (recordsOf n) (live (recordsOf n) s) k

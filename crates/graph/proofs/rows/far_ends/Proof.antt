@@ -1,23 +1,19 @@
--- `far_ends` meets its contract: after i turns the array is `farOf` of the last i branches, and a turn is `one-far`.
-use mathlib.Core.Path.{_≡_, _∙_, ap}
+-- `far_ends` meets its contract: after k turns the far ends of the first k branches stand in the array, and a turn is `one-far`.
 use Prim.Native.Nat.{_≤_, _-_}
 use native.Mathlib.Omega.{arith}
-use Rattle.graph.specs.Rows.{farOf}
-use Rattle.graph.proofs.Building.{none-far, one-far}
+use Rattle.graph.proofs.Building.{FarSoFar, none-far, one-far, all-far}
+use borrow.Author.Needs.{needs}
 use Rattle.graph.proofs.rows.far_ends.Statement.{statement}
 use Rattle.graph.proofs.rows.far_ends.Tie as tie
 
 abbrev Inv-loop : tie.InvT-loop
-Inv-loop from to far₀ i₀ far i = (i ≤ 512) × (far ≡ farOf from to i)
+Inv-loop from to far₀ k₀ far k = (k ≤ 512) × FarSoFar from to far k
 
 abbrev μ-loop : tie.MeasureT-loop
-μ-loop from to far₀ i₀ far i = 512 - i
+μ-loop from to far₀ k₀ far k = 512 - k
 
 loop-holds : tie.Need-loop-holds Inv-loop μ-loop
 loop-holds c = (omega arith, none-far _ _)
-
-sub-k : tie.Need-sub-k Inv-loop μ-loop
-sub-k c = omega arith
 
 element-copy-out-far : tie.Need-element-copy-out-far Inv-loop μ-loop
 element-copy-out-far c = omega arith
@@ -40,20 +36,17 @@ add-far c = omega arith
 array-write-far-2 : tie.Need-array-write-far-2 Inv-loop μ-loop
 array-write-far-2 c = omega arith
 
-add-i : tie.Need-add-i Inv-loop μ-loop
-add-i c = omega arith
+add-k : tie.Need-add-k Inv-loop μ-loop
+add-k c = omega arith
 
 loop-less : tie.Need-loop-less Inv-loop μ-loop
 loop-less c = omega arith
 
 loop-again : tie.Need-loop-again Inv-loop μ-loop
-loop-again c = (omega arith, one-far _ _ _ (c .before .before .before .loop .inv .1))
+loop-again c = (omega arith, one-far _ _ _ (c .before .before .before .loop .inv .1) (search needs))
 
 returns : tie.Need-returns Inv-loop μ-loop
-returns c =
-    let loop = c .before in
-    let end : loop .loop .i ≡ 512 = omega arith in
-    loop .loop .inv .1 ∙ ap (farOf _ _) end
+returns c = all-far _ _ _ (c .before .loop .inv .1) (c .loop-test .left)
 
 pub far-ends-spec : {M : Type 1} → statement M
 far-ends-spec =
@@ -62,7 +55,6 @@ far-ends-spec =
     Inv-loop
     μ-loop
     loop-holds
-    sub-k
     element-copy-out-far
     mul-far
     array-write-far
@@ -70,7 +62,7 @@ far-ends-spec =
     mul-far-2
     add-far
     array-write-far-2
-    add-i
+    add-k
     loop-less
     loop-again
     returns)

@@ -1,13 +1,12 @@
 -- `verify_radiality` meets its contract: the first check that refuses decides; behind both, the rows of the graph and the flags of the live
 -- branches say what the records and the state say.
-use mathlib.Core.Path.{sym, ap, ap₂, _∙_}
+use mathlib.Core.Path.{sym, ap, _∙_}
 use borrow.Author.Needs.{needs}
 use Rattle.network.specs.Answers.{accepted, answerOf}
 use Rattle.network.specs.AnswerLaws.{refused-first, accepted-then}
 use Rattle.network.specs.ReadLaws.{length-of}
 use Rattle.network.proofs.bus.Bus.{the-type}
-use Rattle.graph.specs.Rows.{rowRadial}
-use Rattle.radiality.specs.FeederRowLaws.{state-flags, live-row-radial}
+use Rattle.radiality.specs.FeederRowLaws.{state-flags, flags-radial}
 use Rattle.radiality.proofs.radiality.verify_radiality.Statement.{statement}
 use Rattle.radiality.proofs.radiality.verify_radiality.Tie as tie
 
@@ -61,9 +60,10 @@ returns-3 c =
     let ok = sym (records .check .ensures) ∙ ap answerOf (head .enum-told .given .1) in
     let good = sym (state .check-state .ensures) ∙ ap answerOf (passed .enum-told2 .given .1) in
     ap accepted
-    (c .is-radial .ensures
-    ∙ ap₂ rowRadial (c .before .graph-of .ensures) (state-flags _ _ 0 ok good _ _ (flags .before .of .ensures) (flags .live-branches .ensures))
-    ∙ live-row-radial (start .args .network) (length-of (the-type .to) (start .args .network .buses) (start .good .0 .1 .1 .0 .1 .0 .1)) ok _)
+    (flags-radial (start .args .network) (length-of (the-type .to) (start .args .network .buses) (start .good .0 .1 .1 .0 .1 .0 .1)) ok _ _ _ (c .before .graph-of .ensures)
+    (state-flags _ _ 0 ok good _ _ (flags .before .of .ensures) (flags .live-branches .ensures))
+    _
+    (c .is-radial .ensures))
     ∙ accepted-then _ _ _ (passed .enum-told2 .given .1) (state .check-state .ensures)
     ∙ accepted-then _ _ _ (head .enum-told .given .1) (records .check .ensures)
 

@@ -4,8 +4,8 @@ use mathlib.Core.Bool.{false}
 use native.Mathlib.Omega.{arith}
 use lib.ListN.{List·getD-eq-default}
 use borrow.Author.Needs.{needs}
-use Rattle.changes.proofs.flags.flagged.Statement.{statement}
-use Rattle.changes.proofs.flags.flagged.Tie as tie
+use Rattle.graph.proofs.flags.flagged.Statement.{statement}
+use Rattle.graph.proofs.flags.flagged.Tie as tie
 
 wide16-requires : tie.Need-wide16-requires
 wide16-requires c κs = search needs
