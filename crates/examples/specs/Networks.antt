@@ -15,7 +15,8 @@ use Rattle.network.specs.declared.switch.ReconfigAlgorithm.the-variants.{Branch
 use Rattle.network.specs.declared.topology.BusIndex.the-variants.{At, NotFound}
 use Rattle.network.specs.Records.{Network}
 use Rattle.network.specs.Answers.{accepted, refused, _andThen_, judge}
-use Rattle.network.specs.Faults.{okBase, okLoad, okR, among, ties, headFaults, busFaults, branchFaults, switchFaults}
+use Rattle.network.specs.Limits.{okBase, okLoad, okR, ties}
+use Rattle.network.specs.Faults.{among, headFaults, busFaults, branchFaults, switchFaults}
 use Rattle.network.specs.Check.{headOf, checkRun, checkRecords}
 use Rattle.states.specs.Live.{checkState, openOn, live, baseState}
 use Rattle.network.specs.Lookups.{busIndex}

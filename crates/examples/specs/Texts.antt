@@ -6,7 +6,8 @@ use lib.Ieee.{ofBits, toBits, le, neg}
 use Rattle.numbers.specs.Every.{every}
 use Rattle.network.specs.Answers.{accepted, refused, _andThen_, judge}
 use Rattle.network.specs.Records.{Network}
-use Rattle.network.specs.Faults.{okBase, okLoad, okR, among, ties, headFaults, busFaults, branchFaults, switchFaults}
+use Rattle.network.specs.Limits.{okBase, okLoad, okR, ties}
+use Rattle.network.specs.Faults.{among, headFaults, busFaults, branchFaults, switchFaults}
 use Rattle.network.specs.Check as check
 use Rattle.lines.specs.Hex.{isDigit, value, digit, number, digits, readFields, writeFields}
 use Rattle.lines.specs.Lines.{put, cut, lineFaults}
