@@ -21,7 +21,8 @@ use Rattle.network.specs.Answers.{answerOf, Fault, judge}
 use Rattle.network.specs.AnswerLaws.{judge-iff, accepted-so}
 use Rattle.ids.specs.Ids.{rows, idRows, positionOf}
 use Rattle.ids.specs.IdLaws.{position-found}
-use Rattle.network.specs.Faults.{Head, among, busId, switchId, on, ties, busRow, branchRow, switchRow, busFaults, branchFaults, switchFaults}
+use Rattle.network.specs.Limits.{Head, busId, switchId, on, ties}
+use Rattle.network.specs.Faults.{among, busRow, branchRow, switchRow, busFaults, branchFaults, switchFaults}
 use Rattle.checks.specs.Flags.{flags, flag-at, set-flag}
 
 -- an id stands before position i where its first position is below i

@@ -14,7 +14,8 @@ use Rattle.network.specs.declared.branch.Branch.{Branch}
 use Rattle.network.specs.declared.switch.Switch.{Switch}
 use Rattle.network.specs.Records.{Network}
 use Rattle.network.specs.Answers.{accepted, refused, _andThen_, judge}
-use Rattle.network.specs.Faults.{okBase, okLoad, okR, among, ties, headFaults, busFaults, branchFaults, switchFaults}
+use Rattle.network.specs.Limits.{okBase, okLoad, okR, ties}
+use Rattle.network.specs.Faults.{among, headFaults, busFaults, branchFaults, switchFaults}
 use Rattle.network.specs.Check.{headOf, checkRun, checkRecords}
 use Rattle.states.specs.Live.{live, openOn, checkState, baseState}
 use Rattle.states.specs.Switches.{State, byte}

@@ -11,7 +11,8 @@ use Rattle.numbers.specs.UpTo.{upTo, table}
 use Rattle.numbers.specs.Counts.{count}
 use Rattle.numbers.specs.Choose.{those, least, firstSome, firstOf, indexOf, _orElse_}
 use Rattle.network.specs.Records.{Network}
-use Rattle.network.specs.Faults.{among, ties}
+use Rattle.network.specs.Limits.{ties}
+use Rattle.network.specs.Faults.{among}
 use Rattle.states.specs.Live.{live, openOn, baseState}
 use Rattle.states.specs.Switches.{State, swapped, toggled}
 use Rattle.graph.specs.Walk.{far, neighbours, reached, enter, enterAll, turn, walkBy, walk, byOf, across, back, bfsPath}

@@ -5,7 +5,8 @@ use Prim.Native.Nat.{ℕ, zero, suc, _+_, _*_}
 use lib.Ieee.{ofBits, le, neg}
 use Rattle.numbers.specs.Every.{every}
 use Rattle.network.specs.Answers.{accepted, refused, _andThen_, judge}
-use Rattle.network.specs.Faults.{okBase, okLoad, okR, among, ties, headFaults, busFaults, branchFaults, switchFaults}
+use Rattle.network.specs.Limits.{okBase, okLoad, okR, ties}
+use Rattle.network.specs.Faults.{among, headFaults, busFaults, branchFaults, switchFaults}
 use Rattle.lines.specs.Hex.{isDigit, value, digit, number, digits, readFields}
 use Rattle.lines.specs.Lines.{put, cut, lineFaults}
 use Rattle.record_lines.specs.Kinds.{isFrame, fieldsOf, methodOf, readOne, without}

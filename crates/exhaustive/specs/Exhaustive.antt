@@ -8,7 +8,7 @@ use Rattle.numbers.specs.UpTo.{upTo, table}
 use Rattle.numbers.specs.Counts.{count}
 use Rattle.network.specs.declared.switch.ReconfigAlgorithm.{ReconfigAlgorithm}
 use Rattle.network.specs.Records.{Network}
-use Rattle.network.specs.Faults.{ties}
+use Rattle.network.specs.Limits.{ties}
 use Rattle.states.specs.Live.{baseState}
 use Rattle.states.specs.Switches.{State, size, isTie}
 use Rattle.radiality.specs.Feeder.{radialIn}

@@ -8,7 +8,7 @@ use Rattle.numbers.specs.Counts.{count}
 use Rattle.numbers.specs.TableLaws.{length-table, getD-table}
 use Rattle.numbers.specs.UpTo.{upTo-keeps}
 use Rattle.network.specs.Records.{Network}
-use Rattle.network.specs.Faults.{ties}
+use Rattle.network.specs.Limits.{ties}
 use Rattle.states.specs.Live.{stateByte, live, baseState}
 use Rattle.states.specs.Switches.{byte, size, isTie, GoodState}
 use Rattle.radiality.specs.Feeder.{radialIn}

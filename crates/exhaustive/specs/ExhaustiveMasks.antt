@@ -14,7 +14,7 @@ use Rattle.network.specs.declared.topology.PowerNetwork.{PowerNetwork}
 use Rattle.network.specs.Records.{noSwitch, recordsOf}
 use Rattle.network.specs.Answers.{accepted}
 use Rattle.network.specs.Check.{checkRecords}
-use Rattle.network.specs.Faults.{ties, methodByte}
+use Rattle.network.specs.Limits.{ties, methodByte}
 use Rattle.network.specs.InsideLaws.{check-inside}
 use Rattle.states.specs.Listed.{switches-listed, switch-at}
 use Rattle.states.specs.Switches.{isTie}

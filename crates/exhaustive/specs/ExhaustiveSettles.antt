@@ -12,7 +12,7 @@ use Rattle.numbers.specs.TableLaws.{as-table}
 use Rattle.numbers.specs.Tests.{clash}
 use Rattle.numbers.specs.UpTo.{upTo-keeps}
 use Rattle.network.specs.Records.{Network}
-use Rattle.network.specs.Faults.{ties}
+use Rattle.network.specs.Limits.{ties}
 use Rattle.network.specs.Inside.{Inside}
 use Rattle.states.specs.Live.{stateByte, baseState}
 use Rattle.states.specs.Switches.{isTie, size}

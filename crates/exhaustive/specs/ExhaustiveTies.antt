@@ -18,7 +18,7 @@ use Rattle.numbers.specs.ChooseLaws.{those-more}
 use Rattle.numbers.specs.UpTo.{upTo, upTo-more, table}
 use Rattle.numbers.specs.TableLaws.{length-table, getD-table, as-table, table-cong, filled, filled-none, filled-more}
 use Rattle.network.specs.Records.{Network}
-use Rattle.network.specs.Faults.{ties}
+use Rattle.network.specs.Limits.{ties}
 use Rattle.network.specs.TieLaws.{ties-next}
 use Rattle.network.specs.Inside.{Inside}
 use Rattle.states.specs.Live.{baseState}

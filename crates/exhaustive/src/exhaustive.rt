@@ -10,7 +10,7 @@ ghost use lib.ListN.{getD, set};
 ghost use Rattle.network.specs.Answers.{accepted};
 ghost use Rattle.network.specs.Check.{checkRecords};
 ghost use Rattle.states.specs.Configuration.{configurationOf};
-ghost use Rattle.network.specs.Faults.{ties};
+ghost use Rattle.network.specs.Limits.{ties};
 ghost use Rattle.states.specs.Live.{baseState};
 ghost use Rattle.network.specs.Records.{Network, recordsOf};
 ghost use Rattle.radiality.specs.Feeder.{radialIn};

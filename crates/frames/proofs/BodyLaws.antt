@@ -11,7 +11,7 @@ use Rattle.network.specs.declared.error.Verdict.the-variants.{Accepted, Refused
 use Rattle.network.specs.declared.topology.PowerNetwork.{PowerNetwork}
 use Rattle.network.specs.Answers.{accepted, refused, answerOf, _andThen_}
 use Rattle.network.specs.Records.{networkOf, emptyNetwork}
-use Rattle.network.specs.Faults.{Head}
+use Rattle.network.specs.Limits.{Head}
 use Rattle.frames.specs.declared.pass.Pass as Code
 use Rattle.lines.specs.Lines.{Line, cut}
 use Rattle.record_lines.specs.Kinds.{without}

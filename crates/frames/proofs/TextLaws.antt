@@ -7,7 +7,7 @@ use Rattle.network.specs.Answers.{accepted, refused, answerOf, _andThen_}
 use Rattle.network.specs.Check.{checkRecords}
 use Rattle.network.specs.Records.{networkOf, recordsOf}
 use Rattle.network.specs.RecordLaws.{records-of-network}
-use Rattle.network.specs.Faults.{Head}
+use Rattle.network.specs.Limits.{Head}
 use Rattle.frames.specs.declared.pass.Pass as Code
 use Rattle.lines.specs.Lines.{cut}
 use Rattle.record_lines.specs.Kinds.{head, headFrom, headLineFaults, readOne, without}

@@ -9,7 +9,7 @@ use Rattle.network.specs.declared.bus.Bus.{Bus}
 use Rattle.network.specs.declared.branch.Branch.{Branch}
 use Rattle.network.specs.declared.switch.Switch.{Switch}
 use Rattle.network.specs.Records.{Network}
-use Rattle.network.specs.Faults.{Head, methodByte}
+use Rattle.network.specs.Limits.{Head, methodByte}
 use Rattle.network.specs.Check as check
 use Rattle.network.specs.Inside.{Each, Inside}
 use Rattle.lines.specs.Hex.{Fields}

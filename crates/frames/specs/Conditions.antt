@@ -6,7 +6,7 @@ use Prim.Native.Nat.{ℕ, zero, suc, _≤_}
 use lib.ListN.{take, drop}
 use Rattle.network.specs.declared.bus.Bus.{Bus}
 use Rattle.network.specs.Answers.{Answer, accepted, refused, _andThen_, Fault, _if_, judge, Judgement}
-use Rattle.network.specs.Faults.{Head}
+use Rattle.network.specs.Limits.{Head}
 use Rattle.network.specs.Inside.{Each}
 use Rattle.lines.specs.Hex.{Fields}
 use Rattle.lines.specs.Lines.{Line, isLong, isMiswritten}

@@ -11,7 +11,8 @@ use Rattle.network.specs.declared.bus.Bus.{Bus}
 use Rattle.network.specs.declared.switch.Switch.{Switch}
 use Rattle.network.specs.Answers.{Fault, _if_, judge}
 use Rattle.network.specs.AnswerLaws.{no-refusal}
-use Rattle.network.specs.Faults.{Head, headFaults, busFaults, branchFaults, switchFaults}
+use Rattle.network.specs.Limits.{Head}
+use Rattle.network.specs.Faults.{headFaults, busFaults, branchFaults, switchFaults}
 use Rattle.network.specs.Inside.{Each}
 use Rattle.lines.specs.Hex.{Fields}
 use Rattle.lines.specs.Lines.{Line, cut}

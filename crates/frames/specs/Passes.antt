@@ -10,7 +10,7 @@ use Rattle.network.specs.declared.branch.Branch.{Branch}
 use Rattle.network.specs.declared.switch.Switch.{Switch}
 use Rattle.network.specs.Answers.{Answer, accepted, refused, _andThen_, Fault, Judgement}
 use Rattle.network.specs.Records.{Network}
-use Rattle.network.specs.Faults.{Head}
+use Rattle.network.specs.Limits.{Head}
 use Rattle.network.specs.Check.{checkRecords}
 use Rattle.lines.specs.Hex.{Fields}
 use Rattle.lines.specs.Lines.{Line, cut}

@@ -11,7 +11,8 @@ use Rattle.network.specs.declared.branch.Branch.{Branch}
 use Rattle.network.specs.declared.switch.Switch.{Switch}
 use Rattle.network.specs.Answers.{Answer, accepted, _andThen_, Fault, judge, Judgement}
 use Rattle.network.specs.Records.{Network}
-use Rattle.network.specs.Faults.{Head, okLoad, okR, headFaults, busFaults, branchFaults, switchFaults}
+use Rattle.network.specs.Limits.{Head, okLoad, okR}
+use Rattle.network.specs.Faults.{headFaults, busFaults, branchFaults, switchFaults}
 use Rattle.network.specs.AnswerLaws.{judge-iff, no-refusal, then-assoc, same-value}
 use Rattle.network.specs.InsideLaws.{HeadInside, head-iff}
 use Rattle.network.specs.Check as check

@@ -8,7 +8,7 @@ use Rattle.network.specs.declared.branch.Branch.{Branch}
 use Rattle.network.specs.declared.switch.Switch.{Switch}
 use Rattle.network.specs.AnswerLaws.{no-refusal, same-value}
 use Rattle.network.specs.Records.{Network}
-use Rattle.network.specs.Faults.{Head}
+use Rattle.network.specs.Limits.{Head}
 use Rattle.lines.specs.Lines.{Line}
 use Rattle.lines.specs.FirstLine.{judgeEnd}
 use Rattle.record_lines.specs.Kinds.{head, bus, branch, switch, headFrom, busFrom, branchFrom, switchFrom, headLineFaults, busLineFaults, branchLineFaults, switchLineFaults, Reader, readOne, without}

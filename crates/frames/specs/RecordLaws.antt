@@ -17,7 +17,7 @@ use Rattle.network.specs.declared.switch.ReconfigAlgorithm.the-variants.{Branch
 use Rattle.network.specs.Answers.{accepted, Fault, _if_, judge}
 use Rattle.numbers.specs.Constants.{thousandth, thousand, million}
 use Rattle.numbers.specs.Tests.{both}
-use Rattle.network.specs.Faults.{Head, methodByte, inRange, okBase, okLoad, okR}
+use Rattle.network.specs.Limits.{Head, methodByte, inRange, okBase, okLoad, okR}
 use Rattle.lines.specs.Hex.{Fields, Fit}
 use Rattle.lines.specs.Frames.{Frame}
 use Rattle.record_lines.specs.Kinds.{head, bus, branch, switch, methodOf, headFrom, busFrom, branchFrom, switchFrom, headBytes, busBytes, branchBytes, switchBytes}

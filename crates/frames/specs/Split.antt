@@ -13,7 +13,8 @@ use Rattle.network.specs.declared.branch.Branch.{Branch}
 use Rattle.network.specs.declared.switch.Switch.{Switch}
 use Rattle.network.specs.Answers.{Answer, accepted, refused, _andThen_, Fault, judge, Judgement}
 use Rattle.network.specs.Records.{Network}
-use Rattle.network.specs.Faults.{Head, okBase, headFaults, busFaults, branchFaults, switchFaults}
+use Rattle.network.specs.Limits.{Head, okBase}
+use Rattle.network.specs.Faults.{headFaults, busFaults, branchFaults, switchFaults}
 use Rattle.network.specs.AnswerLaws.{judge-iff, no-refusal, then-assoc}
 use Rattle.network.specs.InsideLaws.{HeadInside, head-iff}
 use Rattle.network.specs.Check as check

@@ -3,7 +3,7 @@ ghost use mathlib.Core.Path.{_≡_};
 ghost use mathlib.Core.List.{map};
 ghost use Prim.Native.Nat.{_≤_, _<_};
 ghost use lib.ListN.{take};
-ghost use Rattle.network.specs.Faults.{busId, switchId};
+ghost use Rattle.network.specs.Limits.{busId, switchId};
 ghost use Rattle.ids.specs.Ids.{bucketOf, idArray, rowsOf, idRows, positionOf};
 use network::bus::Bus;
 use network::switch::Switch;

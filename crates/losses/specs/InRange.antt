@@ -9,7 +9,7 @@ use Rattle.numbers.specs.Constants.{zero64, thousandth, thousand, million, minu
 use Rattle.numbers.specs.RangeLaws.{range-within, above-low, above-zero}
 use Rattle.numbers.specs.Signs.{HasSign, sign, NonNeg}
 use Rattle.numbers.specs.Sums.{zero-within}
-use Rattle.network.specs.Faults.{inRange, okBase, okLoad, okR}
+use Rattle.network.specs.Limits.{inRange, okBase, okLoad, okR}
 
 million-within : Within 1000000 million
 unfolding ofBits

@@ -12,7 +12,7 @@ use Rattle.numbers.specs.Constants.{zero64}
 use Rattle.numbers.specs.Signs.{HasSign, NonNeg}
 use Rattle.numbers.specs.Sums.{zero-within, zero-sign, plus-above-zero, add-sign, le-add, le-self}
 use Rattle.numbers.specs.UpTo.{upTo, upTo-keeps}
-use Rattle.network.specs.Faults.{okBase, okLoad, okR}
+use Rattle.network.specs.Limits.{okBase, okLoad, okR}
 use Rattle.graph.specs.Graph.{Net, Sound}
 use Rattle.graph.specs.Visits.{reached-at}
 use Rattle.graph.specs.Walk.{startAt}

@@ -15,7 +15,7 @@ use Rattle.numbers.specs.Constants.{zero64}
 use Rattle.numbers.specs.Signs.{HasSign, NonNeg, sign-nonneg, zero-nonneg, within-sign, plus-or-zero, mul-sign}
 use Rattle.numbers.specs.Sums.{zero-within}
 use Rattle.numbers.specs.UpTo.{upTo-keeps}
-use Rattle.network.specs.Faults.{okBase, okLoad, okR}
+use Rattle.network.specs.Limits.{okBase, okLoad, okR}
 use Rattle.graph.specs.Walk.{Visit, startAt}
 use Rattle.losses.specs.InRange.{base-within, base-far, load-within, r-within, r-nonneg}
 use Rattle.losses.specs.Loss.{walkLoad, termOf}

@@ -4,7 +4,8 @@ use Prim.Native.Nat.{ℕ, suc, _+_}
 use lib.ListN.{length}
 use Rattle.network.specs.Records.{Network}
 use Rattle.network.specs.Answers.{accepted, _andThen_, Fault, judge, Judgement}
-use Rattle.network.specs.Faults.{Head, headFaults, busFaults, branchFaults, switchFaults}
+use Rattle.network.specs.Limits.{Head}
+use Rattle.network.specs.Faults.{headFaults, busFaults, branchFaults, switchFaults}
 
 -- the head line counts the records
 unfoldable pub headOf : Network → Head

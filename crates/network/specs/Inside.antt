@@ -6,7 +6,7 @@ use Prim.Native.Nat.{ℕ, _≤_, _<_}
 use lib.ListN.{length}
 use Rattle.numbers.specs.Distinct.{Distinct}
 use Rattle.network.specs.Records.{Network}
-use Rattle.network.specs.Faults.{okBase, okLoad, okR, busId, switchId, on, ties, methodByte}
+use Rattle.network.specs.Limits.{okBase, okLoad, okR, busId, switchId, on, ties, methodByte}
 
 -- P holds of each of the list
 abbrev pub Each : {A : Type 0} → (A → Type 0) → List A → Type 0

@@ -1,5 +1,6 @@
 pub mod Records
 pub mod Answers
+pub mod Limits
 pub mod Faults
 pub mod Check
 pub mod Inside

@@ -13,7 +13,7 @@ use Rattle.numbers.specs.TableLaws.{as-table}
 use Rattle.network.specs.declared.bus.Bus.{Bus}
 use Rattle.network.specs.declared.topology.BusIndex.the-variants.{At, NotFound}
 use Rattle.network.specs.declared.topology.PowerNetwork.{PowerNetwork}
-use Rattle.network.specs.Faults.{busId}
+use Rattle.network.specs.Limits.{busId}
 use Rattle.network.specs.Lookups.{busIndex}
 use Rattle.network.specs.Records.{noBus, listed, recordsOf}
 

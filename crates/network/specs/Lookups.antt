@@ -8,7 +8,7 @@ use Rattle.numbers.specs.Choose.{indexOf}
 use Rattle.network.specs.declared.bus.Bus.{Bus}
 use Rattle.network.specs.declared.topology.BusIndex.{BusIndex}
 use Rattle.network.specs.declared.topology.BusIndex.the-variants.{At, NotFound}
-use Rattle.network.specs.Faults.{busId}
+use Rattle.network.specs.Limits.{busId}
 use Rattle.network.specs.Records.{Network}
 
 -- how many buses are listed

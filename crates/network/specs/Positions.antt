@@ -9,7 +9,7 @@ use Rattle.numbers.specs.Choose.{indexOf}
 use Rattle.numbers.specs.ChooseLaws.{index-at}
 use Rattle.numbers.specs.Distinct.{Distinct, distinct-at}
 use Rattle.network.specs.Records.{Network, noBranch, noSwitch}
-use Rattle.network.specs.Faults.{busId, on}
+use Rattle.network.specs.Limits.{busId, on}
 use Rattle.network.specs.Inside.{Each, Inside}
 
 pub each-at : {A : Type 0} (P : A → Type 0) (l : List A) → Each P l → (i : ℕ) (d : A) → i < length l → P (getD l i d)

@@ -8,7 +8,7 @@ use lib.ListN.{length}
 use Rattle.numbers.specs.UpTo.{table}
 use Rattle.numbers.specs.TableLaws.{length-table, table-more}
 use Rattle.network.specs.declared.switch.Switch.{Switch}
-use Rattle.network.specs.Faults.{ties}
+use Rattle.network.specs.Limits.{ties}
 
 -- one switch more
 pub ties-more : (before : List Switch) (s : Switch) → ties (before ++ (s ∷ [])) ≡ cond (s .«normally_open») (suc (ties before)) (ties before)

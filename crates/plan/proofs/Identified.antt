@@ -15,7 +15,7 @@ use Rattle.numbers.specs.TableLaws.{length-table, getD-table, as-table, table-c
 use Rattle.network.specs.declared.switch.Switch.{Switch}
 use Rattle.network.specs.declared.topology.PowerNetwork.{PowerNetwork}
 use Rattle.network.specs.Records.{noSwitch, recordsOf}
-use Rattle.network.specs.Faults.{on}
+use Rattle.network.specs.Limits.{on}
 use Rattle.plan.specs.Plan.{switchOn}
 
 -- the id of the first of these switches on branch k; 0 where there is none

@@ -13,7 +13,7 @@ use Rattle.numbers.specs.ChooseLaws.{in-those, of-those}
 use Rattle.numbers.specs.Tests.{both, which, clash}
 use Rattle.network.specs.Records.{Network, noSwitch}
 use Rattle.network.specs.Answers.{accepted}
-use Rattle.network.specs.Faults.{switchId}
+use Rattle.network.specs.Limits.{switchId}
 use Rattle.network.specs.Check.{checkRecords}
 use Rattle.network.specs.AnswerLaws.{judge-accepted, then-iff, no-refusal}
 use Rattle.network.specs.InsideLaws.{check-inside}

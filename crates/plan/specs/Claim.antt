@@ -12,7 +12,7 @@ use Rattle.numbers.specs.UpTo.{table}
 use Rattle.numbers.specs.Choose.{indexOf}
 use Rattle.network.specs.Records.{Network}
 use Rattle.network.specs.Answers.{accepted}
-use Rattle.network.specs.Faults.{switchId}
+use Rattle.network.specs.Limits.{switchId}
 use Rattle.states.specs.Live.{live, SameLive}
 use Rattle.states.specs.Switches.{State, byte, branchOf, operable, inService, GoodState}
 use Rattle.graph.specs.Graph.{Path, Connected, Loop, Tree}

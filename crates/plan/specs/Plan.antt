@@ -8,7 +8,7 @@ use Rattle.numbers.specs.Choose.{those, indexOf}
 use Rattle.network.specs.Records.{Network, noSwitch}
 use Rattle.states.specs.Switches.{State, branchOf}
 use Rattle.network.specs.Answers.{Answer, accepted, refused}
-use Rattle.network.specs.Faults.{on}
+use Rattle.network.specs.Limits.{on}
 use Rattle.states.specs.Live.{live}
 use Rattle.printing.specs.Printed.{pairText}
 use Rattle.printing.specs.Calls.{Call, called}

@@ -5,7 +5,7 @@ use Prim.Native.Nat.{ℕ}
 use lib.ListN.{length, getD}
 use Rattle.numbers.specs.Choose.{indexOf}
 use Rattle.network.specs.Records.{Network, noBranch}
-use Rattle.network.specs.Faults.{busId}
+use Rattle.network.specs.Limits.{busId}
 use Rattle.states.specs.Live.{live}
 use Rattle.graph.specs.Graph.{Net, Branches, Live}
 use Rattle.graph.specs.Walk.{bfsPath}

@@ -10,7 +10,7 @@ use Rattle.numbers.specs.Choose.{indexOf}
 use Rattle.numbers.specs.ChooseLaws.{index-found}
 use Rattle.network.specs.Records.{Network}
 use Rattle.network.specs.Answers.{accepted}
-use Rattle.network.specs.Faults.{busId}
+use Rattle.network.specs.Limits.{busId}
 use Rattle.network.specs.Check.{checkRecords}
 use Rattle.network.specs.Inside.{Inside}
 use Rattle.network.specs.InsideLaws.{check-inside}

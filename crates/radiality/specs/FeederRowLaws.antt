@@ -17,7 +17,8 @@ use Rattle.states.specs.declared.configuration.NetworkConfiguration.{NetworkCon
 use Rattle.network.specs.declared.topology.PowerNetwork.{PowerNetwork}
 use Rattle.network.specs.Records.{Network, noBranch, recordsOf}
 use Rattle.network.specs.Answers.{accepted}
-use Rattle.network.specs.Faults.{among, busId}
+use Rattle.network.specs.Limits.{busId}
+use Rattle.network.specs.Faults.{among}
 use Rattle.network.specs.Check.{checkRecords}
 use Rattle.network.specs.Inside.{Inside}
 use Rattle.network.specs.InsideLaws.{check-inside, among-mem, mem-among}

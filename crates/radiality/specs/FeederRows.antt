@@ -9,7 +9,8 @@ use Rattle.numbers.specs.Choose.{indexOf}
 use Rattle.network.specs.declared.branch.Branch.{Branch}
 use Rattle.network.specs.declared.topology.PowerNetwork.{PowerNetwork}
 use Rattle.network.specs.Records.{Network, noBranch}
-use Rattle.network.specs.Faults.{among, busId}
+use Rattle.network.specs.Limits.{busId}
+use Rattle.network.specs.Faults.{among}
 use Rattle.states.specs.Live.{live}
 use Rattle.graph.specs.declared.rows.Graph.{Graph}
 use Rattle.graph.specs.Rows.{graphOf}

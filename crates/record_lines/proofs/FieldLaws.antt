@@ -16,7 +16,8 @@ use Rattle.network.specs.declared.branch.Branch.{Branch}
 use Rattle.network.specs.declared.switch.Switch.{Switch}
 use Rattle.network.specs.declared.switch.ReconfigAlgorithm.the-variants.{Exhaustive}
 use Rattle.network.specs.Answers.{Answer, accepted, refused, answerOf, _andThen_, judge}
-use Rattle.network.specs.Faults.{Head, headFaults}
+use Rattle.network.specs.Limits.{Head}
+use Rattle.network.specs.Faults.{headFaults}
 use Rattle.lines.specs.Hex.{number, readFields}
 use Rattle.lines.specs.HexLaws.{number-below}
 use Rattle.record_lines.specs.Kinds.{methodOf, methodFaults, head, bus, branch, switch, headFrom, headLineFaults, busFrom, branchFrom, switchFrom, branchBytes, switchBytes}

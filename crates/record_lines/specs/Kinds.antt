@@ -10,7 +10,8 @@ use Rattle.network.specs.declared.switch.Switch as N-switch
 use Rattle.network.specs.declared.switch.ReconfigAlgorithm.{ReconfigAlgorithm}
 use Rattle.network.specs.declared.switch.ReconfigAlgorithm.the-variants.{BranchExchange, TabuSearch, Exhaustive}
 use Rattle.network.specs.Answers.{Answer, accepted, refused, _andThen_, Fault, _if_, judge}
-use Rattle.network.specs.Faults.{Head, headFaults, busFaults, branchFaults, switchFaults}
+use Rattle.network.specs.Limits.{Head}
+use Rattle.network.specs.Faults.{headFaults, busFaults, branchFaults, switchFaults}
 use Rattle.lines.specs.Hex.{Fields, readFields, total}
 use Rattle.lines.specs.Frames.{Frame, layout}
 use Rattle.lines.specs.FirstLine.{wanted}

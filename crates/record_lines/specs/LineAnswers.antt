@@ -5,7 +5,7 @@ use Rattle.network.specs.declared.bus.Bus.{Bus}
 use Rattle.network.specs.declared.branch.Branch.{Branch}
 use Rattle.network.specs.declared.switch.Switch.{Switch}
 use Rattle.network.specs.Answers.{Answer, accepted, refused}
-use Rattle.network.specs.Faults.{Head}
+use Rattle.network.specs.Limits.{Head}
 use Rattle.record_lines.specs.declared.head.Head as Heads
 use Rattle.record_lines.specs.declared.head.HeadRead.{HeadRead}
 use Rattle.record_lines.specs.declared.head.HeadRead.the-variants as HeadReads

@@ -1,4 +1,4 @@
--- A verdict before an answer.
+-- A judgement before an answer.
 use mathlib.Core.Path.{_≡_, refl}
 use mathlib.Core.List.{List}
 use Rattle.network.specs.Answers.{Answer, accepted, refused, _andThen_, Judgement}

@@ -14,7 +14,7 @@ use Rattle.numbers.specs.Tests.{both, either, which, clash, not-so, same-test}
 use Rattle.network.specs.declared.switch.Switch.{Switch}
 use Rattle.numbers.specs.Choose.{indexOf}
 use Rattle.network.specs.Records.{Network, noBranch, noSwitch}
-use Rattle.network.specs.Faults.{on}
+use Rattle.network.specs.Limits.{on}
 use Rattle.network.specs.Inside.{Inside}
 use Rattle.network.specs.Positions.{index-own, one-on-branch}
 use Rattle.states.specs.Live.{live, openOn}

@@ -10,7 +10,8 @@ use Rattle.numbers.specs.UpTo.{table}
 use Rattle.network.specs.declared.bus.Bus.{Bus}
 use Rattle.network.specs.Answers.{answerOf, judge}
 use Rattle.checks.specs.CheckLaws.{Passed, passed-none, passed-more, passed-refused, passed-all}
-use Rattle.network.specs.Faults.{branchFaults, busId}
+use Rattle.network.specs.Limits.{busId}
+use Rattle.network.specs.Faults.{branchFaults}
 use Rattle.checks.specs.FaultLaws.{branch-faults, stands-before}
 use Rattle.ids.specs.Ids.{rows, idRows}
 use Rattle.network.specs.ReadLaws.{branch-read}

@@ -6,7 +6,8 @@ use lib.ListN.{getD}
 use borrow.Author.Needs.{needs}
 use Rattle.network.specs.Answers.{answerOf, judge}
 use Rattle.checks.specs.CheckLaws.{Passed, passed-none, passed-more, passed-refused, passed-all}
-use Rattle.network.specs.Faults.{busFaults, busId}
+use Rattle.network.specs.Limits.{busId}
+use Rattle.network.specs.Faults.{busFaults}
 use Rattle.checks.specs.FaultLaws.{bus-faults, stands-before}
 use Rattle.network.specs.ReadLaws.{bus-read}
 use Rattle.network.specs.Records.{noBus, listed}

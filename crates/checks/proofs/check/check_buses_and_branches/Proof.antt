@@ -5,7 +5,7 @@ use native.Mathlib.Omega.{arith}
 use lib.ListN.{length}
 use borrow.Author.Needs.{needs}
 use Rattle.network.specs.AnswerLaws.{refused-then, accepted-then}
-use Rattle.network.specs.Faults.{busId}
+use Rattle.network.specs.Limits.{busId}
 use Rattle.ids.specs.Ids.{idRows}
 use Rattle.network.specs.LookupLaws.{listed-first}
 use Rattle.network.specs.ReadLaws.{length-of}

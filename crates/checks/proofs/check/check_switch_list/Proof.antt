@@ -9,7 +9,8 @@ use borrow.Author.Needs.{needs}
 use Rattle.numbers.specs.UpTo.{table}
 use Rattle.network.specs.Answers.{answerOf, judge}
 use Rattle.checks.specs.CheckLaws.{Passed, passed-none, passed-more, passed-refused, passed-all}
-use Rattle.network.specs.Faults.{Head, switchId, on, ties, switchFaults}
+use Rattle.network.specs.Limits.{Head, switchId, on, ties}
+use Rattle.network.specs.Faults.{switchFaults}
 use Rattle.network.specs.TieLaws.{ties-next, ties-so-far}
 use Rattle.checks.specs.FaultLaws.{stands-before, switch-judged, passed-below, flag-more}
 use Rattle.checks.specs.Flags.{flags}

@@ -6,7 +6,7 @@ use lib.ListN.{length}
 use borrow.Author.Needs.{needs}
 use Rattle.numbers.specs.TableLaws.{length-table}
 use Rattle.network.specs.Check.{headOf}
-use Rattle.network.specs.Faults.{switchId}
+use Rattle.network.specs.Limits.{switchId}
 use Rattle.ids.specs.Ids.{idRows}
 use Rattle.network.specs.LookupLaws.{listed-first}
 use Rattle.network.specs.ReadLaws.{length-of}

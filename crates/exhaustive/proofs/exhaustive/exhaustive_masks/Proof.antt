@@ -6,7 +6,7 @@ use native.Mathlib.Omega.{arith}
 use borrow.Author.Needs.{needs}
 use lib.Pow.{pow-pos}
 use Rattle.numbers.specs.UpTo.{upTo, upTo-more}
-use Rattle.network.specs.Faults.{ties}
+use Rattle.network.specs.Limits.{ties}
 use Rattle.network.specs.InsideLaws.{check-inside}
 use Rattle.network.specs.ReadLaws.{length-of}
 use Rattle.network.specs.Records.{recordsOf}

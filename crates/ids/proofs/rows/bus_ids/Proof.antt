@@ -2,7 +2,7 @@
 use mathlib.Core.Path.{_≡_}
 use Prim.Native.Nat.{_≤_, _-_}
 use native.Mathlib.Omega.{arith}
-use Rattle.network.specs.Faults.{busId}
+use Rattle.network.specs.Limits.{busId}
 use Rattle.ids.specs.IdLaws.{idsFilled, no-ids, one-id, all-ids}
 use Rattle.network.specs.ReadLaws.{pastBus}
 use Rattle.ids.proofs.rows.bus_ids.Statement.{statement}

@@ -2,7 +2,7 @@
 use mathlib.Core.Path.{_≡_, _∙_}
 use lib.ListN.{length}
 use borrow.Author.Needs.{needs}
-use Rattle.network.specs.Faults.{busId}
+use Rattle.network.specs.Limits.{busId}
 use Rattle.ids.specs.IdLaws.{rows-listed}
 use Rattle.ids.proofs.rows.bus_rows.Statement.{statement}
 use Rattle.ids.proofs.rows.bus_rows.Tie as tie

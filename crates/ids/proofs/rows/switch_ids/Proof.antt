@@ -2,7 +2,7 @@
 use mathlib.Core.Path.{_≡_}
 use Prim.Native.Nat.{_≤_, _-_}
 use native.Mathlib.Omega.{arith}
-use Rattle.network.specs.Faults.{switchId}
+use Rattle.network.specs.Limits.{switchId}
 use Rattle.ids.specs.IdLaws.{idsFilled, no-ids, one-id, all-ids}
 use Rattle.network.specs.Records.{noSwitch}
 use Rattle.ids.proofs.rows.switch_ids.Statement.{statement}

@@ -2,7 +2,7 @@
 use mathlib.Core.Path.{_≡_, _∙_}
 use lib.ListN.{length}
 use borrow.Author.Needs.{needs}
-use Rattle.network.specs.Faults.{switchId}
+use Rattle.network.specs.Limits.{switchId}
 use Rattle.ids.specs.IdLaws.{rows-listed}
 use Rattle.ids.proofs.rows.switch_rows.Statement.{statement}
 use Rattle.ids.proofs.rows.switch_rows.Tie as tie

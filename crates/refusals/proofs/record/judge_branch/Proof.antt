@@ -1,7 +1,7 @@
 -- `judge_branch` meets its contract: its tests are the conditions of the list, in their order.
 use borrow.Author.Needs.{needs}
 use Rattle.network.specs.Answers.{judge}
-use Rattle.network.specs.Faults.{okR}
+use Rattle.network.specs.Limits.{okR}
 use Rattle.refusals.proofs.record.judge_branch.Statement.{statement}
 use Rattle.refusals.proofs.record.judge_branch.Tie as tie
 

@@ -1,7 +1,7 @@
 -- `judge_bus` meets its contract: its tests are the conditions of the list, in their order.
 use borrow.Author.Needs.{needs}
 use Rattle.network.specs.Answers.{judge}
-use Rattle.network.specs.Faults.{okLoad}
+use Rattle.network.specs.Limits.{okLoad}
 use Rattle.refusals.proofs.record.judge_bus.Statement.{statement}
 use Rattle.refusals.proofs.record.judge_bus.Tie as tie
 

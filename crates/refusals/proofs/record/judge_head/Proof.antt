@@ -2,7 +2,7 @@
 use borrow.Author.Needs.{needs}
 use borrow.Author.Tests.{lt-ltb, le-ltb}
 use Rattle.network.specs.Answers.{judge}
-use Rattle.network.specs.Faults.{okBase}
+use Rattle.network.specs.Limits.{okBase}
 use Rattle.refusals.proofs.record.judge_head.Statement.{statement}
 use Rattle.refusals.proofs.record.judge_head.Tie as tie
 

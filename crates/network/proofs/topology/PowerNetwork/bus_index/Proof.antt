@@ -5,7 +5,7 @@ use Prim.Native.Nat.{_≤_, _<_, _-_}
 use native.Mathlib.Omega.{arith}
 use lib.ListN.{length, getD, take, length-take, length-map}
 use borrow.Author.Needs.{needs}
-use Rattle.network.specs.Faults.{busId}
+use Rattle.network.specs.Limits.{busId}
 use Rattle.network.specs.LookupLaws.{Unseen, unseen-none, unseen-more, seen-here, seen-nowhere, found-at, not-found, key-at}
 use Rattle.network.specs.ReadLaws.{pastBus, length-of}
 use Rattle.network.proofs.bus.Bus.{the-type}
