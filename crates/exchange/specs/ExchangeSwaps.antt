@@ -11,7 +11,7 @@ use lib.ListN.{length, getD, set, length-set, List·getD-eq-default}
 use borrow.Author.Tests.{eqb-true, eq-eqb, ne-eqb, lt-ltb}
 use Rattle.numbers.specs.Choose.{least}
 use Rattle.numbers.specs.Tests.{both}
-use Rattle.numbers.specs.TableLaws.{length-table, getD-table, table-cong}
+use Rattle.numbers.specs.TableLaws.{length-table, getD-table, table-cong, table-set}
 use Rattle.numbers.specs.UpTo.{table}
 use Rattle.states.specs.declared.configuration.NetworkConfiguration.{NetworkConfiguration}
 use Rattle.network.specs.declared.topology.PowerNetwork.{PowerNetwork}
@@ -31,12 +31,11 @@ use Rattle.searches.specs.Given.{Held}
 use Rattle.states.specs.Listed.{switches-listed, few-switches}
 use Rattle.searches.specs.StateLaws.{byte-at, held-long}
 use Rattle.searches.specs.StateRows.{flags-radial}
-use Rattle.searches.specs.TableSets.{table-set}
 use Rattle.searches.specs.LiveFlags.{on-flagged, flags-opened, flags-closed}
 use Rattle.exchange.specs.Exchange.{sectionOf, swapWith}
-use Rattle.searches.specs.IfSome.{IfSome, cond-holds, least-passes}
+use Rattle.numbers.specs.IfSome.{IfSome, cond-holds, least-passes}
 use Rattle.exchange.specs.ExchangeValues.{sectionAt, sectionsOf, rowSwap, swapAt}
-use Rattle.exchange.specs.Firsts.{least-same, least-found, least-none, least-below}
+use Rattle.numbers.specs.FirstLaws.{least-same, least-found, least-none, least-below}
 
 -- ---- the operable section switch of each branch
 module _ (N : Network) where

@@ -38,10 +38,10 @@ use Rattle.states.specs.Listed.{switches-listed, few-switches, switch-at}
 use Rattle.searches.specs.StateLaws.{byte-at}
 use Rattle.searches.specs.SwitchReads.{SwitchAt, own-switch, own-status}
 use Rattle.exchange.specs.Exchange.{seen, loopOf, sectionOf, swapWith, trial, improves, kept, seeing}
-use Rattle.searches.specs.IfSome.{IfSome, cond-holds, firstSome-holds}
+use Rattle.numbers.specs.IfSome.{IfSome, cond-holds, firstSome-holds}
 use Rattle.exchange.specs.ExchangeValues.{sectionAt, sectionsOf, rowSwap, rowTrial, swapAt, trialOf}
 use Rattle.exchange.specs.ExchangeSwaps.{swapped-flags, swap-by-row, row-below}
-use Rattle.exchange.specs.Firsts.{first-next, first-found}
+use Rattle.numbers.specs.FirstLaws.{first-next, first-found}
 
 -- ---- a section as the code holds it: 512 is none
 pub section-some : (found : Option ℕ) (section : ℕ) → section ≡ sectionAt found → section < 512 → found ≡ some section

@@ -321,7 +321,7 @@ fn branch_exchange_rounds(
 // What the exchange finds.
 fn search(network: PowerNetwork, start: Start) -> Found
     requires { ⌜ (checkRecords (recordsOf network) ≡ accepted tt) × (start ≡ startOf network) ⌝ }
-    ensures { λ r. ⌜ r ≡ foundOf (exchangeBest (recordsOf network)) ⌝ }
+    ensures { λ r. ⌜ r ≡ foundOf (recordsOf network) (exchangeBest (recordsOf network)) ⌝ }
 {
     let graph = start.graph;
     let loads = start.loads;

@@ -1,5 +1,6 @@
 -- Laws of tables f 0, f 1, .., f (n - 1): length, entries, parts, and how an array is filled with one by rising position.
 use mathlib.Core.Path.{_≡_, refl, sym, ap, _∙_}
+use mathlib.Core.Logic.{_≢_}
 use mathlib.Core.Bool.{Bool, true, false, cond}
 use mathlib.Core.List.{List, [], _∷_, _++_, map}
 use Prim.Native.Nat.{ℕ, zero, suc, _+_, _≤_, _<_}
@@ -59,6 +60,14 @@ pub table-cong {ℓ} : {A : Type ℓ} (f g : ℕ → A) (n : ℕ) → ((i : ℕ)
 unfolding table
 table-cong f g zero h = refl
 table-cong f g (suc n) h = rw (h n (omega arith), table-cong f g n (λ i l. h i (omega arith)))
+
+-- with one entry changed it is the table of a function that differs there only
+pub table-set : {A : Type 0} (f g : ℕ → A) (n x : ℕ) (v : A) → x < n → g x ≡ v → ((k : ℕ) → k < n → k ≢ x → f k ≡ g k) → set (table f n) x v ≡ table g n
+table-set f g n x v l e h = as-table g n v (set (table f n) x v) (length-set (table f n) x v ∙ length-table f n) (λ k m. go k m (ℕ-discrete k x))
+  where
+    go : (k : ℕ) → k < n → Dec (k ≡ x) → getD (set (table f n) x v) k v ≡ g k
+    go k m (yes q) = rw (q, e) (getD-set-same (table f n) x v v (rw (length-table f n) l))
+    go k m (no q) = getD-set-other (table f n) x k v v q ∙ getD-table f n k v m ∙ h k m q
 
 module _ {A B : Type 0} (g : A → B) where
   pub map-snoc : (l : List A) (a : A) → map g (l ++ (a ∷ [])) ≡ map g l ++ (g a ∷ [])

@@ -1,15 +1,26 @@
 -- A call that is lent a slice, case by case: refused by its tests, without room, or done.
-use mathlib.Core.Path.{_≡_, refl}
+use mathlib.Core.Path.{_≡_, refl, sym, _∙_}
 use mathlib.Core.Bool.{Bool, true, false, cond}
-use mathlib.Core.List.{List, [], _∷_}
+use mathlib.Core.List.{List, [], _∷_, _++_}
 use Prim.Native.Nat.{ℕ, _≤_, _<_}
 use lib.Dec.{ltb}
-use lib.ListN.{length}
-use borrow.Author.Tests.{lt-ltb, le-ltb}
+use lib.ListN.{length, drop}
+use borrow.Author.Tests.{lt-ltb, le-ltb, le-leb}
 use Rattle.network.specs.Answers.{Answer, accepted, refused, _andThen_, _if_, judge}
 use Rattle.slices.specs.Written.{written}
-use Rattle.printing.specs.Calls.{checkRoom, answered, called}
+use Rattle.printing.specs.Calls.{checkRoom, Call, answered, called}
 
+-- ---- room in a lent slice
+module _ {needed lent : ℕ} where
+  pub no-room : lent < needed → refused 13 0 ≡ checkRoom needed lent
+  unfolding checkRoom judge
+  no-room h = rw (lt-ltb lent needed h)
+
+  pub room : needed ≤ lent → accepted tt ≡ checkRoom needed lent
+  unfolding checkRoom judge
+  room h = rw (le-ltb lent needed h)
+
+-- ---- the call
 module _ {A : Type 0} {tests : Answer (Unit {0})} (answer : A) (bytes out : List ℕ) where
   pub call-refused : {number place : ℕ} → tests ≡ refused number place
       → record { answer = refused number place; out = out } ≡ called tests answer bytes out
@@ -34,3 +45,11 @@ module _ {A : Type 0} {tests : Answer (Unit {0})} (answer : A) (bytes out : List
       go : (short : Bool) → answered (judge ((13 if short) ∷ []) 0) answer bytes out ≡ cond short (record { answer = refused 13 0; out = out }) (record { answer = accepted answer; out = written bytes out })
       go true = unfold judge in refl
       go false = unfold judge in refl
+
+  -- with room: the answer, and the bytes at the front of the slice, which keeps its tail
+  pub call-is : {c : Call A} → tests ≡ accepted tt → length bytes ≤ length out → c ≡ called tests answer bytes out → c ≡ record { answer = accepted answer; out = written bytes out }
+  call-is ok room e = e ∙ sym (call-done ok refl room refl)
+
+  pub in-full : tests ≡ accepted tt → length bytes ≤ length out → called tests answer bytes out ≡ record { answer = accepted answer; out = bytes ++ drop (length bytes) out }
+  unfolding written
+  in-full ok room = sym (call-done ok refl room (rw (le-leb (length bytes) (length out) room)))

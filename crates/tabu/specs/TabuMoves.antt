@@ -29,12 +29,13 @@ use Rattle.states.specs.Switches.{State, branchOf, operable, size, switch, togg
 use Rattle.tabu.specs.declared.tabu.Candidate.{Candidate}
 use Rattle.tabu.specs.declared.tabu.TabuSearch.{TabuSearch}
 use Rattle.searches.specs.States.{stateOf}
+use Rattle.searches.specs.Given.{Held}
 use Rattle.states.specs.Listed.{switches-listed, few-switches}
 use Rattle.searches.specs.StateLaws.{byte-at, flags-listed, state-held, held, toggled-held}
 use Rattle.searches.specs.SwitchReads.{SwitchAt, own-switch, own-status}
 use Rattle.searches.specs.LiveBranches.{same-radial, same-loss}
 use Rattle.searches.specs.LiveFlags.{flags-toggled}
-use Rattle.searches.specs.Lesser.{lesserBy}
+use Rattle.searches.specs.Rounds.{lesserBy}
 use Rattle.tabu.specs.Toggles.{toggled-unserved, toggled-radial}
 use Rattle.tabu.specs.Tabu.{Move, Tabu, moveOf, allowed, lesser, seeing}
 use Rattle.tabu.specs.TabuValues.{tabuListOf, idsOf, HeldList, candidateOf, toggledIn, tabuOf, Stands}
@@ -115,8 +116,11 @@ module _ (n : PowerNetwork) (y : TabuSearch) (x : Tabu) (w : Stands n y x) where
     state-is : stateOf n (y .configuration) ≡ x .state
     state-is = rw configuration-is (state-held n (x .state) long few)
 
+    configuration-held : Held n (y .configuration)
+    configuration-held = rw configuration-is (held n (x .state) long few)
+
     toggled-is : toggledIn (y .configuration) i ≡ configurationOf t
-    toggled-is = toggled-held n (y .configuration) i (at .below) (rw configuration-is (held n (x .state) long few)) few ∙ ap (λ s. configurationOf (toggled s i)) state-is
+    toggled-is = toggled-held n (y .configuration) i (at .below) configuration-held few ∙ ap (λ s. configurationOf (toggled s i)) state-is
 
     own : switch N i ≡ sw
     own = own-switch n ok i sw served at
@@ -193,5 +197,5 @@ module _ (n : PowerNetwork) (y : TabuSearch) (x : Tabu) (w : Stands n y x) where
     pub toggled-flags : (sw .«can_operate» && served) ≡ true → (flags : List Bool) → flags ≡ table (live N (y .configuration .switches)) 512 → (on : ℕ) → on ≡ sw .«branch_idx»
         → set flags on (eqb (getD (y .configuration .switches) i 0) 1) ≡ liveFlags N t
     toggled-flags f flags e on p =
-        rw (e, flags-listed n (y .configuration), ← byte-at n (y .configuration) i (at .below), state-is, p, ← own)
+        rw (e, flags-listed n (y .configuration) configuration-held few, ← byte-at n (y .configuration) i (at .below), state-is, p, ← own)
         (flags-toggled N inside (x .state) (w .from-base .good .long) i listed-switch (status-is ∙ both (sw .«can_operate») served f .1))

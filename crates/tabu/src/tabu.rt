@@ -16,7 +16,7 @@ ghost use Rattle.radiality.specs.Feeder.{radialIn};
 ghost use Rattle.searches.specs.Results.{solvedBy, solveAnswerOf};
 ghost use Rattle.searches.specs.SearchValues.{startOf, foundOf};
 ghost use Rattle.searches.specs.Given.{Given, Base};
-ghost use Rattle.searches.specs.IfSome.{IfSome};
+ghost use Rattle.numbers.specs.IfSome.{IfSome};
 ghost use Rattle.tabu.specs.Tabu.{Move, Tabu, lesser, bestMove, afterMove, tabuStart, tabu, tabuBest};
 ghost use Rattle.tabu.specs.TabuValues.{HeldList, idsOf, candidateOf, toggledIn, tabuOf, Stands};
 ghost use Rattle.tabu.specs.TabuLaws.{MoveFrom};
@@ -293,7 +293,7 @@ fn tabu_rounds(
 // What the tabu search finds: it reports max_iterations and converged.
 fn search(network: PowerNetwork, start: Start) -> Found
     requires { ⌜ (checkRecords (recordsOf network) ≡ accepted tt) × (start ≡ startOf network) ⌝ }
-    ensures { λ r. ⌜ r ≡ foundOf (tabuBest (recordsOf network)) ⌝ }
+    ensures { λ r. ⌜ r ≡ foundOf (recordsOf network) (tabuBest (recordsOf network)) ⌝ }
 {
     let graph = start.graph;
     let loads = start.loads;

@@ -94,7 +94,10 @@ here c =
 
 -- the live branches of the round's state
 flags : (c : tie.After-live-branches Inv-loop μ-loop) → let args = c .before .args in c .live-branches .result ≡ liveFlags (recordsOf (args .t1)) (stateOf (args .t1) (args .configuration))
-flags c = let args = c .before .args in c .live-branches .ensures ∙ flags-listed (args .t1) (args .configuration)
+flags c =
+    let start = c .before in
+    let n = start .args .t1 in
+    c .live-branches .ensures ∙ flags-listed n (start .args .configuration) (start .pre .2) (few-switches n (start .pre .0 .0))
 
 try-tie-requires : tie.Need-try-tie-requires Inv-loop μ-loop
 try-tie-requires c κs =

@@ -7,7 +7,7 @@ use lib.ListN.{length, take, drop, length-take}
 use borrow.Author.Needs.{needs}
 use Rattle.numbers.specs.Choose.{firstSome}
 use Rattle.network.specs.ReadLaws.{length-of}
-use Rattle.exchange.specs.Firsts.{first-none}
+use Rattle.numbers.specs.FirstLaws.{first-none}
 use Rattle.exchange.specs.ExchangeTrials.{swap-small, along-next, along-found}
 use Rattle.exchange.specs.ExchangeValues.{sectionAt, rowSwap}
 use Rattle.exchange.proofs.exchange.first_swap.Statement.{statement}
