@@ -57,9 +57,9 @@ module _ (N : Network) where
   unfolding sectionsAmong sectionsOf sectionOf
   sections-all i e = rw e
 
-  pub section-skipped : (i : ℕ) → isSection i ≡ false → sectionsAmong i ≡ sectionsAmong (i + 1)
+  pub other-skipped : (i : ℕ) → isSection i ≡ false → sectionsAmong i ≡ sectionsAmong (i + 1)
   unfolding sectionsAmong
-  section-skipped i f = table-cong _ _ 512 (λ k l. ap sectionAt (sym (least-same (sectionOn k) i (rw (f, and-false)))))
+  other-skipped i f = table-cong _ _ 512 (λ k l. ap sectionAt (sym (least-same (sectionOn k) i (rw (f, and-false)))))
 
   pub sections-long : length (sectionsOf N) ≡ 512
   unfolding sectionsOf
@@ -77,7 +77,7 @@ module _ (N : Network) where
         alone : (j : ℕ) → j < i → sectionOn (branchOf N i) j ≡ false
         alone j h = rw (ne-eqb (branchOf N j) (branchOf N i) (λ e. absurd (omega (arith, one-on-branch N inside j i (omega arith) l e))))
 
-    pub section-read : (k : ℕ) → getD (sectionsOf N) k 512 ≡ sectionAt (sectionOf N k)
+    section-read : (k : ℕ) → getD (sectionsOf N) k 512 ≡ sectionAt (sectionOf N k)
     unfolding sectionsOf sectionOf sectionAt
     section-read k = go (decLt k 512)
       where
@@ -127,7 +127,7 @@ module _ (n : PowerNetwork) (ok : checkRecords (recordsOf n) ≡ accepted tt) (c
       ∙ flags-opened N inside (set s tie 0) (length-set s tie 0 ∙ long) section h
 
   module _ (sized : length (n .buses) ≡ 256) (g : Graph) (a : g ≡ feederGraph n) (sections : List ℕ) (q : sections ≡ sectionsOf N) (live : List Bool) (b : live ≡ liveFlags N s) where
-    abbrev pub swapRow : ℕ → Option ℕ
+    abbrev swapRow : ℕ → Option ℕ
     swapRow = rowSwap g sections (c .switches) (set live on (inService N on))
 
     listed : (k : ℕ) → getD sections k 512 ≡ sectionAt (sectionOf N k)

@@ -44,12 +44,12 @@ use Rattle.exchange.specs.ExchangeSwaps.{swapped-flags, swap-by-row, row
 use Rattle.numbers.specs.FirstLaws.{first-next, first-found}
 
 -- ---- a section as the code holds it: 512 is none
-pub section-some : (found : Option ℕ) (section : ℕ) → section ≡ sectionAt found → section < 512 → found ≡ some section
+section-some : (found : Option ℕ) (section : ℕ) → section ≡ sectionAt found → section < 512 → found ≡ some section
 unfolding sectionAt
 section-some none section e l = absurd (omega arith)
 section-some (some i) section e l = ap some (sym e)
 
-pub section-none : (found : Option ℕ) (section : ℕ) → IfSome (λ i. i < 512) found → section ≡ sectionAt found → (section < 512 → ⊥) → found ≡ none
+section-none : (found : Option ℕ) (section : ℕ) → IfSome (λ i. i < 512) found → section ≡ sectionAt found → (section < 512 → ⊥) → found ≡ none
 unfolding sectionAt
 section-none none section h e l = refl
 section-none (some i) section h e l = absurd (l (omega arith))
@@ -74,9 +74,9 @@ module _ (g : Graph) (sections state : List ℕ) (live : List Bool) (k section :
     swap-open o = rw (← e, lt-ltb section 512 l, ne-eqb (getD state section 0) 0 o)
 
     module _ (o : getD state section 0 ≡ 0) (radial : Bool) (r : radial ≡ rowRadial g (set live k false)) where
-      pub swap-loops : radial ≡ false → 512 ≡ sectionAt (rowSwap g sections state live k)
+      pub swap-not-radial : radial ≡ false → 512 ≡ sectionAt (rowSwap g sections state live k)
       unfolding rowSwap sectionAt
-      swap-loops f = rw (← e, lt-ltb section 512 l, eq-eqb (getD state section 0) 0 o, ← r, f)
+      swap-not-radial f = rw (← e, lt-ltb section 512 l, eq-eqb (getD state section 0) 0 o, ← r, f)
 
       pub swap-radial : radial ≡ true → section ≡ sectionAt (rowSwap g sections state live k)
       unfolding rowSwap sectionAt
@@ -131,7 +131,7 @@ module _ (n : PowerNetwork) (ok : checkRecords (recordsOf n) ≡ accepted tt) (s
   abbrev on : ℕ
   on = branchOf N tie
 
-  abbrev pub tieRow : Option ℕ
+  abbrev tieRow : Option ℕ
   tieRow = rowTrial g sections (c .switches) live on (inService N on)
 
   loop-by-rows : rowEndsPath g live on ≡ loopOf N (stateOf n c) tie
@@ -140,7 +140,7 @@ module _ (n : PowerNetwork) (ok : checkRecords (recordsOf n) ≡ accepted tt) (s
       let listed : on < feeder N .branches = unfold feeder in on-a-branch N (check-inside N .0 ok) tie (omega (arith, switches-listed n)) in
       rw (a, b) (live-row-ends-path n sized ok (stateOf n c) on listed)
 
-  pub trial-by-rows : trial N (stateOf n c) tie ≡ swapAt (stateOf n c) tie tieRow
+  trial-by-rows : trial N (stateOf n c) tie ≡ swapAt (stateOf n c) tie tieRow
   unfolding trial rowTrial
   trial-by-rows =
       let path = rowEndsPath g live on in
@@ -148,7 +148,7 @@ module _ (n : PowerNetwork) (ok : checkRecords (recordsOf n) ≡ accepted tt) (s
       ∙ ap (λ f. firstSome f path) (fun-ext (swap-by-row n ok c held tie h sized g a sections q live b))
       ∙ first-swapped (stateOf n c) tie _ path
 
-  pub trial-below : IfSome (λ i. i < n .«switch_count») tieRow
+  trial-below : IfSome (λ i. i < n .«switch_count») tieRow
   unfolding rowTrial
   trial-below = firstSome-holds (λ i. i < n .«switch_count») _ (row-below n ok c held tie h sized g a sections q live b) _
 

@@ -45,7 +45,7 @@ swapAt s tie none = none
 swapAt s tie (some section) = some (swapped s tie section)
 
 -- ---- where the exchange stands
--- a state that was found, with its loss; for none the configuration c that the search started from
+-- a state that was found, with its loss; for none the configuration c, the round's state
 unfoldable pub trialOf : Network → NetworkConfiguration → Option State → Trial
 trialOf N c none = record { found = false; configuration = c; loss = zero64 }
 trialOf N c (some t) = record { found = true; configuration = configurationOf t; loss = lossIn N t }

@@ -39,7 +39,7 @@ use searches::start::start_of;
 use states::configuration::NetworkConfiguration;
 use states::configuration::live_branches;
 
-// A state that was tried, with its loss. Where none was found, the state that it started from.
+// A state that was tried, with its loss. Where none was found, the round's state.
 struct Trial {
     found: bool,
     configuration: NetworkConfiguration,

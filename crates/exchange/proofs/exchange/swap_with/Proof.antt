@@ -5,7 +5,7 @@ use native.Mathlib.Omega.{arith}
 use lib.ListN.{getD, set}
 use borrow.Author.Needs.{needs}
 use Rattle.graph.specs.Rows.{rowRadial}
-use Rattle.exchange.specs.ExchangeTrials.{section-within, swap-absent, swap-open, swap-loops, swap-radial}
+use Rattle.exchange.specs.ExchangeTrials.{section-within, swap-absent, swap-open, swap-not-radial, swap-radial}
 use Rattle.exchange.proofs.exchange.swap_with.Statement.{statement}
 use Rattle.exchange.proofs.exchange.swap_with.Tie as tie
 
@@ -63,7 +63,7 @@ returns-2 c =
     let listed = read .before .before in
     let found = listed .before in
     let start = found .before in
-    swap-loops (start .args .graph) (start .args .sections .now) (start .args .state .now) (start .args .live) (start .args .k) _ (found .section-on .ensures) (listed .if1 .taken)
+    swap-not-radial (start .args .graph) (start .args .sections .now) (start .args .state .now) (start .args .live) (start .args .k) _ (found .section-on .ensures) (listed .if1 .taken)
     (sym (byte read) ∙ closed .if2 .taken) _ (judged radial) (c .if3 .left)
 
 returns-3 : tie.Need-returns-3
