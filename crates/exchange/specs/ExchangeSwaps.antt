@@ -34,7 +34,7 @@ use Rattle.searches.specs.StateRows.{flags-radial}
 use Rattle.searches.specs.LiveFlags.{on-flagged, flags-opened, flags-closed}
 use Rattle.exchange.specs.Exchange.{sectionOf, swapWith}
 use Rattle.numbers.specs.IfSome.{IfSome, cond-holds, least-passes}
-use Rattle.exchange.specs.ExchangeValues.{sectionAt, sectionsOf, rowSwap, swapAt}
+use Rattle.exchange.specs.ExchangeValues.{sectionNumber, sectionsOf, rowSwap, swapAt}
 use Rattle.numbers.specs.FirstLaws.{least-same, least-found, least-none, least-below}
 
 -- ---- the operable section switch of each branch
@@ -47,11 +47,11 @@ module _ (N : Network) where
 
   -- of those among the first i switches
   unfoldable pub sectionsAmong : ℕ → List ℕ
-  sectionsAmong i = table (λ k. sectionAt (least (sectionOn k) i)) 512
+  sectionsAmong i = table (λ k. sectionNumber (least (sectionOn k) i)) 512
 
   pub sections-none : table (λ k. 512) 512 ≡ sectionsAmong 0
-  unfolding sectionsAmong sectionAt
-  sections-none = table-cong _ _ 512 (λ k l. ap sectionAt (sym (least-none (sectionOn k) 0 (λ i h. absurd (omega arith)))))
+  unfolding sectionsAmong sectionNumber
+  sections-none = table-cong _ _ 512 (λ k l. ap sectionNumber (sym (least-none (sectionOn k) 0 (λ i h. absurd (omega arith)))))
 
   pub sections-all : (i : ℕ) → i ≡ size N → sectionsAmong i ≡ sectionsOf N
   unfolding sectionsAmong sectionsOf sectionOf
@@ -59,7 +59,7 @@ module _ (N : Network) where
 
   pub other-skipped : (i : ℕ) → isSection i ≡ false → sectionsAmong i ≡ sectionsAmong (i + 1)
   unfolding sectionsAmong
-  other-skipped i f = table-cong _ _ 512 (λ k l. ap sectionAt (sym (least-same (sectionOn k) i (rw (f, and-false)))))
+  other-skipped i f = table-cong _ _ 512 (λ k l. ap sectionNumber (sym (least-same (sectionOn k) i (rw (f, and-false)))))
 
   pub sections-long : length (sectionsOf N) ≡ 512
   unfolding sectionsOf
@@ -68,24 +68,24 @@ module _ (N : Network) where
   module _ (inside : Inside N) where
     -- a branch has one switch
     pub section-listed : (i : ℕ) → i < size N → isSection i ≡ true → set (sectionsAmong i) (branchOf N i) i ≡ sectionsAmong (i + 1)
-    unfolding sectionsAmong sectionAt
+    unfolding sectionsAmong sectionNumber
     section-listed i l t =
         table-set _ _ 512 (branchOf N i) i (on-flagged N inside i)
-        (ap sectionAt (least-found (sectionOn (branchOf N i)) i (rw (eq-eqb (branchOf N i) (branchOf N i) refl, t)) (least-none (sectionOn (branchOf N i)) i alone)))
-        (λ k m n. ap sectionAt (sym (least-same (sectionOn k) i (rw (ne-eqb (branchOf N i) k (λ e. n (sym e)))))))
+        (ap sectionNumber (least-found (sectionOn (branchOf N i)) i (rw (eq-eqb (branchOf N i) (branchOf N i) refl, t)) (least-none (sectionOn (branchOf N i)) i alone)))
+        (λ k m n. ap sectionNumber (sym (least-same (sectionOn k) i (rw (ne-eqb (branchOf N i) k (λ e. n (sym e)))))))
       where
         alone : (j : ℕ) → j < i → sectionOn (branchOf N i) j ≡ false
         alone j h = rw (ne-eqb (branchOf N j) (branchOf N i) (λ e. absurd (omega (arith, one-on-branch N inside j i (omega arith) l e))))
 
-    section-read : (k : ℕ) → getD (sectionsOf N) k 512 ≡ sectionAt (sectionOf N k)
-    unfolding sectionsOf sectionOf sectionAt
+    section-read : (k : ℕ) → getD (sectionsOf N) k 512 ≡ sectionNumber (sectionOf N k)
+    unfolding sectionsOf sectionOf sectionNumber
     section-read k = go (decLt k 512)
       where
-        go : Dec (k < 512) → getD (sectionsOf N) k 512 ≡ sectionAt (sectionOf N k)
+        go : Dec (k < 512) → getD (sectionsOf N) k 512 ≡ sectionNumber (sectionOf N k)
         go (yes l) = getD-table _ 512 k 512 l
         go (no n) =
-            List·getD-eq-default (sectionsOf N) 512 (rw (length-table (λ k. sectionAt (sectionOf N k)) 512) (omega arith))
-            ∙ ap sectionAt (sym (least-none (sectionOn k) (size N) (λ i l. rw (ne-eqb (branchOf N i) k (λ e. absurd (omega (arith, on-flagged N inside i)))))))
+            List·getD-eq-default (sectionsOf N) 512 (rw (length-table (λ k. sectionNumber (sectionOf N k)) 512) (omega arith))
+            ∙ ap sectionNumber (sym (least-none (sectionOn k) (size N) (λ i l. rw (ne-eqb (branchOf N i) k (λ e. absurd (omega (arith, on-flagged N inside i)))))))
 
   section-below : (k : ℕ) → IfSome (λ i. i < size N) (sectionOf N k)
   unfolding sectionOf
@@ -130,31 +130,31 @@ module _ (n : PowerNetwork) (ok : checkRecords (recordsOf n) ≡ accepted tt) (c
     abbrev swapRow : ℕ → Option ℕ
     swapRow = rowSwap g sections (c .switches) (set live on (inService N on))
 
-    listed : (k : ℕ) → getD sections k 512 ≡ sectionAt (sectionOf N k)
+    listed : (k : ℕ) → getD sections k 512 ≡ sectionNumber (sectionOf N k)
     listed k = rw q (section-read N inside k)
 
     judged : (k section : ℕ) → section < size N → branchOf N section ≡ k → rowRadial g (set (set live on (inService N on)) k false) ≡ radialIn N (swapped s tie section)
     judged k section h e = flags-radial n sized ok (swapped s tie section) g _ a (rw (b, ← e) (swapped-flags section h)) _ refl
 
     pub swap-by-row : (k : ℕ) → swapWith N s tie (sectionOf N k) ≡ swapAt s tie (swapRow k)
-    unfolding swapWith swapAt rowSwap sectionAt
+    unfolding swapWith swapAt rowSwap sectionNumber
     swap-by-row k = go (sectionOf N k) (listed k) (section-below N k) (section-here N k)
       where
         same : (section : ℕ) (t : Bool) → cond t (some (swapped s tie section)) none ≡ swapAt s tie (cond t (some section) none)
         same section true = refl
         same section false = refl
 
-        go : (found : Option ℕ) → getD sections k 512 ≡ sectionAt found → IfSome (λ i. i < size N) found → IfSome (λ i. branchOf N i ≡ k) found → swapWith N s tie found ≡ swapAt s tie (swapRow k)
+        go : (found : Option ℕ) → getD sections k 512 ≡ sectionNumber found → IfSome (λ i. i < size N) found → IfSome (λ i. branchOf N i ≡ k) found → swapWith N s tie found ≡ swapAt s tie (swapRow k)
         go none e h p = rw e
         go (some section) e h p =
             rw (e, lt-ltb section 512 (omega (arith, switches-listed n, few)), ← byte-at n c section (omega (arith, switches-listed n)), judged k section h p)
             (same section (eqb (byte s section) 0 && radialIn N (swapped s tie section)))
 
     pub row-below : (k : ℕ) → IfSome (λ i. i < n .«switch_count») (swapRow k)
-    unfolding rowSwap sectionAt
+    unfolding rowSwap sectionNumber
     row-below k = go (sectionOf N k) (listed k) (section-below N k)
       where
-        go : (found : Option ℕ) → getD sections k 512 ≡ sectionAt found → IfSome (λ i. i < size N) found → IfSome (λ i. i < n .«switch_count») (swapRow k)
+        go : (found : Option ℕ) → getD sections k 512 ≡ sectionNumber found → IfSome (λ i. i < size N) found → IfSome (λ i. i < n .«switch_count») (swapRow k)
         go none e h = rw e tt
         go (some section) e h =
             let below : section < n .«switch_count» = omega (arith, switches-listed n) in
