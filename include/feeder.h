@@ -33,12 +33,21 @@ extern "C" {
 
 /* number 0: not refused, and value is what was asked for (place is 0).
  * Else number and place are document 01's refusal, and value is 0:
- *   1 to 9  the text, place is the line, from 1
- *   10      a state isn't one byte 0 or 1 for each switch, place 0 for the present or only state, 1 for the wanted one
- *   11      a plan's state isn't radial, place likewise
- *   12      the plan would move a locked switch, place is its id
- *   13      out is shorter than the answer, place 0
- * The first in this order is answered. */
+ *   1   an unended line, an odd number of digits, another character
+ *   2   a line of the wrong kind or length, missing or too many; any line over 36 characters
+ *   3   a method, status or flags byte without a meaning, or over 1,000 iterations
+ *   4   a count of the head over its limit
+ *   5   a float outside its range, or not finite
+ *   6   a branch end that is not listed, or a branch position not below the count
+ *   7   a bus or switch id twice
+ *   8   a second switch on a branch
+ *   9   an eleventh normally open switch with method 02
+ *   10  a state isn't one byte 0 or 1 for each switch, place 0 for the present or only state, 1 for the wanted one
+ *   11  a plan's state isn't radial, place likewise
+ *   12  the plan would move a locked switch, place is its id
+ *   13  out is shorter than the answer, place 0
+ * The place of 1 to 9 is the text's line, from 1: the first faulty line is answered, and of its numbers the lowest (2 where it is over 36
+ * characters). A faulty text comes before 10, and 10 to 13 come in this order. */
 struct feeder_answer {
     uint8_t number;
     uint16_t place;

@@ -3,9 +3,9 @@
 
 usage: tests/cases/loss_cases.py
 
-Each case of stdin is a line 'LENGTH NAME', a frame text, a line feed, and a line with a digit for each byte of the state. Each line
-of stdout is 'NAME BITS' or 'NAME NUMBER PLACE'. The marked losses are written by hand from document 01; the others are reckoned here
-with floats that round each operation once, by document 01's section Loss.
+Each case of stdin is a line 'LENGTH NAME', a frame text, a line feed, and a line 'CHANGE STATE' (crates/loss_cases/src/main.rt). Each line
+of stdout is 'NAME BITS' or 'NAME NUMBER PLACE'. The refusals and the marked losses are written by hand from document 01; the others are
+reckoned here with floats that round each operation once, by document 01's section Loss.
 """
 import os
 import random
@@ -13,6 +13,7 @@ import struct
 from fractions import Fraction
 
 ROOT = os.path.join(os.path.dirname(os.path.abspath(__file__)), '..', '..', 'crates', 'loss_cases')
+CHANGES = {'iterations 1001': 'A', 'switch 10 a tie': 'F', '': '-'}
 cases = []
 
 
@@ -20,12 +21,13 @@ def bits(x):
     return struct.unpack('>Q', struct.pack('>d', x))[0]
 
 
-def text(feeder):
+def text(feeder, method=0, ties=0):
+    """The switches have the ids from 10 on; the first so many are ties."""
     loads, branches, switches, base = feeder
-    lines = ['01%04X%04X%04X%016X000064' % (len(loads), len(branches), len(switches), bits(base))]
+    lines = ['01%04X%04X%04X%016X%02X0064' % (len(loads), len(branches), len(switches), bits(base), method)]
     lines += ['02%04X%016X' % (i + 1, bits(pd)) for i, pd in enumerate(loads)]
     lines += ['03%04X%04X%016X%02X' % (a, b, bits(r), status) for a, b, r, status in branches]
-    lines += ['04%04X%04X%02X' % (10 + i, on, 2) for i, on in enumerate(switches)]
+    lines += ['04%04X%04X%02X' % (10 + i, on, 3 if i < ties else 2) for i, on in enumerate(switches)]
     return ''.join(line + '\n' for line in lines).encode()
 
 
@@ -58,14 +60,14 @@ def loss(feeder, state, fused=False):
     return total
 
 
-def case(name, feeder, state, known=None):
+def case(name, feeder, state, known=None, change='', **head):
     answer = loss(feeder, state)
     assert known is None or answer == known, name
-    cases.append((name, text(feeder), state, '%016x' % bits(answer if known is None else known)))
+    cases.append((name, text(feeder, **head), CHANGES[change], state, '%016x' % bits(answer if known is None else known)))
 
 
-def refusal(name, feeder, state, answer):
-    cases.append((name, text(feeder), state, '%d %d' % answer))
+def refusal(name, feeder, state, answer, change='', **head):
+    cases.append((name, text(feeder, **head), CHANGES[change], state, '%d %d' % answer))
 
 
 TRIANGLE = ([0.0, 1.0, 2.0], [(1, 2, 0.25, 1), (2, 3, 0.4375, 1), (1, 3, 0.1875, 1)], [1, 2], 1.0)
@@ -80,6 +82,17 @@ def marked():
     case('branch-0-turned', TURNED, '01', 1.75)
     for name, state in [('too-short', '0'), ('too-long', '010'), ('byte-02', '02')]:
         refusal('state-' + name, TRIANGLE, state, (10, 0))
+
+
+def faulty_records():
+    """The loss call tests the records first, method and iterations too."""
+    refusal('records-iterations-1001', TRIANGLE, '01', (3, 1), 'iterations 1001')
+    refusal('records-iterations-1001-state-02', TRIANGLE, '02', (3, 1), 'iterations 1001')
+    side_by_side, state = ([0.0, 1.0], [(1, 2, 0.5, 1)] * 11, list(range(11)), 1.0), '1' * 10 + '0'
+    case('ten-ties-exhaustive', side_by_side, state, 0.5, method=2, ties=10)
+    case('records-eleven-ties-exchange', side_by_side, state, 0.5, 'switch 10 a tie', ties=10)
+    refusal('records-eleven-ties-exhaustive', side_by_side, state, (9, 25), 'switch 10 a tie', method=2, ties=10)
+    refusal('records-eleven-ties-exhaustive-state-02', side_by_side, '2', (9, 25), 'switch 10 a tie', method=2, ties=10)
 
 
 def two(load, r, base):
@@ -118,16 +131,17 @@ def drawn():
 
 
 def main():
-    for make in (marked, ranges, fused, drawn):
+    for make in (marked, faulty_records, ranges, fused, drawn):
         make()
     names = [case[0] for case in cases]
     assert len(names) == len(set(names)), 'a name stands twice'
     os.makedirs(ROOT, exist_ok=True)
     with open(os.path.join(ROOT, 'stdin'), 'wb') as out:
-        for name, data, state, _ in cases:
-            out.write(b'%d %s\n' % (len(data), name.encode()) + data + b'\n' + state.encode() + b'\n')
+        for name, data, change, state, _ in cases:
+            out.write(b'%d %s\n' % (len(data), name.encode()) + data + b'\n' + ('%s %s\n' % (change, state)).encode())
+        assert out.tell() <= 131072, 'the program has no room for the cases'
     with open(os.path.join(ROOT, 'stdout'), 'w') as out:
-        for name, _, _, answer in cases:
+        for name, _, _, _, answer in cases:
             out.write('%s %s\n' % (name, answer))
     print('%d cases' % len(cases))
 

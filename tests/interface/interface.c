@@ -1,11 +1,12 @@
-/* The calls of include/feeder.h from C: good and refused input, and the bytes of a lent slice that no call may touch.
- * Runs on a thread with a stack of FEEDER_STACK bytes. */
+/* The calls of include/feeder.h from C: good and refused input, the largest feeder, null pointers, and the bytes of a lent slice that no
+ * call may touch. Runs on a thread with a stack of FEEDER_STACK bytes. */
 #include "feeder.h"
 #include <pthread.h>
 #include <stdio.h>
 #include <string.h>
 
-#define HEAD "010003000300023FF0000000000000000064\n"
+#define HEAD_OF(method) "010003000300023FF0000000000000" method "0064\n"
+#define HEAD HEAD_OF("00")
 #define RECORDS                                                                                                        \
     "0200010000000000000000\n0200023FF0000000000000\n0200034000000000000000\n"                                         \
     "03000100023FD000000000000001\n03000200033FDC00000000000001\n03000100033FC800000000000001\n"
@@ -18,6 +19,10 @@ enum { GUARD = 0xAA, ROOM = 64, MARGIN = 16 };
 
 static int checks = 0;
 static int failures = 0;
+
+/* A lent slice between guard bytes, and what must stand there. */
+static uint8_t bytes[MARGIN + FEEDER_TEXT_LENGTH + MARGIN];
+static uint8_t right[sizeof bytes];
 
 static void expect(int good, const char *what) {
     checks++;
@@ -57,7 +62,6 @@ static void radialities(void) {
     expect_answer(radiality(TRIANGLE, "\0", 1), 10, 0, 0, "a state one byte short");
     expect_answer(radiality(TRIANGLE, "\0\1\0", 3), 10, 0, 0, "a state one byte long");
     expect_answer(radiality("", "\2", 1), 2, 1, 0, "an empty text comes before a faulty state");
-    expect_answer(feeder_radiality(NULL, 0, NULL, 0), 2, 1, 0, "null with length 0");
     expect_answer(radiality("0G", "\0\1", 2), 1, 1, 0, "another character");
     expect_answer(radiality(HEAD RECORDS "04000A000102\n", "\0\1", 2), 2, 9, 0, "a missing line");
     expect_answer(radiality(HEAD RECORDS "04000A000102\n04000A000203\n", "\0\1", 2), 7, 9, 0, "a switch id twice");
@@ -74,14 +78,17 @@ static void losses(void) {
     expect_answer(loss("01010100000000" "3FF0000000000000" "000064\n", "", 0), 4, 1, 0, "257 buses");
 }
 
-/* A plan into the middle of guarded bytes. `written` is what must stand at the front of the slice. */
-static void plan(const char *text, const char *present, size_t present_length, const char *wanted, size_t wanted_length, size_t room,
-                 unsigned number, unsigned place, uint64_t value, const char *written, const char *what) {
-    uint8_t bytes[MARGIN + ROOM + MARGIN];
-    uint8_t right[sizeof bytes];
+/* `written` is what must stand at the front of the slice. */
+static void lay_slice(const char *written) {
     memset(bytes, GUARD, sizeof bytes);
     memset(right, GUARD, sizeof right);
     memcpy(right + MARGIN, written, strlen(written));
+}
+
+/* A plan into the middle of guarded bytes. */
+static void plan(const char *text, const char *present, size_t present_length, const char *wanted, size_t wanted_length, size_t room,
+                 unsigned number, unsigned place, uint64_t value, const char *written, const char *what) {
+    lay_slice(written);
     expect_answer(feeder_plan((const uint8_t *)text, strlen(text), (const uint8_t *)present, present_length,
                               (const uint8_t *)wanted, wanted_length, bytes + MARGIN, room),
                   number, place, value, what);
@@ -105,14 +112,11 @@ static void plans(void) {
 }
 
 #define PRINTED "810140100000000000003FF00000000000004052C00000000000000201\n82000A00\n82000B01\n83000B000A\n"
+#define BASE_KEPT "8101401000000000000040100000000000000000000000000000"
 
 /* A text's answer into the middle of guarded bytes. */
 static void answer_text(const char *text, size_t room, unsigned number, const char *written, const char *what) {
-    uint8_t bytes[MARGIN + 2 * ROOM + MARGIN];
-    uint8_t right[sizeof bytes];
-    memset(bytes, GUARD, sizeof bytes);
-    memset(right, GUARD, sizeof right);
-    memcpy(right + MARGIN, written, strlen(written));
+    lay_slice(written);
     expect_answer(feeder_answer_text((const uint8_t *)text, strlen(text), bytes + MARGIN, room), number, 0, strlen(written), what);
     expect(memcmp(bytes, right, sizeof bytes) == 0, what);
 }
@@ -122,10 +126,97 @@ static void texts(void) {
     answer_text(TRIANGLE, 2 * ROOM, 0, PRINTED, "the triangle's answer, the rest of the slice kept");
     answer_text(TRIANGLE, length, 0, PRINTED, "the triangle's answer, an exactly full slice");
     answer_text(TRIANGLE, length - 1, 13, "", "one byte short");
+    answer_text(HEAD_OF("01") RECORDS SWITCHES, FEEDER_TEXT_LENGTH, 0, BASE_KEPT "006401\n", "the triangle's answer by tabu");
+    answer_text(HEAD_OF("02") RECORDS SWITCHES, FEEDER_TEXT_LENGTH, 0, BASE_KEPT "000101\n", "the triangle's answer by exhaustion");
     answer_text("", ROOM, 0, "8F020001\n", "an empty text");
     answer_text("0G", 9, 0, "8F010001\n", "another character, an exactly full slice");
     answer_text("0G", 8, 13, "", "no room for a refusal's line");
     answer_text(TRIANGLE "04", ROOM, 0, "8F01000A\n", "an unended line too many");
+}
+
+/* Each slice may be null with length 0. */
+static void nulls(void) {
+    const uint8_t *text = (const uint8_t *)NO_BUSES;
+    const uint8_t *triangle = (const uint8_t *)TRIANGLE;
+    size_t length = strlen(NO_BUSES);
+    expect_answer(feeder_radiality(NULL, 0, NULL, 0), 2, 1, 0, "radiality, a null text");
+    expect_answer(feeder_loss(NULL, 0, NULL, 0), 2, 1, 0, "loss, a null text");
+    expect_answer(feeder_plan(NULL, 0, NULL, 0, NULL, 0, NULL, 0), 2, 1, 0, "plan, a null text");
+    expect_answer(feeder_answer_text(NULL, 0, NULL, 0), 13, 0, 0, "answer, a null text and no room for its line");
+    expect_answer(feeder_radiality(text, length, NULL, 0), 0, 0, 1, "radiality, a null state");
+    expect_answer(feeder_loss(text, length, NULL, 0), 0, 0, 0, "loss, a null state");
+    expect_answer(feeder_plan(text, length, NULL, 0, NULL, 0, NULL, 0), 0, 0, 0, "plan, null states and a null slice");
+    expect_answer(feeder_plan(triangle, strlen(TRIANGLE), NULL, 0, NULL, 0, NULL, 0), 10, 0, 0, "plan, a null state for two switches");
+    expect_answer(feeder_answer_text(text, length, NULL, 0), 13, 0, 0, "answer, a null slice");
+}
+
+#define ONE "3FF0000000000000"
+#define ZERO "0000000000000000"
+
+/* The largest feeder: buses 1 to 256 in a row, 1 MW at the last. Branches 0 to 254 are the row, 255 to 509 lie beside them and lose nothing, 510
+ * and 511 lie beside branch 0. The switch on branch k has the id 1000 + k. */
+enum { BUSES = 256, BRANCHES = 512, ROW = BUSES - 1, FIRST_ID = 1000, TEN = 10 };
+static char largest[27430];
+
+/* Normally open is what lies beside the row; but for tabu (01) the last branch is closed, a loop, and for exhaustion (02) the ends of the row are
+ * the ten ties, and what lies beside is out of service. */
+static int normally_open(unsigned method, int k) {
+    if (method == 2)
+        return ROW - TEN <= k && k < ROW;
+    return ROW <= k && (method == 0 || k < BRANCHES - 1);
+}
+
+static void make_largest(unsigned method, unsigned iterations) {
+    char *at = largest;
+    at += sprintf(at, "01%04X%04X%04X" ONE "%02X%04X\n", BUSES, BRANCHES, BRANCHES, method, iterations);
+    for (int bus = 1; bus <= BUSES; bus++)
+        at += sprintf(at, "02%04X%s\n", bus, bus == BUSES ? ONE : ZERO);
+    for (int k = 0; k < BRANCHES; k++) {
+        int beside = ROW <= k && k < 2 * ROW;
+        int from = 1 + (k < ROW ? k : beside ? k - ROW : 0);
+        at += sprintf(at, "03%04X%04X%s%02X\n", from, from + 1, beside ? ZERO : ONE, method != 2 || k < ROW);
+    }
+    for (int k = 0; k < BRANCHES; k++)
+        at += sprintf(at, "04%04X%04X%02X\n", FIRST_ID + k, k, normally_open(method, k) ? 3 : 2);
+}
+
+static char *head_of_answer(char *at, double base, double best, double reduction, unsigned iterations, unsigned converged) {
+    return at + sprintf(at, "8101%016llX%016llX%016llX%04X%02X\n", (unsigned long long)bits(base), (unsigned long long)bits(best),
+                        (unsigned long long)bits(reduction), iterations, converged);
+}
+
+static void largest_feeder(void) {
+    static char row[BRANCHES], beside[BRANCHES], written[FEEDER_TEXT_LENGTH + 1];
+    char *at = written;
+    for (int k = 0; k < BRANCHES; k++) {
+        row[k] = k >= ROW;
+        beside[k] = !(ROW <= k && k < 2 * ROW);
+    }
+    make_largest(0, 1);
+    expect(strlen(largest) == sizeof largest - 1, "the largest text has 27,429 bytes");
+    expect_answer(radiality(largest, row, BRANCHES), 0, 0, 1, "the row is radial");
+    expect_answer(radiality(largest, beside, BRANCHES), 0, 0, 1, "what lies beside is radial");
+    expect_answer(loss(largest, row, BRANCHES), 0, 0, bits(255.0), "the row's loss");
+    expect_answer(loss(largest, beside, BRANCHES), 0, 0, 0, "what lies beside loses nothing");
+    for (int k = 0; k < ROW; k++)
+        at += sprintf(at, "83%04X%04X\n", FIRST_ID + ROW + k, FIRST_ID + k);
+    plan(largest, row, BRANCHES, beside, BRANCHES, FEEDER_PLAN_LENGTH, 0, 0, ROW, written, "the longest plan, an exactly full slice");
+    plan(largest, row, BRANCHES, beside, BRANCHES, FEEDER_PLAN_LENGTH - 1, 13, 0, 0, "", "the longest plan, one byte short");
+
+    at = head_of_answer(written, 255.0, 254.0, (255.0 - 254.0) / 255.0 * 100.0, 1, 0);
+    sprintf(at, "82%04X00\n82%04X01\n83%04X%04X\n", FIRST_ID + 254, FIRST_ID + 509, FIRST_ID + 509, FIRST_ID + 254);
+    answer_text(largest, FEEDER_TEXT_LENGTH, 0, written, "the largest feeder's answer by exchange: the last tie that improves");
+
+    make_largest(1, 2);
+    at = head_of_answer(written, 256.0, 255.0, 100.0 / 256.0, 2, 1);
+    sprintf(at, "82%04X00\n", FIRST_ID);
+    answer_text(largest, FEEDER_TEXT_LENGTH, 0, written, "the largest feeder's answer by tabu: the first that breaks the loop");
+
+    make_largest(2, 0);
+    at = head_of_answer(written, 0.0, 255.0, 0.0, 1, 1);
+    for (int k = ROW - TEN; k < ROW; k++)
+        at += sprintf(at, "82%04X01\n", FIRST_ID + k);
+    answer_text(largest, FEEDER_TEXT_LENGTH, 0, written, "the largest feeder's answer by exhaustion: all ten ties closed");
 }
 
 static void *run(void *unused) {
@@ -134,6 +225,8 @@ static void *run(void *unused) {
     losses();
     plans();
     texts();
+    nulls();
+    largest_feeder();
     return NULL;
 }
 

@@ -26,6 +26,8 @@ use random::Random;
 use reckoning::plan::{lines, plan, radial, well_formed};
 use reckoning::searches::Searches;
 use reckoning::{reader, Network, Refusal};
+use std::collections::BTreeMap;
+use std::ops::RangeInclusive;
 use std::process::ExitCode;
 
 const CASES: usize = 4000;
@@ -34,19 +36,38 @@ const MARGIN: usize = 16;
 const PAIR_LENGTH: usize = 11;
 const TEXT_LENGTH: usize = 7472;
 
+/// The calls, and the refusals that each can answer.
+const CALLS: [(&str, RangeInclusive<u8>); 4] = [("radiality", 1..=10), ("loss", 1..=10), ("plan", 1..=13), ("answer", 13..=13)];
+
+#[derive(Default)]
 struct Checks {
     count: usize,
-    refused: [usize; 14],
+    refused: BTreeMap<(&'static str, u8), usize>,
+}
+
+impl Checks {
+    /// Whether each refusal that can come was met.
+    fn all_met(&self) -> bool {
+        let mut all_met = true;
+        for (call, numbers) in CALLS {
+            let times = |number| self.refused.get(&(call, number)).copied().unwrap_or(0);
+            let counts: Vec<usize> = numbers.clone().map(times).collect();
+            println!("interface: Rust: {call}: refused with {} to {}: {counts:?}", numbers.start(), numbers.end());
+            all_met &= counts.iter().all(|&count| count > 0);
+        }
+        all_met
+    }
 }
 
 fn main() -> ExitCode {
-    let mut checks = Checks { count: 0, refused: [0; 14] };
+    let mut checks = Checks::default();
     let good = timed_feeders(&mut checks) && (0..CASES).all(|number| any_case(&mut checks, number));
-    for (number, count) in checks.refused.iter().enumerate().skip(1) {
-        println!("interface: Rust: {count:6} refused with {number}");
+    let all_met = checks.all_met();
+    if !all_met {
+        println!("interface: Rust: a refusal was never met");
     }
     println!("interface: Rust: {} answers, {}", checks.count, if good { "0 wrong" } else { "1 wrong" });
-    if good { ExitCode::SUCCESS } else { ExitCode::FAILURE }
+    if good && all_met { ExitCode::SUCCESS } else { ExitCode::FAILURE }
 }
 
 /// The triangle, 33 buses and the largest feeder, forward and back, with room for the plan, and one byte less.
@@ -67,29 +88,34 @@ fn any_case(checks: &mut Checks, number: usize) -> bool {
     let text = if random.percent(10) { damage::damaged(random) } else { feeder.text() };
     let network = reader::read(&text).or(reader::read(&feeder.text())).expect("shapes are acceptable");
     let state = states::any_state(random, &network);
-    let (present, wanted, pairs) = states::any_plan(random, &network);
-    let room = (PAIR_LENGTH * pairs).saturating_sub(random.below(2));
+    let (present, wanted, room) = states::any_plan(random, &network);
     state_answers(checks, &text, &state) && plan_answer(checks, &text, &present, &wanted, room) && text_answers(checks, &text)
 }
 
-/// A refused text prints its 8F line alone, another one begins with 81. A slice that is exactly full gets the same bytes, one byte less is 13 and untouched.
+/// With room for every answer, in a slice that is exactly full, and one byte less.
 fn text_answers(checks: &mut Checks, text: &[u8]) -> bool {
-    let mut long = vec![GUARD; TEXT_LENGTH];
-    let answer = library::answer_text(text, &mut long);
-    let length = answer.value as usize;
-    let right = match reader::read(text) {
-        Err(Refusal { number, place }) => long[..length] == *format!("8F{number:02X}{place:04X}\n").as_bytes(),
-        Ok(_) => long.starts_with(b"81"),
+    let printed = printed(text);
+    [TEXT_LENGTH, printed.len(), printed.len() - 1].into_iter().all(|room| {
+        let fits = printed.len() <= room;
+        let expected = if fits { Ok((printed.len() as u64, printed.clone())) } else { Err(Refusal { number: 13, place: 0 }) };
+        lent(checks, "answer", text, room, expected, |out| library::answer_text(text, out))
+    })
+}
+
+/// What document 01 prints for a text: the 8F line of a refusal; else the 81 and 82 lines and, from a radial base, the 83 lines.
+fn printed(text: &[u8]) -> Vec<u8> {
+    let network = match reader::read(text) {
+        Err(refusal) => return refusal.line().into_bytes(),
+        Ok(network) => network,
     };
-    let mut full = vec![GUARD; length];
-    let mut short = vec![GUARD; length - 1];
-    let kept = long[length..].iter().all(|&b| b == GUARD);
-    let good = right && kept && library::answer_text(text, &mut full) == answer && full == long[..length];
-    if !good {
-        println!("interface: Rust: answer: {answer:?}, text:\n{}", String::from_utf8_lossy(text));
+    let (base, searches) = (network.base(), Searches::new(&network, None));
+    let answer = searches.solve();
+    let mut printed = searches.lines(&answer);
+    if radial(&network, &network.live(&base)) {
+        let pairs = plan(&network, &base, &answer.best, usize::MAX).expect("from a radial base only refusal 13 can come");
+        printed += &lines(&network, &pairs);
     }
-    good && compare(checks, "answer", text, Err(Refusal { number: 13, place: 0 }), library::answer_text(text, &mut short))
-        && short.iter().all(|&b| b == GUARD)
+    printed.into_bytes()
 }
 
 fn state_answers(checks: &mut Checks, text: &[u8], state: &[u8]) -> bool {
@@ -105,30 +131,42 @@ fn on_state(text: &[u8], state: &[u8], value: impl Fn(&Network) -> u64) -> Resul
     if well_formed(&network, state) { Ok(value(&network)) } else { Err(Refusal { number: 10, place: 0 }) }
 }
 
-/// The slice lies between guard bytes and is full of them.
 fn plan_answer(checks: &mut Checks, text: &[u8], present: &[u8], wanted: &[u8], room: usize) -> bool {
-    let mut bytes = vec![GUARD; MARGIN + room + MARGIN];
-    let mut right = bytes.clone();
     let expected = reader::read(text).and_then(|network| {
         let pairs = plan(&network, present, wanted, room / PAIR_LENGTH)?;
-        let written = lines(&network, &pairs).into_bytes();
-        right[MARGIN..MARGIN + written.len()].copy_from_slice(&written);
-        Ok(pairs.len() as u64)
+        Ok((pairs.len() as u64, lines(&network, &pairs).into_bytes()))
     });
-    let answer = library::plan(text, present, wanted, &mut bytes[MARGIN..MARGIN + room]);
-    if bytes != right {
-        println!("interface: Rust: plan: the lent bytes are wrong, text:\n{}", String::from_utf8_lossy(text));
-    }
-    bytes == right && compare(checks, "plan", text, expected, answer)
+    lent(checks, "plan", text, room, expected, |out| library::plan(text, present, wanted, out))
 }
 
-fn compare(checks: &mut Checks, call: &str, text: &[u8], expected: Result<u64, Refusal>, answer: Answer) -> bool {
+/// A call that is lent a slice: it lies between guard bytes and is full of them. Expected is the value with what stands at the slice's front.
+fn lent(
+    checks: &mut Checks,
+    call: &'static str,
+    text: &[u8],
+    room: usize,
+    expected: Result<(u64, Vec<u8>), Refusal>,
+    ask: impl FnOnce(&mut [u8]) -> Answer,
+) -> bool {
+    let mut bytes = vec![GUARD; MARGIN + room + MARGIN];
+    let mut right = bytes.clone();
+    if let Ok((_, written)) = &expected {
+        right[MARGIN..MARGIN + written.len()].copy_from_slice(written);
+    }
+    let answer = ask(&mut bytes[MARGIN..MARGIN + room]);
+    if bytes != right {
+        println!("interface: Rust: {call}: the lent bytes are wrong, text:\n{}", String::from_utf8_lossy(text));
+    }
+    bytes == right && compare(checks, call, text, expected.map(|(value, _)| value), answer)
+}
+
+fn compare(checks: &mut Checks, call: &'static str, text: &[u8], expected: Result<u64, Refusal>, answer: Answer) -> bool {
     let right = match expected {
         Ok(value) => Answer { number: 0, place: 0, value },
         Err(Refusal { number, place }) => Answer { number, place, value: 0 },
     };
     checks.count += 1;
-    checks.refused[usize::from(right.number)] += 1;
+    *checks.refused.entry((call, right.number)).or_default() += 1;
     if answer != right {
         println!("interface: Rust: {call}: {answer:?} for {right:?}, text:\n{}", String::from_utf8_lossy(text));
     }

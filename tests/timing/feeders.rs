@@ -1,5 +1,5 @@
-//! The feeders that are timed: document 01's triangle, one of 33 buses, and the largest there may be. Each has two radial states, the first of
-//! them its base.
+//! The feeders that are timed: document 01's triangle, one of 33 buses, and chains up to the largest feeder there may be. Each has two radial states,
+//! the first of them its base.
 
 use crate::feeder::{triangle, Feeder, OPERABLE, TIE};
 
@@ -11,7 +11,7 @@ pub struct Timed {
 }
 
 pub fn all() -> Vec<Timed> {
-    vec![small(), middle(), full()]
+    vec![small(), middle(), chains("64 buses", 64), chains("128 buses", 128), full(), colliding()]
 }
 
 /// The same feeders for each search. The largest one is searched by the exchange for one round, since the Rust takes seconds for each, and
@@ -33,6 +33,20 @@ pub fn searched() -> Vec<(&'static str, Timed)> {
         ("exhaustive, 5 ties", with(middle(), 2, 100)),
         ("exhaustive, 10 ties", with(with_ten_ties(full()), 2, 100)),
     ]
+}
+
+/// Searches that the Rust takes minutes for: the exchange until a round finds nothing, and tabu rounds with every tie out of service.
+pub fn long() -> Vec<(&'static str, Timed)> {
+    let mut exchange = full();
+    exchange.feeder.iterations = 1000;
+    let mut tabu = full();
+    tabu.feeder.method = 1;
+    tabu.feeder.iterations = 1000;
+    for i in (0..tabu.first.len()).filter(|&i| tabu.first[i] == 1) {
+        let branch = tabu.feeder.switches[i].branch;
+        tabu.feeder.branches[usize::from(branch)].status = 0;
+    }
+    vec![("exchange, to its end, 257 ties", exchange), ("tabu, 1,000 rounds, 257 ties out of service", tabu)]
 }
 
 /// From the eleventh tie on, branches are out of service and their switches closed.
@@ -71,18 +85,42 @@ fn middle() -> Timed {
     Timed { name: "33 buses", feeder, first, second }
 }
 
-/// Two chains through all 256 buses without a common branch: from one to the other all 255 branches change.
+/// Two chains through all buses without a common branch: from one to the other every live branch changes.
+fn chains(name: &'static str, buses: u16) -> Timed {
+    chains_and(name, buses, &[])
+}
+
+/// The largest feeder: two chains and two ties more.
 fn full() -> Timed {
-    let stride = |i: u16| i * 127 % 256 + 1;
-    let mut ends: Vec<(u16, u16)> = (1..256).map(|bus| (bus, bus + 1)).collect();
+    chains_and("256 buses", 256, &[(1, 200), (50, 250)])
+}
+
+fn chains_and(name: &'static str, buses: u16, more: &[(u16, u16)]) -> Timed {
+    let stride = |i: u16| i * (buses / 2 - 1) % buses + 1;
+    let mut ends: Vec<(u16, u16)> = (1..buses).map(|bus| (bus, bus + 1)).collect();
     let sections = ends.len();
-    ends.extend((0..255).map(|i| (stride(i), stride(i + 1))));
+    ends.extend((0..buses - 1).map(|i| (stride(i), stride(i + 1))));
     let chains = ends.len();
-    ends.extend([(1, 200), (50, 250)]);
-    let feeder = feeder_of(256, &ends, sections, 100.0);
+    ends.extend(more);
+    let feeder = feeder_of(buses, &ends, sections, 100.0);
     let first = state(&feeder, |branch| branch < sections);
     let second = state(&feeder, |branch| sections <= branch && branch < chains);
-    Timed { name: "256 buses", feeder, first, second }
+    Timed { name, feeder, first, second }
+}
+
+/// The largest feeder with ids that all share a bucket of the code's rows (crates/ids), the switches two buckets: the worst that ids can be.
+fn colliding() -> Timed {
+    let bucket = |id: u32| id * 40503 % 65536 / 256;
+    let ids: Vec<u16> = (0..=0xFFFF).filter(|&id| bucket(id) < 2).map(|id| id as u16).collect();
+    let in_one: Vec<u16> = ids.iter().copied().filter(|&id| bucket(id.into()) == 0).collect();
+    let mut timed = Timed { name: "256 buses, colliding ids", ..full() };
+    let renamed = |id: u16| in_one[usize::from(id - 1)];
+    timed.feeder.buses.iter_mut().for_each(|bus| bus.id = renamed(bus.id));
+    for branch in &mut timed.feeder.branches {
+        (branch.from, branch.to) = (renamed(branch.from), renamed(branch.to));
+    }
+    timed.feeder.switches.iter_mut().zip(&ids).for_each(|(switch, &id)| switch.id = id);
+    timed
 }
 
 /// A switch on each branch, the ties normally open; loads and resistances that are no round numbers.

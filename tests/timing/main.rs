@@ -103,6 +103,9 @@ fn main() {
     for (name, timed) in &feeders::searched() {
         row(name, timed, Some(Rust::search), SEARCH);
     }
+    for (name, timed) in &feeders::long() {
+        row(name, timed, None, SEARCH);
+    }
 }
 
 /// A line of the table. The Rust has no reader and no planner.

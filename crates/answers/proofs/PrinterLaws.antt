@@ -40,7 +40,7 @@ use Rattle.operations.specs.declared.operations.OperationsAnswer.the-variants a
 use Rattle.searches.specs.declared.answer.ReconfigResult.{ReconfigResult}
 use Rattle.searches.specs.declared.answer.SolveAnswer.the-variants as solves
 use Rattle.searches.specs.FromBase.{base-good}
-use Rattle.reconfiguration.specs.Answers.{best-good, answers-have-plans}
+use Rattle.reconfiguration.specs.AnswersHavePlans.{best-good, solve-plan-accepted}
 use Rattle.searches.specs.States.{stateOf}
 use Rattle.searches.specs.StateLaws.{state-held}
 use Rattle.searches.specs.Results.{Result, resultBy, solvedBy, resultOf, solveAnswerOf}
@@ -113,7 +113,7 @@ module _ (n : PowerNetwork) (ok : checkRecords (recordsOf n) ≡ accepted tt) (o
           let moves = plan N (baseState N) (best N .state) in
           let fits : length (planText moves) ≤ 2805 = rw same at short in
           let made : record { answer = planAnswerOf a; out = after } ≡ called (checkPlan N (baseState N) (best N .state)) (length moves) (planText moves) out = unfold planned in q in
-          let c = call-is (length moves) (planText moves) out (answers-have-plans N ok r) (omega arith) made in
+          let c = call-is (length moves) (planText moves) out (solve-plan-accepted N ok r) (omega arith) made in
           rw same (pairs a (ap (λ (x : Call ℕ). x .answer) c), ap (λ (x : Call ℕ). x .out) c)
       go false r q =
           let same = lines false r in

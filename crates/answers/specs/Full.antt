@@ -15,7 +15,7 @@ use Rattle.network.specs.Inside.{Inside}
 use Rattle.network.specs.InsideLaws.{check-inside}
 use Rattle.states.specs.Live.{checkState, onState}
 use Rattle.frames.specs.Acceptable.{Acceptable}
-use Rattle.frames.specs.Claim.{claim}
+use Rattle.frames.specs.Proof.{claim}
 use Rattle.printing.specs.CallLaws.{in-full}
 use Rattle.graph.specs.Graph.{Tree}
 use Rattle.radiality.specs.Feeder.{feeder, LiveIn, radialIn}
@@ -29,7 +29,7 @@ use Rattle.plan.specs.Accepted.{plan-accepted}
 use Rattle.plan.specs.Length as PlanLength
 use Rattle.searches.specs.Results.{resultBy, solvedBy}
 use Rattle.reconfiguration.specs.Solve.{bestBy, best, result, solved}
-use Rattle.reconfiguration.specs.Answers.{search-sound}
+use Rattle.reconfiguration.specs.AnswersHavePlans.{search-sound}
 use Rattle.operations.specs.Operations.{operations, operationsText, operationsCall}
 use Rattle.operations.specs.OperationLines as Operations
 use Rattle.answers.specs.Printing.{networkText, printedOf, printed, answeredText}

@@ -18,7 +18,7 @@ use Rattle.network.specs.Check.{checkRecords}
 use Rattle.network.specs.InsideLaws.{check-inside}
 use Rattle.states.specs.Live.{baseState}
 use Rattle.frames.specs.Text.{readText}
-use Rattle.frames.specs.Claim.{claim}
+use Rattle.frames.specs.Proof.{claim, passed}
 use Rattle.slices.specs.Written.{written}
 use Rattle.printing.specs.Printed.{answer, answerText, refusal, refusalText}
 use Rattle.printing.specs.Calls.{Call}
@@ -32,7 +32,7 @@ use Rattle.plan.specs.Plan.{plan, planText}
 use Rattle.plan.specs.Length as PlanLength
 use Rattle.searches.specs.Results.{Result, reduction, resultBy}
 use Rattle.reconfiguration.specs.Solve.{result, best}
-use Rattle.reconfiguration.specs.Answers.{answers-have-plans}
+use Rattle.reconfiguration.specs.AnswersHavePlans.{solve-plan-accepted}
 use Rattle.operations.specs.Operations.{operations}
 use Rattle.operations.specs.OperationLines as Operations
 use Rattle.operations.specs.OperationValues.{differs}
@@ -63,7 +63,7 @@ module _ (N : Network) (ok : checkRecords N ≡ accepted tt) where
       go : (b : Bool) → radialIn N (baseState N) ≡ b → length (cond b (planText (plan N (baseState N) (best N .state))) []) ≤ 2805
       go true e =
           let few = check-inside N .0 ok .counts in
-          omega (arith, few .0, PlanLength.length-text (plan N (baseState N) (best N .state)), PlanLength.plan-short N (baseState N) (best N .state) (answers-have-plans N ok e))
+          omega (arith, few .0, PlanLength.length-text (plan N (baseState N) (best N .state)), PlanLength.plan-short N (baseState N) (best N .state) (solve-plan-accepted N ok e))
       go false e = omega arith
 
   pub network-short : length (networkText N) ≤ 7472
@@ -97,7 +97,7 @@ unfolding printed
 printed-short text = go (readText text) refl
   where
     go : (a : Answer Network) → readText text ≡ a → length (printedOf a) ≤ 7472
-    go (accepted N) e = network-short N (claim .passed text N e)
+    go (accepted N) e = network-short N (passed text N e)
     go (refused number place) e = omega (arith, length-refusal number place)
 
 -- a program that reads 65,536 bytes of a longer text prints what the whole text would get

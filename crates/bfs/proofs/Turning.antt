@@ -119,3 +119,8 @@ module _ (neighbours : ℕ → List Visit) (start barred : ℕ) where
         let e = upTo-idle (turn neighbours barred) (startAt start ∷ []) h 256 (t .within)
         (λ i a b. rw (le-ltb i (length (visits h)) (omega (arith, w .counted)))) in
         rw (e, w .counted, w .buses, w .branches)
+
+-- with no bus barred: the start stands for the barred one, and its mark is made once
+pub start-turned : (neighbours : ℕ → List Visit) (start at : ℕ) → at ≡ start → at < 256
+    → Turning neighbours start start (set (replicate 256 false) at true) (set (replicate 256 0) 0 start) (replicate 256 0) 1 0
+start-turned neighbours start at e l = rw (set-set (replicate 256 false) at true true) at (none-turned neighbours start start at at e l e l)

@@ -35,5 +35,5 @@ pub fn is_radial(graph: Graph, live: [bool; 512]) -> bool
     if live_count(live, graph.branch_count) != n - 1 {
         return false;
     }
-    walk(graph, live, 0, 0).count == n
+    walk(graph, live, 0).count == n
 }

@@ -11,7 +11,7 @@ use graph::walks::Walk;
 use numbers::wide8;
 use numbers::wide16;
 
-// Bus x is put behind those reached, with branch k, unless the branch is not live or the bus is marked: barred, or reached already.
+// Bus x is put behind those reached, with branch k, unless the branch is not live or the bus is marked, as those reached are.
 fn enter(
     seen: &mut [bool; 256],
     bus: &mut [u8; 256],
@@ -72,23 +72,19 @@ fn expand(
     end
 }
 
-// The buses that a walk from start reaches without entering the barred one, in the order in which it reaches them. The rows are lent, for callers that
-// walk often.
-pub fn walk_rows(
+// The walk by the rows of a graph.
+fn walk_rows(
     far: &[u8; 1024],
     first: &[u16; 256],
     next: &[u16; 1024],
     live: &[bool; 512],
     start: u8,
-    barred: u8,
 ) -> Walk
-    ensures { λ r. ⌜ r ≡ walked (walkBy (rowLeads (now (far .entry)) (now (first .entry)) (now (next .entry)) (now (live .entry))) start barred) ⌝ }
+    ensures { λ r. ⌜ r ≡ walked (walkBy (rowLeads (now (far .entry)) (now (first .entry)) (now (next .entry)) (now (live .entry))) start start) ⌝ }
 {
     let mut seen = [false; 256];
     let mut bus = [0u8; 256];
     let mut by = [0u16; 256];
-    let bar = wide8(barred);
-    seen[bar] = true;
     let at = wide8(start);
     seen[at] = true;
     bus[0] = start;
@@ -112,12 +108,12 @@ pub fn walk_rows(
     Walk { count, bus, by }
 }
 
-// The same on a graph.
-pub fn walk(graph: Graph, live: [bool; 512], start: u8, barred: u8) -> Walk
-    ensures { λ r. ⌜ r ≡ walked (walkBy (rowNeighbours graph live) start barred) ⌝ }
+// The buses that a walk from start reaches, in the order in which it reaches them, each with its branch.
+pub fn walk(graph: Graph, live: [bool; 512], start: u8) -> Walk
+    ensures { λ r. ⌜ r ≡ walked (walkBy (rowNeighbours graph live) start start) ⌝ }
 {
     let far = graph.far;
     let first = graph.first;
     let next = graph.next;
-    walk_rows(&far, &first, &next, &live, start, barred)
+    walk_rows(&far, &first, &next, &live, start)
 }

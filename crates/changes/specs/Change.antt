@@ -15,7 +15,7 @@ use Rattle.states.specs.Configuration.{configurationOf}
 use Rattle.graph.specs.declared.rows.Graph.{Graph}
 use Rattle.radiality.specs.Feeder.{radialIn}
 use Rattle.radiality.specs.FeederRows.{feederGraph, liveFlags}
-use Rattle.changes.specs.declared.refusals.Change.{Change}
+use Rattle.changes.specs.declared.change.Change.{Change}
 
 -- ---- refusals 11 and 12
 unfoldable pub checkRadial : Network → State → ℕ → Answer (Unit {0})
@@ -25,7 +25,8 @@ checkRadial N s place = judge ((11 if not (radialIn N s)) ∷ []) place
 unfoldable pub differing : Network → State → State → ℕ → Bool
 differing N present wanted k = (live N present k && not (live N wanted k)) || (live N wanted k && not (live N present k))
 
--- the switch at position i differs, on a branch that is live in one of the two states only, and is locked
+-- the switch at position i differs, on a branch that is live in one of the two states only, and is locked. With one switch on a branch the branch's switch
+-- differs where the branch does: the first test says which switch would move
 unfoldable pub lockedDifference : Network → State → State → ℕ → Bool
 lockedDifference N present wanted i = not (eqb (byte present i) (byte wanted i)) && (differing N present wanted (branchOf N i) && not (operable N i))
 

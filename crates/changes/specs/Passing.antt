@@ -18,7 +18,7 @@ use Rattle.states.specs.Switches.{State}
 use Rattle.graph.specs.Rows.{flag}
 use Rattle.radiality.specs.FeederRows.{feederGraph, liveFlags}
 use Rattle.radiality.specs.FeederRowLaws.{flags-live, state-flags}
-use Rattle.changes.specs.declared.refusals.Change.{Change}
+use Rattle.changes.specs.declared.change.Change.{Change}
 use Rattle.changes.specs.Change.{checkPlan, flagsIn, Judged, judgedIn, judged}
 
 -- the network has passed its check, and both states have passed 10

@@ -1,3 +1,3 @@
 // A change from a present state of a feeder's switches to a wanted one, judged.
+pub mod change;
 pub mod flags;
-pub mod refusals;

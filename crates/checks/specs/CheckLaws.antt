@@ -9,11 +9,11 @@ use Rattle.numbers.specs.UpTo.{table}
 use Rattle.numbers.specs.TableLaws.{length-table, table-more, drop-table}
 use Rattle.network.specs.declared.error.Verdict.{Verdict}
 use Rattle.network.specs.declared.error.Verdict.the-variants.{Accepted, Refused}
-use Rattle.network.specs.Answers.{Answer, accepted, answerOf, _andThen_, Fault, judge}
+use Rattle.network.specs.Answers.{accepted, answerOf, _andThen_, Fault, judge, Judgement}
 use Rattle.network.specs.Check.{checkRun}
 
 module _ {A : Type 0} (faults : List A → A → List Fault) (start : ℕ) (f : ℕ → A) (n : ℕ) where
-  unfoldable checkFrom : ℕ → Answer (Unit {0})
+  unfoldable checkFrom : ℕ → Judgement
   checkFrom i = checkRun faults (table f i) (start + i) (drop i (table f n))
 
   check-one : (i : ℕ) → i < n → checkFrom i ≡ (judge (faults (table f i) (f i)) (start + i) andThen checkFrom (i + 1))

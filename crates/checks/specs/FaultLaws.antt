@@ -19,7 +19,8 @@ use Rattle.network.specs.declared.error.Verdict.{Verdict}
 use Rattle.network.specs.declared.error.Verdict.the-variants.{Accepted}
 use Rattle.network.specs.Answers.{answerOf, Fault, judge}
 use Rattle.network.specs.AnswerLaws.{judge-iff, accepted-so}
-use Rattle.ids.specs.Ids.{rows, idRows}
+use Rattle.ids.specs.Ids.{rows, idRows, positionOf}
+use Rattle.ids.specs.IdLaws.{position-found}
 use Rattle.network.specs.Faults.{Head, among, busId, switchId, on, ties, busRow, branchRow, switchRow, busFaults, branchFaults, switchFaults}
 use Rattle.checks.specs.Flags.{flags, flag-at, set-flag}
 
@@ -46,11 +47,10 @@ module _ {A : Type 0} (key : A → ℕ) (f : ℕ → A) (n : ℕ) (short : n ≤
   keys-front : (i : ℕ) → i ≤ n → take i (map key (table f n)) ≡ map key (table f i)
   keys-front i h = rw (map-table key f n, map-table key f i) (take-table (λ j. key (f j)) n i h)
 
-  -- p is x's first position in the list that the rows are of
-  pub stands-before : (x p i : ℕ) → i ≤ n → ((l : List ℕ) → length l ≤ 512 → rows ids first next ≡ idRows l → n ≡ length l → p ≡ indexOf x l)
-      → ltb p i ≡ among x (map key (table f i))
+  -- p is the position that the rows have for x
+  pub stands-before : (x p i : ℕ) → i ≤ n → p ≡ positionOf ids first next n x → ltb p i ≡ among x (map key (table f i))
   stands-before x p i h q =
-      let r : p ≡ indexOf x (map key (table f n)) = q (map key (table f n)) (rw keys-long short) e (sym keys-long) in
+      let r : p ≡ indexOf x (map key (table f n)) = q ∙ position-found (map key (table f n)) (rw keys-long short) ids first next e n x (sym keys-long) in
       rw (r, ← keys-front i h) (among-front x (map key (table f n)) i (rw keys-long h))
 
 pub bus-faults : (before : List Bus) (b read : Bus) (twice : Bool) → read ≡ b → twice ≡ among (read .id) (map busId before)

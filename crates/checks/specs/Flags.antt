@@ -1,15 +1,13 @@
 -- A flag for each number below a size: whether the number is among those met so far.
-use mathlib.Core.Path.{_≡_, refl, sym, _∙_}
+use mathlib.Core.Path.{_≡_, refl, sym}
 use mathlib.Core.Bool.{Bool, true, false, _||_, or-true, or-false}
 use mathlib.Core.List.{List, [], _∷_, _++_}
 use Prim.Native.Nat.{ℕ, _<_}
-use native.Mathlib.Decide.{ℕ-discrete}
 use lib.Dec.{eqb}
-use lib.ListN.{length, getD, set, replicate, length-set, length-replicate, getD-replicate}
-use lib.Seq.{getD-set-same, getD-set-other}
+use lib.ListN.{getD, set, replicate, length-replicate, getD-replicate}
 use borrow.Author.Tests.{eq-eqb, ne-eqb}
 use Rattle.numbers.specs.UpTo.{table}
-use Rattle.numbers.specs.TableLaws.{length-table, getD-table, as-table}
+use Rattle.numbers.specs.TableLaws.{getD-table, as-table, table-set}
 use Rattle.network.specs.Faults.{among}
 
 unfoldable pub flags : ℕ → List ℕ → List Bool
@@ -24,10 +22,6 @@ among-more y x (z ∷ xs) = rw (among-more y x xs) (go (eqb y z))
     go true = refl
     go false = refl
 
-pub length-flags : (size : ℕ) (xs : List ℕ) → length (flags size xs) ≡ size
-unfolding flags
-length-flags size xs = length-table _ size
-
 pub flag-at : (size x : ℕ) (xs : List ℕ) → x < size → getD (flags size xs) x false ≡ among x xs
 unfolding flags
 flag-at size x xs h = getD-table _ size x false h
@@ -39,10 +33,5 @@ no-flags size = as-table _ size false (replicate size false) (length-replicate s
 -- one number more
 pub set-flag : (size x : ℕ) (xs : List ℕ) → x < size → set (flags size xs) x true ≡ flags size (xs ++ (x ∷ []))
 unfolding flags
-set-flag size x xs h = as-table _ size false (set (flags size xs) x true) (length-set (flags size xs) x true ∙ length-flags size xs) (λ i k. go i k (ℕ-discrete i x))
-  where
-    go : (i : ℕ) → i < size → Dec (i ≡ x) → getD (set (flags size xs) x true) i false ≡ among i (xs ++ (x ∷ []))
-    go i k (yes e) =
-        rw (e, among-more x x xs, eq-eqb x x refl, or-true) (getD-set-same (flags size xs) x true false (rw (length-flags size xs) h))
-    go i k (no n) =
-        getD-set-other (flags size xs) x i true false n ∙ flag-at size i xs k ∙ sym (rw (among-more i x xs, ne-eqb i x n, or-false))
+set-flag size x xs h =
+    table-set _ _ size x true h (rw (among-more x x xs, eq-eqb x x refl, or-true)) (λ i k n. sym (rw (among-more i x xs, ne-eqb i x n, or-false)))

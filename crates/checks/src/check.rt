@@ -125,7 +125,7 @@ fn no_switches() -> [bool; 512]
 fn has_flag(flags: &[bool; 512], at: usize) -> bool
     ensures { λ r. ⌜ r ≡ (ltb at 512 && getD (now (flags .entry)) at false) ⌝ }
 {
-    if at < 512 {
+    if at < PowerNetwork::MAX_BRANCHES as usize {
         return flags[at];
     }
     false

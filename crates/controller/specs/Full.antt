@@ -10,7 +10,7 @@ use Rattle.network.specs.Answers.{accepted}
 use Rattle.network.specs.Records.{Network}
 use Rattle.states.specs.Switches.{State, GoodState}
 use Rattle.frames.specs.Acceptable.{Acceptable}
-use Rattle.frames.specs.Claim.{claim}
+use Rattle.frames.specs.Proof.{claim}
 use Rattle.frames.specs.Text.{readText}
 use Rattle.printing.specs.Printed.{truthByte}
 use Rattle.radiality.specs.Feeder.{radialIn}

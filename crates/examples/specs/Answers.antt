@@ -9,7 +9,7 @@ use Rattle.numbers.specs.Choose.{those, least, firstSome, firstOf, indexOf, _or
 use Rattle.states.specs.Live.{live, openOn, baseState}
 use Rattle.lines.specs.Hex.{digit, digits, writeFields}
 use Rattle.lines.specs.Frames.{frameText}
-use Rattle.frames.specs.Claim.{claim}
+use Rattle.frames.specs.Proof.{passed}
 use Rattle.examples.specs.Texts.{line, triangleText, triangle-read, table-rows}
 use Rattle.examples.specs.Feeders.{triangle}
 use Rattle.printing.specs.Printed.{answerText, operationText, pairText, refusalText}
@@ -24,7 +24,7 @@ use Rattle.exchange.specs.Exchange.{loopOf, sectionOf, swapWith, trial, improve
 use Rattle.searches.specs.Results.{reduction, resultBy}
 use Rattle.searches.specs.Rounds.{untilEnded}
 use Rattle.reconfiguration.specs.Solve.{bestBy, best, result}
-use Rattle.reconfiguration.specs.Answers.{search-has-plan}
+use Rattle.reconfiguration.specs.AnswersHavePlans.{solve-has-plan}
 use Rattle.operations.specs.Operations.{operationTo, operations, operationsText}
 use Rattle.answers.specs.Printing.{resultText, operationLines, planLines, moveLines, networkText, printed}
 
@@ -41,11 +41,10 @@ refusal-printed : printed (48 ∷ 71 ∷ []) ≡ line 8 0x8F010001
 unfolding printed refusalText frameText writeFields digits digit
 refusal-printed = rw (table-rows .0)
 
--- so the hypotheses of `search-has-plan` can be met
+-- so the hypotheses of `solve-has-plan` can be met
 triangle-radial : radialIn triangle (baseState triangle) ≡ true
 unfolding radialIn feeder position radial walk walkBy turn enterAll enter reached neighbours far baseState live openOn indexOf count upTo
 triangle-radial = refl
 
 triangle-has-plan : SwitchingPlan triangle (baseState triangle) (best triangle .state)
-unfolding best
-triangle-has-plan = search-has-plan triangle (triangle .algorithm) (claim .passed triangleText triangle triangle-read) triangle-radial
+triangle-has-plan = solve-has-plan triangle (passed triangleText triangle triangle-read) triangle-radial

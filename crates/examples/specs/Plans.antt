@@ -30,7 +30,7 @@ use Rattle.radiality.specs.Feeder.{position, feeder, endsPath, radialIn}
 use Rattle.changes.specs.Change.{checkRadial, differing, lockedDifference, lockedDifferences, checkLocked, checkPlan}
 use Rattle.plan.specs.Plan.{closings, opening, exchanged, pairsFrom, pairs, switchOn, plan, planText, planned}
 use Rattle.plan.specs.Proof.{demand3}
-use Rattle.plan.specs.Claim.{closed, carriedOut, Step, forward, back, found, taken, run, after, SwitchingPlan}
+use Rattle.plan.specs.Claim.{afterClosing, carriedOut, Step, forward, back, found, taken, run, after, SwitchingPlan}
 use Rattle.examples.specs.Feeders.{bus, branch, section, tie, records, buses, branches, triangle}
 
 abbrev outOfService : Branch → Branch
@@ -77,7 +77,7 @@ computed = (refl, refl, refl, refl, refl, refl, refl)
 
 -- forward, forward (all done: none found), back, back (none done: none found), forward
 triangle-steps : after triangle present wanted (forward ∷ forward ∷ back ∷ back ∷ forward ∷ []) ≡ record { state = wanted; done = 1 }
-unfolding indexOf after run taken found carriedOut closed
+unfolding indexOf after run taken found carriedOut afterClosing
 triangle-steps = rw (computed .2)
 
 -- so the hypothesis of demand 3 can be met

@@ -8,7 +8,6 @@ use lib.Ieee.{Float, binary64, fits, toBits}
 use Rattle.network.specs.declared.bus.Bus.{Bus}
 use Rattle.network.specs.declared.branch.Branch.{Branch}
 use Rattle.network.specs.declared.switch.Switch.{Switch}
-use Rattle.network.specs.declared.topology.PowerNetwork.{PowerNetwork}
 use Rattle.network.specs.Records.{Network}
 use Rattle.network.specs.Faults.{Head, methodByte}
 use Rattle.network.specs.Check as check
@@ -82,15 +81,6 @@ pub record Writable (N : Network) : Type 0 where
   pub bus-room : Each BusRoom (N .buses)
   pub branch-room : Each BranchRoom (N .branches)
   pub switch-room : Each SwitchRoom (N .switches)
-
--- the fields of a value handed over, and those of the records in its arrays, are u16 and f64, their types in the code. So are those of every value of the code (`TypedValues.value-typed`)
-pub record Typed (n : PowerNetwork) : Type 0 where
-  pub counts : Short (n .«bus_count») × Short (n .«branch_count») × Short (n .«switch_count»)
-  pub base : Held (n .«base_mva»)
-  pub iterations : Short (n .«max_iterations»)
-  pub buses : Each BusRoom (n .buses)
-  pub branches : Each BranchRoom (n .branches)
-  pub switches : Each SwitchRoom (n .switches)
 
 -- ---- a text that is acceptable with these records
 pub record Acceptable (t : List ℕ) (N : Network) : Type 0 where

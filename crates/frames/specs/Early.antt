@@ -7,13 +7,12 @@ use native.Mathlib.Omega.{arith}
 use lib.Dec.{eqb}
 use lib.ListN.{length, take}
 use borrow.Author.Tests.{lt-ltb}
-use Rattle.network.specs.Answers.{Answer, accepted, refused, _andThen_, Fault, judge}
+use Rattle.network.specs.Answers.{Answer, accepted, refused, _andThen_, Fault, judge, Judgement}
 use Rattle.lines.specs.Hex.{Fields, total}
 use Rattle.lines.specs.Lines.{Line, put, cut, lineFaults}
 use Rattle.lines.specs.Frames.{Frame, layout}
 use Rattle.record_lines.specs.Kinds.{head, bus, branch, switch, isFrame, fieldsOf, headFrom, busFrom, branchFrom, switchFrom, headLineFaults, busLineFaults, branchLineFaults, switchLineFaults, Reader, readOne, without}
 use Rattle.frames.specs.Text.{follow, pure, readRun, readEnd, readLines, readText}
-use Rattle.lines.specs.JudgeLaws.{Verdict}
 use Rattle.frames.specs.LineLaws.{Sound, head-sound, bus-sound, branch-sound, switch-sound, line-kept, line-long}
 use Rattle.frames.specs.ReadLaws.{head-passed}
 
@@ -80,7 +79,7 @@ long-refused b l fs p n x h k = rw (lt-ltb 36 (length (l .chars)) (omega arith))
 both-long : {A : Type 0} (k p : ℕ) (x y : Answer (A × List Line)) → x ≡ refused 2 p → y ≡ refused 2 p → Alike k x y
 both-long k p x y e f = rw (e, f) both-refused
 
-then-alike : {A : Type 0} (v : Verdict) (k j : ℕ) (a : A) (ls ms : List Line) → (v ≡ accepted tt → k ≤ j) → Same j ls ms
+then-alike : {A : Type 0} (v : Judgement) (k j : ℕ) (a : A) (ls ms : List Line) → (v ≡ accepted tt → k ≤ j) → Same j ls ms
     → Alike k (v andThen accepted (a, ls)) (v andThen accepted (a, ms))
 unfolding _andThen_
 then-alike (accepted u) k j a ls ms h t = both-accepted j (h refl) t

@@ -8,7 +8,8 @@ use lib.ListN.{take, drop}
 use Rattle.network.specs.declared.bus.Bus.{Bus}
 use Rattle.network.specs.declared.branch.Branch.{Branch}
 use Rattle.network.specs.declared.switch.Switch.{Switch}
-use Rattle.network.specs.Answers.{Answer, accepted, refused, _andThen_, Fault, judge}
+use Rattle.network.specs.Answers.{Answer, accepted, refused, _andThen_, Fault, judge, Judgement}
+use Rattle.network.specs.AnswerLaws.{then-assoc}
 use Rattle.network.specs.Records.{Network}
 use Rattle.network.specs.Faults.{Head}
 use Rattle.lines.specs.Hex.{Fields}
@@ -16,12 +17,11 @@ use Rattle.lines.specs.Lines.{Line, cut, lineFaults}
 use Rattle.lines.specs.Frames.{Frame}
 use Rattle.record_lines.specs.Kinds.{head, bus, branch, switch, isFrame, fieldsOf, headFrom, busFrom, branchFrom, switchFrom, headLineFaults, busLineFaults, branchLineFaults, switchLineFaults, readOne, without}
 use Rattle.frames.specs.Text.{follow, _>>=_, pure, readRun, readEnd, readLines, readText}
-use Rattle.lines.specs.JudgeLaws.{Verdict}
 use Rattle.record_lines.specs.VerdictLaws.{without-then}
-use Rattle.frames.specs.ReaderLaws.{then-then, go-on, network, behindSwitches, behindBranches, behindBuses, behindHead, lines-read}
-use Rattle.frames.specs.Conditions.{kindConditions, surplusConditions, busesOf, bodyConditions, conditions, judgeLines, verdictOf}
+use Rattle.frames.specs.ReaderLaws.{go-on, network, behindSwitches, behindBranches, behindBuses, behindHead, lines-read}
+use Rattle.frames.specs.Conditions.{kindConditions, surplusConditions, busesOf, bodyConditions, conditions, judgeLines, verdictOf, LineConditions}
 
-verdict-then : {A : Type 0} (v : Verdict) (a : A) → verdictOf (v andThen accepted a) ≡ v
+verdict-then : {A : Type 0} (v : Judgement) (a : A) → verdictOf (v andThen accepted a) ≡ v
 unfolding verdictOf _andThen_
 verdict-then (accepted u) a = refl
 verdict-then (refused n p) a = refl
@@ -32,32 +32,32 @@ module _ {A : Type 0} (F : Frame) (make : Fields (F .widths) → A) (faults : Li
 
   run-judged : (n : ℕ) (before : List A) (p : ℕ) (ls : List Line)
       → readRun F make faults before n p ls ≡ (judgeLines p (kindConditions F make faults before n ls) andThen accepted (map made (take n ls), drop n ls))
-  unfolding readRun readOne kindConditions judgeLines judge _andThen_ follow pure
+  unfolding readRun readOne lineFaults kindConditions judgeLines judge _andThen_ follow pure
   run-judged zero before p ls = refl
   run-judged (suc n) before p [] = refl
   run-judged (suc n) before p (l ∷ ls) =
       let c : List Fault = lineFaults (isFrame F l) l ++ faults before (fieldsOf F l) in
-      let v : Verdict = judgeLines (suc p) (kindConditions F make faults (before ++ (made l ∷ [])) n ls) in
+      let v : Judgement = judgeLines (suc p) (kindConditions F make faults (before ++ (made l ∷ [])) n ls) in
       go-on (judge c p) (made l, ls) (λ a. readRun F make faults (before ++ (a ∷ [])) n (suc p) >>= λ rest. pure (a ∷ rest)) refl
       ∙ ap (λ x. judge c p andThen x) (go-on v (map made (take n ls), drop n ls) (λ rest. pure (made l ∷ rest)) (run-judged n (before ++ (made l ∷ [])) (suc p) ls))
-      ∙ then-then (judge c p) v (accepted (made l ∷ map made (take n ls), drop n ls))
+      ∙ then-assoc (judge c p) v (accepted (made l ∷ map made (take n ls), drop n ls))
 
-  run-append : (n : ℕ) (before : List A) (p : ℕ) (ls : List Line) (rest : List (List Fault))
+  run-append : (n : ℕ) (before : List A) (p : ℕ) (ls : List Line) (rest : List LineConditions)
       → judgeLines p (kindConditions F make faults before n ls ++ rest) ≡ (judgeLines p (kindConditions F make faults before n ls) andThen judgeLines (p + n) rest)
-  unfolding kindConditions judgeLines judge _andThen_
+  unfolding lineFaults kindConditions judgeLines judge _andThen_
   run-append zero before p ls rest = ap (λ (q : ℕ). judgeLines q rest) (omega arith)
   run-append (suc n) before p [] rest = refl
   run-append (suc n) before p (l ∷ ls) rest =
       let c : List Fault = lineFaults (isFrame F l) l ++ faults before (fieldsOf F l) in
-      let v : Verdict = judgeLines (suc p) (kindConditions F make faults (before ++ (made l ∷ [])) n ls) in
+      let v : Judgement = judgeLines (suc p) (kindConditions F make faults (before ++ (made l ∷ [])) n ls) in
       let e : suc p + n ≡ p + suc n = omega arith in
       ap (λ x. judge c p andThen x) (run-append n (before ++ (made l ∷ [])) (suc p) ls rest ∙ ap (λ (q : ℕ). v andThen judgeLines q rest) e)
-      ∙ then-then (judge c p) v (judgeLines (p + suc n) rest)
+      ∙ then-assoc (judge c p) v (judgeLines (p + suc n) rest)
 
 end-judged : (p : ℕ) (ls : List Line) → readEnd p ls ≡ (judgeLines p (surplusConditions ls) andThen accepted (tt {0}, drop 1 ls))
-unfolding readEnd surplusConditions judgeLines _andThen_
+unfolding readEnd lineFaults surplusConditions judgeLines _andThen_
 end-judged p [] = refl
-end-judged p (l ∷ ls) = then-then (judge (lineFaults false l) p) (accepted tt) (accepted (tt {0}, ls))
+end-judged p (l ∷ ls) = then-assoc (judge (lineFaults false l) p) (accepted tt) (accepted (tt {0}, ls))
 
 body-judged : (h : Head) (ls : List Line) → (r : Network × List Line) × (behindHead h ls ≡ (judgeLines 2 (bodyConditions h ls) andThen accepted r))
 unfolding behindHead behindBuses behindBranches behindSwitches bodyConditions busesOf pure
@@ -73,14 +73,14 @@ body-judged h ls =
     let p₂ : ℕ = 2 + h .buses in
     let p₃ : ℕ = p₂ + h .branches in
     let p₄ : ℕ = p₃ + h .switches in
-    let c₁ : List (List Fault) = kindConditions bus busFrom busLineFaults [] (h .buses) ls in
-    let c₂ : List (List Fault) = kindConditions branch branchFrom (λ before. branchLineFaults buses) [] (h .branches) l₁ in
-    let c₃ : List (List Fault) = kindConditions switch switchFrom (switchLineFaults h) [] (h .switches) l₂ in
-    let c₄ : List (List Fault) = surplusConditions l₃ in
-    let v₁ : Verdict = judgeLines 2 c₁ in
-    let v₂ : Verdict = judgeLines p₂ c₂ in
-    let v₃ : Verdict = judgeLines p₃ c₃ in
-    let v₄ : Verdict = judgeLines p₄ c₄ in
+    let c₁ : List LineConditions = kindConditions bus busFrom busLineFaults [] (h .buses) ls in
+    let c₂ : List LineConditions = kindConditions branch branchFrom (λ before. branchLineFaults buses) [] (h .branches) l₁ in
+    let c₃ : List LineConditions = kindConditions switch switchFrom (switchLineFaults h) [] (h .switches) l₂ in
+    let c₄ : List LineConditions = surplusConditions l₃ in
+    let v₁ : Judgement = judgeLines 2 c₁ in
+    let v₂ : Judgement = judgeLines p₂ c₂ in
+    let v₃ : Judgement = judgeLines p₃ c₃ in
+    let v₄ : Judgement = judgeLines p₄ c₄ in
     let read : behindHead h ls ≡ (v₁ andThen (v₂ andThen (v₃ andThen (v₄ andThen end)))) =
     go-on v₁ (buses, l₁) (behindBuses h) (run-judged bus busFrom busLineFaults (h .buses) [] 2 ls)
     ∙ ap (λ x. v₁ andThen x) (go-on v₂ (branches, l₂) (behindBranches h buses) (run-judged branch branchFrom (λ before. branchLineFaults buses) (h .branches) [] p₂ l₁)
@@ -92,21 +92,21 @@ body-judged h ls =
     ∙ ap (λ x. v₂ andThen x) (run-append switch switchFrom (switchLineFaults h) (h .switches) [] p₃ l₂ c₄)) in (
       (N, drop 1 l₃),
       read
-          ∙ ap (λ x. v₁ andThen (v₂ andThen x)) (then-then v₃ v₄ end)
-          ∙ ap (λ x. v₁ andThen x) (then-then v₂ (v₃ andThen v₄) end)
-          ∙ then-then v₁ (v₂ andThen (v₃ andThen v₄)) end
+          ∙ ap (λ x. v₁ andThen (v₂ andThen x)) (then-assoc v₃ v₄ end)
+          ∙ ap (λ x. v₁ andThen x) (then-assoc v₂ (v₃ andThen v₄) end)
+          ∙ then-assoc v₁ (v₂ andThen (v₃ andThen v₄)) end
           ∙ ap (λ x. x andThen end) (sym judged),
     )
 
 lines-judged : (ls : List Line) → verdictOf (without (readLines ls)) ≡ judgeLines 1 (conditions ls)
-unfolding readLines readOne conditions judgeLines judge follow without verdictOf _andThen_
+unfolding readLines readOne lineFaults conditions judgeLines judge follow without verdictOf _andThen_
 lines-judged [] = refl
 lines-judged (l ∷ ls) =
     let h : Head = headFrom (fieldsOf head l) in
-    let v : Verdict = judge (lineFaults (isFrame head l) l ++ headLineFaults (fieldsOf head l)) 1 in
+    let v : Judgement = judge (lineFaults (isFrame head l) l ++ headLineFaults (fieldsOf head l)) 1 in
     let b = body-judged h ls in
-    let w : Verdict = judgeLines 2 (bodyConditions h ls) in
-    ap (λ x. verdictOf (without x)) (lines-read (l ∷ ls) ∙ go-on v (h, ls) behindHead refl ∙ ap (λ x. v andThen x) (b .1) ∙ then-then v w (accepted (b .0)))
+    let w : Judgement = judgeLines 2 (bodyConditions h ls) in
+    ap (λ x. verdictOf (without x)) (lines-read (l ∷ ls) ∙ go-on v (h, ls) behindHead refl ∙ ap (λ x. v andThen x) (b .1) ∙ then-assoc v w (accepted (b .0)))
     ∙ ap verdictOf (without-then (v andThen w) (b .0 .0) (b .0 .1))
     ∙ verdict-then (v andThen w) (b .0 .0)
 

@@ -8,7 +8,8 @@ use Rattle.network.specs.declared.branch.Branch.{Branch}
 use Rattle.network.specs.declared.switch.Switch.{Switch}
 use Rattle.network.specs.declared.topology.PowerNetwork.{PowerNetwork}
 use Rattle.network.specs.Answers.{answerOf}
-use Rattle.network.specs.Records.{noBus, noBranch, noSwitch, padded, networkOf}
+use Rattle.network.specs.Records.{noBus, noBranch, noSwitch, networkOf}
+use Rattle.numbers.specs.Arrays.{padded}
 use Rattle.frames.specs.declared.pass.Pass as Code
 use Rattle.lines.specs.Lines.{cut}
 use Rattle.frames.specs.Passes.{Pass, Collected}

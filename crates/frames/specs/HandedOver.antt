@@ -1,4 +1,4 @@
--- Records handed over: what a value's fields say of the records that it lists, with nothing beyond its arrays.
+-- Records handed over: what a value's fields say of the records that it lists. Beyond its arrays these are zeros.
 use mathlib.Core.List.{List, [], _∷_}
 use Prim.Native.Nat.{ℕ, zero, suc}
 use lib.Dec.{lit<}
@@ -11,8 +11,17 @@ use Rattle.network.specs.Records.{noBus, noBranch, noSwitch, recordsOf}
 use Rattle.network.specs.Check.{headOf}
 use Rattle.network.specs.Inside.{Each}
 use Rattle.network.specs.Positions.{each-anywhere}
-use Rattle.frames.specs.Acceptable.{BusRoom, BranchRoom, SwitchRoom, Writable, Typed}
+use Rattle.frames.specs.Acceptable.{BusRoom, BranchRoom, SwitchRoom, Writable, Short, Held}
 use Rattle.frames.specs.ReadLaws.{each-append}
+
+-- the fields of a value handed over, and those of the records in its arrays, are u16 and f64, their types in the code. So are those of every value of the code (`TypedValues.value-typed`)
+pub record Typed (n : PowerNetwork) : Type 0 where
+  pub counts : Short (n .«bus_count») × Short (n .«branch_count») × Short (n .«switch_count»)
+  pub base : Held (n .«base_mva»)
+  pub iterations : Short (n .«max_iterations»)
+  pub buses : Each BusRoom (n .buses)
+  pub branches : Each BranchRoom (n .branches)
+  pub switches : Each SwitchRoom (n .switches)
 
 -- where nothing is listed stand zeros
 no-bus-room : BusRoom noBus

@@ -14,6 +14,7 @@ pub mod LowerNumber
 pub mod Steps
 pub mod Split
 pub mod Claim
+pub mod Proof
 pub mod Reading
 pub mod ReadingLaws
 pub mod FrameReads

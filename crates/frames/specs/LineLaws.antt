@@ -7,12 +7,13 @@ use lib.Dec.{ltb, eqb, lit<, lit≤}
 use lib.ListN.{length}
 use borrow.Author.Tests.{le-ltb, eq-eqb, eqb-true}
 use Rattle.numbers.specs.Every.{every}
+use Rattle.numbers.specs.Tests.{both}
 use Rattle.network.specs.Answers.{accepted, Fault, judge}
 use Rattle.lines.specs.Hex.{isDigit, Fields, readFields, writeFields, Fit, total}
 use Rattle.lines.specs.HexLaws.{length-fields, every-fields, fields-kept, chars-kept}
 use Rattle.lines.specs.Lines.{Line, lineFaults}
-use Rattle.lines.specs.CutLaws.{Plain}
-use Rattle.lines.specs.JudgeLaws.{both, judge-past, line-passed}
+use Rattle.lines.specs.CutLaws.{DigitLine}
+use Rattle.lines.specs.JudgeLaws.{judge-past, line-passed}
 use Rattle.lines.specs.Frames.{Frame, layout}
 use Rattle.record_lines.specs.Kinds.{head, bus, branch, switch, isFrame, fieldsOf}
 
@@ -39,9 +40,9 @@ unfoldable pub lineOf : (F : Frame) → Fields (F .widths) → Line
 lineOf F f = record { chars = writeFields (layout F) (F .kind, f); ended = true }
 
 module _ (F : Frame) (s : Sound F) where
-  pub line-plain : (f : Fields (F .widths)) → Fit (F .widths) f → Plain (lineOf F f)
+  pub line-digits : (f : Fields (F .widths)) → Fit (F .widths) f → DigitLine (lineOf F f)
   unfolding lineOf
-  line-plain f h = record { is-ended = refl; is-digits = every-fields (layout F) (F .kind, f) (s .byte, h) }
+  line-digits f h = record { is-ended = refl; is-digits = every-fields (layout F) (F .kind, f) (s .byte, h) }
 
   pub line-long : (f : Fields (F .widths)) → length (lineOf F f .chars) ≡ total (layout F)
   unfolding lineOf
@@ -56,7 +57,7 @@ module _ (F : Frame) (s : Sound F) where
   fields-line f h = ap (λ (g : Fields (layout F)). g .1) (line-fields f h)
 
   line-is-frame : (f : Fields (F .widths)) → Fit (F .widths) f → isFrame F (lineOf F f) ≡ true
-  unfolding isFrame
+  unfolding isFrame readFields
   line-is-frame f h = rw (eq-eqb _ _ (line-long f), eq-eqb _ _ (ap (λ (g : Fields (layout F)). g .0) (line-fields f h)))
 
   -- the line that fields make meets none of the conditions of lines
@@ -64,7 +65,7 @@ module _ (F : Frame) (s : Sound F) where
   unfolding lineFaults
   line-clear f h fs p =
       let l = lineOf F f in
-      let pl = line-plain f h in
+      let pl = line-digits f h in
       let long = line-long f in
       let b1 : ltb 36 (length (l .chars)) ≡ false = rw long (le-ltb 36 _ (s .short)) in
       let b2 : (not (l .ended) || eqb (length (l .chars) % 2) 1 || not (every isDigit (l .chars))) ≡ false = rw (pl .is-ended, long, s .even, pl .is-digits) in
@@ -74,7 +75,7 @@ module _ (F : Frame) (s : Sound F) where
   -- a line that meets none is the line of its fields
   pub line-kept : (l : Line) (fs : List Fault) (p : ℕ) → judge (lineFaults (isFrame F l) l ++ fs) p ≡ accepted tt
       → (l ≡ lineOf F (fieldsOf F l)) × Fit (F .widths) (fieldsOf F l) × (judge fs p ≡ accepted tt)
-  unfolding isFrame fieldsOf lineOf
+  unfolding isFrame fieldsOf lineOf readFields
   line-kept l fs p e =
       let h = line-passed (isFrame F l) l fs p e in
       let read : Fields (layout F) = readFields (layout F) (l .chars) in

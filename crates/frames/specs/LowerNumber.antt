@@ -1,5 +1,5 @@
 -- Inside a line the lower number wins: behind the condition on lines over 36 characters, which comes first, each line's conditions stand by rising number.
-use mathlib.Core.Path.{_≡_, sym, ap}
+use mathlib.Core.Path.{_≡_, sym}
 use mathlib.Core.Bool.{Bool, true, false}
 use mathlib.Core.List.{List, [], _∷_, _++_}
 use Prim.Native.Nat.{ℕ, zero, suc, _≤_}
@@ -9,15 +9,15 @@ use lib.Dec.{lit≤}
 use lib.ListN.{drop}
 use Rattle.network.specs.declared.bus.Bus.{Bus}
 use Rattle.network.specs.declared.switch.Switch.{Switch}
-use Rattle.network.specs.Answers.{Answer, accepted, refused, Fault, _if_, judge}
+use Rattle.network.specs.Answers.{Fault, _if_, judge}
+use Rattle.network.specs.AnswerLaws.{no-refusal}
 use Rattle.network.specs.Faults.{Head, headFaults, busFaults, branchFaults, switchFaults}
 use Rattle.network.specs.Inside.{Each}
 use Rattle.lines.specs.Hex.{Fields}
-use Rattle.lines.specs.Lines.{Line, cut, lineFaults}
+use Rattle.lines.specs.Lines.{Line, cut}
 use Rattle.lines.specs.Frames.{Frame}
 use Rattle.record_lines.specs.Kinds.{head, bus, branch, switch, isFrame, fieldsOf, headFrom, busFrom, branchFrom, switchFrom, headLineFaults, busLineFaults, branchLineFaults, switchLineFaults}
-use Rattle.frames.specs.Conditions.{kindConditions, surplusConditions, busesOf, bodyConditions, conditions, met, LowestWins}
-use Rattle.lines.specs.JudgeLaws.{no-refusal}
+use Rattle.frames.specs.Conditions.{kindConditions, surplusConditions, busesOf, bodyConditions, conditions, met, LowestWins, LineConditions, lineConditions}
 
 -- ---- conditions by rising number
 abbrev Rising : List Fault → Type 0
@@ -35,46 +35,42 @@ above k n b [] h r = tt
 above k n b ((m if true) ∷ fs) h r = let l = r .0 in let g : k ≤ m = omega arith in (g, above k m true fs g (r .1))
 above k n b ((m if false) ∷ fs) h r = let l = r .0 in above k m false fs (omega arith) (r .1)
 
-number-of : ℕ → Answer (Unit {0}) → ℕ
-number-of d (accepted u) = d
-number-of d (refused n p) = n
-
 rising-lowest : (fs : List Fault) → Rising fs → LowestWins fs
-unfolding judge met number-of
+unfolding judge met
 rising-lowest [] r n p e = no-refusal (sym e)
-rising-lowest ((m if true) ∷ fs) r n p e = let q : m ≡ n = ap (number-of n) e in (le-of-eq (sym q), above n m true fs (le-of-eq (sym q)) r)
+rising-lowest ((m if true) ∷ fs) r n p e = let q : m ≡ n = cc in (le-of-eq (sym q), above n m true fs (le-of-eq (sym q)) r)
 rising-lowest ((m if false) ∷ fs) r n p e = rising-lowest fs (tail-rising m false fs r) n p e
 
 -- ---- behind the condition on lines over 36 characters
-abbrev InOrder : List Fault → Type 0
-InOrder c = Rising (drop 1 c)
+abbrev InOrder : LineConditions → Type 0
+InOrder c = Rising (c .others)
 
 module _ {A : Type 0} (F : Frame) (make : Fields (F .widths) → A) (faults : List A → Fields (F .widths) → List Fault)
-    (in-order : (l : Line) (before : List A) → InOrder (lineFaults (isFrame F l) l ++ faults before (fieldsOf F l))) where
-  kind-in-order : (before : List A) (n : ℕ) (ls : List Line) (rest : List (List Fault)) → Each InOrder rest → Each InOrder (kindConditions F make faults before n ls ++ rest)
+    (in-order : (l : Line) (before : List A) → InOrder (lineConditions (isFrame F l) l (faults before (fieldsOf F l)))) where
+  kind-in-order : (before : List A) (n : ℕ) (ls : List Line) (rest : List LineConditions) → Each InOrder rest → Each InOrder (kindConditions F make faults before n ls ++ rest)
   unfolding kindConditions
   kind-in-order before zero ls rest h = h
-  kind-in-order before (suc n) [] rest h = (tt, h)
+  kind-in-order before (suc n) [] rest h = (tt, kind-in-order before n [] rest h)
   kind-in-order before (suc n) (l ∷ ls) rest h = (in-order l before, kind-in-order (before ++ (make (fieldsOf F l) ∷ [])) n ls rest h)
 
-head-in-order : (l : Line) → InOrder (lineFaults (isFrame head l) l ++ headLineFaults (fieldsOf head l))
-unfolding lineFaults headFaults
+head-in-order : (l : Line) → InOrder (lineConditions (isFrame head l) l (headLineFaults (fieldsOf head l)))
+unfolding headFaults
 head-in-order l = (lit≤ tt, (lit≤ tt, (lit≤ tt, (lit≤ tt, (lit≤ tt, tt)))))
 
-bus-in-order : (l : Line) (before : List Bus) → InOrder (lineFaults (isFrame bus l) l ++ busLineFaults before (fieldsOf bus l))
-unfolding lineFaults busFaults
+bus-in-order : (l : Line) (before : List Bus) → InOrder (lineConditions (isFrame bus l) l (busLineFaults before (fieldsOf bus l)))
+unfolding busFaults
 bus-in-order l before = (lit≤ tt, (lit≤ tt, (lit≤ tt, tt)))
 
-branch-in-order : (buses : List Bus) (l : Line) → InOrder (lineFaults (isFrame branch l) l ++ branchLineFaults buses (fieldsOf branch l))
-unfolding lineFaults branchFaults
+branch-in-order : (buses : List Bus) (l : Line) → InOrder (lineConditions (isFrame branch l) l (branchLineFaults buses (fieldsOf branch l)))
+unfolding branchFaults
 branch-in-order buses l = (lit≤ tt, (lit≤ tt, (lit≤ tt, (lit≤ tt, tt))))
 
-switch-in-order : (h : Head) (l : Line) (before : List Switch) → InOrder (lineFaults (isFrame switch l) l ++ switchLineFaults h before (fieldsOf switch l))
-unfolding lineFaults switchFaults
+switch-in-order : (h : Head) (l : Line) (before : List Switch) → InOrder (lineConditions (isFrame switch l) l (switchLineFaults h before (fieldsOf switch l)))
+unfolding switchFaults
 switch-in-order h l before = (lit≤ tt, (lit≤ tt, (lit≤ tt, (lit≤ tt, (lit≤ tt, (lit≤ tt, tt))))))
 
 surplus-in-order : (ls : List Line) → Each InOrder (surplusConditions ls)
-unfolding surplusConditions lineFaults
+unfolding surplusConditions
 surplus-in-order [] = tt
 surplus-in-order (l ∷ ls) = ((lit≤ tt, tt), tt)
 
@@ -94,9 +90,9 @@ unfolding conditions
 all-in-order [] = (tt, tt)
 all-in-order (l ∷ ls) = (head-in-order l, body-in-order (headFrom (fieldsOf head l)) ls)
 
-each-lowest : (cs : List (List Fault)) → Each InOrder cs → Each (λ c. LowestWins (drop 1 c)) cs
+each-lowest : (cs : List LineConditions) → Each InOrder cs → Each (λ c. LowestWins (c .others)) cs
 each-lowest [] h = tt
-each-lowest (c ∷ cs) h = (rising-lowest (drop 1 c) (h .0), each-lowest cs (h .1))
+each-lowest (c ∷ cs) h = (rising-lowest (c .others) (h .0), each-lowest cs (h .1))
 
-pub lowest-wins : (t : List ℕ) → Each (λ c. LowestWins (drop 1 c)) (conditions (cut t))
+pub lowest-wins : (t : List ℕ) → Each (λ c. LowestWins (c .others)) (conditions (cut t))
 lowest-wins t = each-lowest (conditions (cut t)) (all-in-order (cut t))

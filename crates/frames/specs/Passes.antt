@@ -8,7 +8,7 @@ use Rattle.numbers.specs.UpTo.{upTo}
 use Rattle.network.specs.declared.bus.Bus.{Bus}
 use Rattle.network.specs.declared.branch.Branch.{Branch}
 use Rattle.network.specs.declared.switch.Switch.{Switch}
-use Rattle.network.specs.Answers.{Answer, accepted, refused, _andThen_, Fault}
+use Rattle.network.specs.Answers.{Answer, accepted, refused, _andThen_, Fault, Judgement}
 use Rattle.network.specs.Records.{Network}
 use Rattle.network.specs.Faults.{Head}
 use Rattle.network.specs.Check.{checkRecords}
@@ -23,7 +23,7 @@ use Rattle.frames.specs.Text.{readEnd}
 pub record Pass (A : Type 0) : Type 0 where
   pub records : List A
   pub left : List Line
-  pub stopped : Answer (Unit {0})
+  pub stopped : Judgement
 
 abbrev pub going : {A : Type 0} → List A → List Line → Pass A
 going records left = record { records = records; left = left; stopped = accepted tt }
@@ -37,7 +37,7 @@ passOne records left (accepted r) = going (records ++ (r .0 ∷ [])) (r .1)
 passOne records left (refused n place) = halted records left n place
 
 -- a pass that has stopped stays as it is
-unfoldable pub passOn : {A : Type 0} → List A → List Line → Answer (Unit {0}) → Answer (A × List Line) → Pass A
+unfoldable pub passOn : {A : Type 0} → List A → List Line → Judgement → Answer (A × List Line) → Pass A
 passOn records left (accepted u) next = passOne records left next
 passOn records left (refused n place) next = halted records left n place
 
@@ -51,7 +51,7 @@ passRun F make bytes n place ls = upTo (λ pass i. passStep F make bytes (place 
 
 -- ---- the pass over a whole text
 -- a kind's lines are reached where all lines of the kind before were read
-unfoldable pub onward : {B : Type 0} → List Line → Answer (Unit {0}) → (List Line → Pass B) → Pass B
+unfoldable pub onward : {B : Type 0} → List Line → Judgement → (List Line → Pass B) → Pass B
 onward left (accepted u) more = more left
 onward left (refused n place) more = halted [] left n place
 
@@ -70,7 +70,7 @@ passSwitches h = passRun switch switchFrom switchBytes (h .switches) (2 + h .bus
 -- the records collected, and the refusal of the first line at fault, if there is one
 pub record Collected : Type 0 where
   pub network : Network
-  pub stopped : Answer (Unit {0})
+  pub stopped : Judgement
 
 unfoldable pub collect : Head → List Line → Collected
 collect h ls =

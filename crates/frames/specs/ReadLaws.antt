@@ -9,10 +9,10 @@ use borrow.Author.Tests.{not-false}
 use Rattle.network.specs.declared.bus.Bus.{Bus}
 use Rattle.network.specs.declared.branch.Branch.{Branch}
 use Rattle.network.specs.declared.switch.Switch.{Switch}
-use Rattle.network.specs.Answers.{Answer, accepted, _andThen_, Fault, judge}
+use Rattle.network.specs.Answers.{Answer, accepted, _andThen_, Fault, judge, Judgement}
 use Rattle.network.specs.Records.{Network}
 use Rattle.network.specs.Faults.{Head, okLoad, okR, headFaults, busFaults, branchFaults, switchFaults}
-use Rattle.network.specs.AnswerLaws.{judge-iff}
+use Rattle.network.specs.AnswerLaws.{judge-iff, no-refusal, then-assoc, same-value}
 use Rattle.network.specs.InsideLaws.{HeadInside, head-iff}
 use Rattle.network.specs.Check as check
 use Rattle.network.specs.Check.{checkRun, checkRecords}
@@ -23,11 +23,11 @@ use Rattle.lines.specs.Frames.{frameText}
 use Rattle.record_lines.specs.Kinds.{isFrame, fieldsOf, head, switch, headFrom, switchFrom, headLineFaults, switchLineFaults, readOne, without}
 use Rattle.frames.specs.Text.{follow, _>>=_, pure, readRun, readEnd, readLines, readText}
 use Rattle.frames.specs.Acceptable.{textOf, Writable}
-use Rattle.lines.specs.JudgeLaws.{Verdict, no-refusal, judge-passed, judge-append, line-passed}
+use Rattle.lines.specs.JudgeLaws.{judge-passed, judge-append, line-passed}
 use Rattle.record_lines.specs.VerdictLaws.{then-accepted, without-then}
-use Rattle.frames.specs.ReaderLaws.{same-value, then-then, go-on, follow-accepted, without-accepted, network, behindSwitches, behindBranches, behindBuses, behindHead, lines-read}
-use Rattle.lines.specs.CutLaws.{joined, joined-cut, cut-joined, Plain}
-use Rattle.frames.specs.LineLaws.{lineOf, line-plain, fields-line, line-clear, line-kept}
+use Rattle.frames.specs.ReaderLaws.{go-on, follow-accepted, without-accepted, network, behindSwitches, behindBranches, behindBuses, behindHead, lines-read}
+use Rattle.lines.specs.CutLaws.{joined, joined-cut, cut-joined, DigitLine, digit-lines}
+use Rattle.frames.specs.LineLaws.{lineOf, line-digits, fields-line, line-clear, line-kept}
 use Rattle.frames.specs.RecordLaws.{Kind, headKind, busKind, branchKind, switchKind}
 
 -- the line of a record
@@ -76,7 +76,7 @@ module _ {A : Type 0} (K : Kind A) (own : List A → A → List Fault) (ranged :
       let w = checkRun own (before ++ (a ∷ [])) (suc p) rest in
       go-on v (a, lines) _ (one-written before p a (h .0) lines)
       ∙ ap (λ b. v andThen b) (go-on w (rest, ls) _ (run-written (before ++ (a ∷ [])) rest (suc p) ls (h .1)))
-      ∙ then-then v w (accepted (a ∷ rest, ls))
+      ∙ then-assoc v w (accepted (a ∷ rest, ls))
 
   record Kept (n : ℕ) (before : List A) (p : ℕ) (ls : List Line) (r : List A × List Line) : Type 0 where
     lines : ls ≡ map (recordLine K) (r .0) ++ r .1
@@ -134,10 +134,10 @@ lines-written N w =
     let b-lines : List Line = map (recordLine busKind) (N .buses) ++ r-lines in
     let p₂ : ℕ = 2 + h .buses in
     let p₃ : ℕ = p₂ + h .branches in
-    let v₀ : Verdict = judge (headFaults h) 1 in
-    let v₁ : Verdict = checkRun busFaults [] 2 (N .buses) in
-    let v₂ : Verdict = checkRun (λ before. branchFaults (N .buses)) [] p₂ (N .branches) in
-    let v₃ : Verdict = checkRun (switchFaults h) [] p₃ (N .switches) in
+    let v₀ : Judgement = judge (headFaults h) 1 in
+    let v₁ : Judgement = checkRun busFaults [] 2 (N .buses) in
+    let v₂ : Judgement = checkRun (λ before. branchFaults (N .buses)) [] p₂ (N .branches) in
+    let v₃ : Judgement = checkRun (switchFaults h) [] p₃ (N .switches) in
     let end : Answer (Network × List Line) = accepted (N, []) in
     let switches-read = ap (readRun switch switchFrom (switchLineFaults h) [] (h .switches) p₃) (sym (append-nil s-lines)) ∙ run-written switchKind (switchFaults h) (switch-ranged h) [] (N .switches) p₃ [] (w .switch-room) in
     lines-read (linesOf N)
@@ -145,9 +145,9 @@ lines-written N w =
     ∙ ap (λ x. v₀ andThen x) (go-on v₁ (N .buses, r-lines) (behindBuses h) (run-written busKind busFaults bus-ranged [] (N .buses) 2 r-lines (w .bus-room))
     ∙ ap (λ x. v₁ andThen x) (go-on v₂ (N .branches, s-lines) (behindBranches h (N .buses)) (run-written branchKind (λ before. branchFaults (N .buses)) (branch-ranged (N .buses)) [] (N .branches) p₂ s-lines (w .branch-room))
     ∙ ap (λ x. v₂ andThen x) (go-on v₃ (N .switches, []) (behindSwitches h (N .buses) (N .branches)) switches-read)
-    ∙ then-then v₂ v₃ end)
-    ∙ then-then v₁ (v₂ andThen v₃) end)
-    ∙ then-then v₀ (v₁ andThen (v₂ andThen v₃)) end
+    ∙ then-assoc v₂ v₃ end)
+    ∙ then-assoc v₁ (v₂ andThen v₃) end)
+    ∙ then-assoc v₀ (v₁ andThen (v₂ andThen v₃)) end
 
 -- what the reader has found once it accepts: a head and a network whose lines are all there are
 record Found (h : Head) (N : Network) (ls : List Line) : Type 0 where
@@ -242,18 +242,18 @@ pub each-append : {A : Type 0} (P : A → Type 0) (xs ys : List A) → Each P xs
 each-append P [] ys h k = k
 each-append P (x ∷ xs) ys h k = (h .0, each-append P xs ys (h .1) k)
 
-lines-plain : {A : Type 0} (K : Kind A) (xs : List A) → Each (K .Room) xs → Each Plain (map (recordLine K) xs)
+lines-digits : {A : Type 0} (K : Kind A) (xs : List A) → Each (K .Room) xs → Each DigitLine (map (recordLine K) xs)
 unfolding recordLine
-lines-plain K [] h = tt
-lines-plain K (x ∷ xs) h = (line-plain (K .frame) (K .sound) (K .fields x) (K .fit x (h .0)), lines-plain K xs (h .1))
+lines-digits K [] h = tt
+lines-digits K (x ∷ xs) h = (line-digits (K .frame) (K .sound) (K .fields x) (K .fit x (h .0)), lines-digits K xs (h .1))
 
-all-plain : (N : Network) → Writable N → Each Plain (linesOf N)
+all-digits : (N : Network) → Writable N → Each DigitLine (linesOf N)
 unfolding linesOf recordLine
-all-plain N w =
-    let s-plain = lines-plain switchKind (N .switches) (w .switch-room) in
-    let r-plain = each-append Plain (map (recordLine branchKind) (N .branches)) _ (lines-plain branchKind (N .branches) (w .branch-room)) s-plain in
-    let b-plain = each-append Plain (map (recordLine busKind) (N .buses)) _ (lines-plain busKind (N .buses) (w .bus-room)) r-plain in
-    (line-plain head (headKind .sound) _ (headKind .fit (check.headOf N) (w .head-room)), b-plain)
+all-digits N w =
+    let s-digits = lines-digits switchKind (N .switches) (w .switch-room) in
+    let r-digits = each-append DigitLine (map (recordLine branchKind) (N .branches)) _ (lines-digits branchKind (N .branches) (w .branch-room)) s-digits in
+    let b-digits = each-append DigitLine (map (recordLine busKind) (N .buses)) _ (lines-digits busKind (N .buses) (w .bus-room)) r-digits in
+    (line-digits head (headKind .sound) _ (headKind .fit (check.headOf N) (w .head-room)), b-digits)
 
 -- ---- the laws
 -- what is written is judged as the records are
@@ -261,7 +261,7 @@ pub read-written : (N : Network) → Writable N → readText (textOf N) ≡ (che
 unfolding readText
 read-written N w =
     ap (λ t. without (readLines (cut t))) (sym (joined-lines N))
-    ∙ ap (λ x. without (readLines x)) (cut-joined (linesOf N) (all-plain N w))
+    ∙ ap (λ x. without (readLines x)) (cut-joined (linesOf N) (digit-lines (linesOf N) (all-digits N w)))
     ∙ ap without (lines-written N w)
     ∙ without-then (checkRecords N) N []
 

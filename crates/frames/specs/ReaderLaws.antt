@@ -1,34 +1,27 @@
--- Laws of answers and readers: one verdict after another, a reader that goes on.
+-- Laws of readers: one that goes on after a judgement, and the lines behind the head.
 use mathlib.Core.Path.{_≡_, refl, sym, ap, _∙_}
 use mathlib.Core.List.{List, [], _∷_}
 use Prim.Native.Nat.{ℕ, _+_}
-use Rattle.network.specs.Answers.{Answer, accepted, refused, _andThen_}
+use Rattle.network.specs.Answers.{Answer, accepted, refused, _andThen_, Judgement}
 use Rattle.network.specs.declared.bus.Bus.{Bus}
 use Rattle.network.specs.declared.branch.Branch.{Branch}
 use Rattle.network.specs.declared.switch.Switch.{Switch}
-pub use Rattle.network.specs.AnswerLaws.{same-value}
+use Rattle.network.specs.AnswerLaws.{no-refusal, same-value}
 use Rattle.network.specs.Records.{Network}
 use Rattle.network.specs.Faults.{Head}
 use Rattle.lines.specs.Lines.{Line}
-use Rattle.lines.specs.JudgeLaws.{Verdict, no-refusal}
 use Rattle.lines.specs.FirstLine.{judgeEnd}
 use Rattle.record_lines.specs.Kinds.{head, bus, branch, switch, headFrom, busFrom, branchFrom, switchFrom, headLineFaults, busLineFaults, branchLineFaults, switchLineFaults, Reader, readOne, without}
 use Rattle.record_lines.specs.VerdictLaws.{without-then}
 use Rattle.frames.specs.Text.{follow, _>>=_, pure, readRun, readEnd, readLines}
 
--- ---- one verdict after another
-pub then-then : {A : Type 0} (v w : Verdict) (b : Answer A) → (v andThen (w andThen b)) ≡ ((v andThen w) andThen b)
-unfolding _andThen_
-then-then (accepted u) w b = refl
-then-then (refused n p) w b = refl
-
 -- ---- a reader that goes on after a verdict
-follow-then : {A B : Type 0} (v : Verdict) (r : A × List Line) (f : A → Reader B) → follow (v andThen accepted r) f ≡ (v andThen f (r .0) (r .1))
+follow-then : {A B : Type 0} (v : Judgement) (r : A × List Line) (f : A → Reader B) → follow (v andThen accepted r) f ≡ (v andThen f (r .0) (r .1))
 unfolding follow _andThen_
 follow-then (accepted u) r f = refl
 follow-then (refused n p) r f = refl
 
-pub go-on : {A B : Type 0} {x : Answer (A × List Line)} (v : Verdict) (r : A × List Line) (f : A → Reader B)
+pub go-on : {A B : Type 0} {x : Answer (A × List Line)} (v : Judgement) (r : A × List Line) (f : A → Reader B)
     → x ≡ (v andThen accepted r) → follow x f ≡ (v andThen f (r .0) (r .1))
 go-on v r f e = ap (λ y. follow y f) e ∙ follow-then v r f
 
@@ -39,7 +32,7 @@ unfolding follow
 follow-accepted (accepted q) f e k = k q refl e
 follow-accepted (refused n p) f e k = no-refusal e
 
-then-nothing : (v : Verdict) → (v andThen accepted tt) ≡ v
+then-nothing : (v : Judgement) → (v andThen accepted tt) ≡ v
 unfolding _andThen_
 then-nothing (accepted u) = refl
 then-nothing (refused n p) = refl

@@ -16,12 +16,13 @@ use Rattle.network.specs.declared.switch.ReconfigAlgorithm.{ReconfigAlgorithm}
 use Rattle.network.specs.declared.switch.ReconfigAlgorithm.the-variants.{BranchExchange, TabuSearch, Exhaustive}
 use Rattle.network.specs.Answers.{accepted, Fault, _if_, judge}
 use Rattle.numbers.specs.Constants.{thousandth, thousand, million}
+use Rattle.numbers.specs.Tests.{both}
 use Rattle.network.specs.Faults.{Head, methodByte, inRange, okBase, okLoad, okR}
 use Rattle.lines.specs.Hex.{Fields, Fit}
 use Rattle.lines.specs.Frames.{Frame}
 use Rattle.record_lines.specs.Kinds.{head, bus, branch, switch, methodOf, headFrom, busFrom, branchFrom, switchFrom, headBytes, busBytes, branchBytes, switchBytes}
 use Rattle.frames.specs.Acceptable.{bitsOf, statusByte, flagsByte, headFields, busFields, branchFields, switchFields, HeadRoom, BusRoom, BranchRoom, SwitchRoom}
-use Rattle.lines.specs.JudgeLaws.{both, judge-passed}
+use Rattle.lines.specs.JudgeLaws.{judge-passed}
 use Rattle.frames.specs.LineLaws.{Sound, head-sound, bus-sound, branch-sound, switch-sound}
 
 -- ---- floats

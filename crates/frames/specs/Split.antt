@@ -11,10 +11,10 @@ use Rattle.numbers.specs.UpTo.{upTo}
 use Rattle.network.specs.declared.bus.Bus.{Bus}
 use Rattle.network.specs.declared.branch.Branch.{Branch}
 use Rattle.network.specs.declared.switch.Switch.{Switch}
-use Rattle.network.specs.Answers.{Answer, accepted, refused, _andThen_, Fault, judge}
+use Rattle.network.specs.Answers.{Answer, accepted, refused, _andThen_, Fault, judge, Judgement}
 use Rattle.network.specs.Records.{Network}
 use Rattle.network.specs.Faults.{Head, okBase, headFaults, busFaults, branchFaults, switchFaults}
-use Rattle.network.specs.AnswerLaws.{judge-iff}
+use Rattle.network.specs.AnswerLaws.{judge-iff, no-refusal, then-assoc}
 use Rattle.network.specs.InsideLaws.{HeadInside, head-iff}
 use Rattle.network.specs.Check as check
 use Rattle.network.specs.Check.{checkRun, checkRecords}
@@ -23,8 +23,8 @@ use Rattle.lines.specs.Lines.{Line, cut, lineFaults}
 use Rattle.lines.specs.Frames.{Frame}
 use Rattle.record_lines.specs.Kinds.{head, bus, branch, switch, isFrame, fieldsOf, headFrom, busFrom, branchFrom, switchFrom, headLineFaults, busLineFaults, branchLineFaults, switchLineFaults, Reader, readOne, without, busBytes, branchBytes, switchBytes}
 use Rattle.frames.specs.Text.{follow, _>>=_, pure, readRun, readEnd, readText}
-use Rattle.lines.specs.JudgeLaws.{Verdict, no-refusal, judge-append}
-use Rattle.frames.specs.ReaderLaws.{then-then, go-on, network, behindSwitches, behindBranches, behindBuses, behindHead, lines-read}
+use Rattle.lines.specs.JudgeLaws.{judge-append}
+use Rattle.frames.specs.ReaderLaws.{go-on, network, behindSwitches, behindBranches, behindBuses, behindHead, lines-read}
 use Rattle.frames.specs.ReadLaws.{head-passed}
 use Rattle.frames.specs.Passes.{Pass, going, halted, passOne, passOn, passStep, passRun, onward, after, passBuses, passBranches, passSwitches, collect, settle, afterHead, readTwice}
 
@@ -36,7 +36,7 @@ unfoldable begun : {A : Type 0} → Answer (A × List Line) → List Line → (L
 begun (accepted r) ls more = behind (r .0) (more (r .1))
 begun (refused n p) ls more = halted [] ls n p
 
-on-behind : {A : Type 0} (a : A) (records : List A) (left : List Line) (stopped : Verdict) (next : Answer (A × List Line))
+on-behind : {A : Type 0} (a : A) (records : List A) (left : List Line) (stopped : Judgement) (next : Answer (A × List Line))
     → passOn (a ∷ records) left stopped next ≡ behind a (passOn records left stopped next)
 unfolding passOn passOne
 on-behind a records left (accepted u) (accepted r) = refl
@@ -80,7 +80,7 @@ module _ {A : Type 0} (F : Frame) (make : Fields (F .widths) → A) (bytes : Fie
         let w = judge (own before a) place in
         ap (λ x. judge x place andThen accepted (a, ls)) (sym (append-assoc (lineFaults (isFrame F l) l) (bytes f) (own before a)))
         ∙ ap (λ x. x andThen accepted (a, ls)) (judge-append (lineFaults (isFrame F l) l ++ bytes f) (own before a) place)
-        ∙ sym (then-then v w (accepted (a, ls)))
+        ∙ sym (then-assoc v w (accepted (a, ls)))
         ∙ sym (go-on v (a, ls) (λ b rest. judge (own before b) place andThen accepted (b, rest)) refl)
 
     -- what a pass leaves to say
@@ -95,8 +95,8 @@ module _ {A : Type 0} (F : Frame) (make : Fields (F .widths) → A) (bytes : Fie
         let w = checkRun own (before ++ (a ∷ [])) (suc place) (pass .records) in
         let s = pass .stopped in
         let r : List A × List Line = (pass .records, pass .left) in
-        ap (λ x. v andThen x) (go-on (w andThen s) r (λ rest. pure (a ∷ rest)) (then-then w s (accepted r)) ∙ sym (then-then w s (accepted (a ∷ pass .records, pass .left))))
-        ∙ then-then v w (s andThen accepted (a ∷ pass .records, pass .left))
+        ap (λ x. v andThen x) (go-on (w andThen s) r (λ rest. pure (a ∷ rest)) (then-assoc w s (accepted r)) ∙ sym (then-assoc w s (accepted (a ∷ pass .records, pass .left))))
+        ∙ then-assoc v w (s andThen accepted (a ∷ pass .records, pass .left))
 
     whole : List A → Fields (F .widths) → List Fault
     whole before f = bytes f ++ own before (make f)
@@ -129,7 +129,7 @@ record Counted {A : Type 0} (n : ℕ) (pass : Pass A) : Type 0 where
   within : length (pass .records) ≤ n
   full : pass .stopped ≡ accepted tt → length (pass .records) ≡ n
 
-on-counted : {A : Type 0} (n : ℕ) (records : List A) (left : List Line) (stopped : Verdict) (next : Answer (A × List Line))
+on-counted : {A : Type 0} (n : ℕ) (records : List A) (left : List Line) (stopped : Judgement) (next : Answer (A × List Line))
     → Counted n (record { records = records; left = left; stopped = stopped }) → Counted (suc n) (passOn records left stopped next)
 unfolding passOn passOne
 on-counted n records left (accepted u) (accepted r) c =
@@ -162,45 +162,42 @@ switch-same h k b a =
     λ i before s. switchFaults (record { buses = h .buses; branches = b i; switches = h .switches; base = h .base; algorithm = a i; iterations = h .iterations }) before s
 
 -- ---- kind after kind
-then-without : {A : Type 0} (v : Verdict) (x : Answer (A × List Line)) → without (v andThen x) ≡ (v andThen without x)
+then-without : {A : Type 0} (v : Judgement) (x : Answer (A × List Line)) → without (v andThen x) ≡ (v andThen without x)
 unfolding without _andThen_
 then-without (accepted u) x = refl
 then-without (refused n p) x = refl
 
 -- after the lines of a kind: their records' conditions, the line at which the pass stopped, then the rest
-pass-then : {A B : Type 0} (x : Answer (List A × List Line)) (v : Verdict) (pass : Pass A) (f : List A → Reader B)
+pass-then : {A B : Type 0} (x : Answer (List A × List Line)) (v : Judgement) (pass : Pass A) (f : List A → Reader B)
     → x ≡ (v andThen (pass .stopped andThen accepted (pass .records, pass .left)))
     → without (follow x f) ≡ (v andThen (pass .stopped andThen without (f (pass .records) (pass .left))))
 pass-then {A = A} x v pass f e =
     let s = pass .stopped in
     let r : List A × List Line = (pass .records, pass .left) in
-    ap without (go-on (v andThen s) r f (e ∙ then-then v s (accepted r)))
+    ap without (go-on (v andThen s) r f (e ∙ then-assoc v s (accepted r)))
     ∙ then-without (v andThen s) (f (pass .records) (pass .left))
-    ∙ sym (then-then v s (without (f (pass .records) (pass .left))))
+    ∙ sym (then-assoc v s (without (f (pass .records) (pass .left))))
 
 end-then : (x : Answer (Unit {0} × List Line)) (N : Network) → without (follow x (λ u. pure N)) ≡ (without x andThen accepted N)
 unfolding without follow pure _andThen_
 end-then (accepted r) N = refl
 end-then (refused n p) N = refl
 
-regroup : {A : Type 0} (a b c : Verdict) (x : Answer A) → (a andThen (b andThen (c andThen x))) ≡ ((a andThen (b andThen c)) andThen x)
-unfolding _andThen_
-regroup (accepted u) (accepted v) c x = refl
-regroup (accepted u) (refused n p) c x = refl
-regroup (refused n p) b c x = refl
+regroup : {A : Type 0} (a b c : Judgement) (x : Answer A) → (a andThen (b andThen (c andThen x))) ≡ ((a andThen (b andThen c)) andThen x)
+regroup a b c x = ap (λ y. a andThen y) (then-assoc b c x) ∙ then-assoc a (b andThen c) x
 
 module _ (h : Head) (inside : HeadInside h) where
-  busCheck : List Bus → Verdict
+  busCheck : List Bus → Judgement
   busCheck buses = checkRun busFaults [] 2 buses
 
-  branchCheck : List Bus → List Branch → Verdict
+  branchCheck : List Bus → List Branch → Judgement
   branchCheck buses branches = checkRun (λ before. branchFaults buses) [] (2 + h .buses) branches
 
-  switchCheck : List Switch → Verdict
+  switchCheck : List Switch → Judgement
   switchCheck switches = checkRun (switchFaults h) [] (2 + h .buses + h .branches) switches
 
   -- the records collected, checked with their own counts
-  settled : (buses : List Bus) (branches : List Branch) (switches : List Switch) (v₂ v₃ stopped : Verdict)
+  settled : (buses : List Bus) (branches : List Branch) (switches : List Switch) (v₂ v₃ stopped : Judgement)
       → length buses ≤ h .buses → length branches ≤ h .branches → length switches ≤ h .switches
       → checkRun (λ before. branchFaults buses) [] (2 + length buses) branches ≡ v₂
       → checkRun (switchFaults (check.headOf (network h buses branches switches))) [] (2 + length buses + length branches) switches ≡ v₃
@@ -223,10 +220,10 @@ module _ (h : Head) (inside : HeadInside h) where
       let v₃ = switchCheck (pass .records) in
       let branch-places = ap (λ (n : ℕ). checkRun (λ before. branchFaults buses) [] (2 + n) branches) b in
       let switch-places = ap₂ (λ (f : List Switch → Switch → List Fault) (n : ℕ). checkRun f [] n (pass .records)) (switch-same (check.headOf N) h r refl) (ap₂ (λ (m n : ℕ). 2 + m + n) b r) in
-      ap (λ x. v₁ andThen (v₂ andThen (v₃ andThen x))) (ap (λ x. pass .stopped andThen x) (end-then e N) ∙ then-then (pass .stopped) (without e) (accepted N))
+      ap (λ x. v₁ andThen (v₂ andThen (v₃ andThen x))) (ap (λ x. pass .stopped andThen x) (end-then e N) ∙ then-assoc (pass .stopped) (without e) (accepted N))
       ∙ sym (settled buses branches (pass .records) v₂ v₃ (pass .stopped andThen without e) (le-of-eq b) (le-of-eq r) (c .within) branch-places switch-places)
 
-  from-branches : (buses : List Bus) (branches : List Branch) (left : List Line) (stopped : Verdict) → length buses ≡ h .buses
+  from-branches : (buses : List Bus) (branches : List Branch) (left : List Line) (stopped : Judgement) → length buses ≡ h .buses
       → Counted (h .branches) (record { records = branches; left = left; stopped = stopped })
       → (busCheck buses andThen (branchCheck buses branches andThen (stopped andThen without (behindBranches h buses branches left))))
       ≡ (let s = onward left stopped (passSwitches h) in
@@ -242,7 +239,7 @@ module _ (h : Head) (inside : HeadInside h) where
       let branch-places = ap (λ (k : ℕ). checkRun (λ before. branchFaults buses) [] (2 + k) branches) b in
       sym (settled buses branches [] (branchCheck buses branches) (accepted tt) (refused n p) (le-of-eq b) (c .within) (omega arith) branch-places refl)
 
-  from-buses : (buses : List Bus) (left : List Line) (stopped : Verdict) → Counted (h .buses) (record { records = buses; left = left; stopped = stopped })
+  from-buses : (buses : List Bus) (left : List Line) (stopped : Judgement) → Counted (h .buses) (record { records = buses; left = left; stopped = stopped })
       → (busCheck buses andThen (stopped andThen without (behindBuses h buses left)))
       ≡ (let r = onward left stopped (passBranches h) in
       let s = after r (passSwitches h) in

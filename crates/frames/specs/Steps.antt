@@ -1,5 +1,4 @@
--- What a loop over the lines of a kind needs of the reading pass: nothing read yet, one line more, and the line at which it stops. `cut-ended` and
--- `cut-unended`, in lines/specs/CutLaws, say where the next line of a text ends; `split`, in Split, joins the pass and the check of the records.
+-- What a loop over the lines of a kind needs of the reading pass: nothing read yet, one line more, and the line at which it stops.
 use mathlib.Core.Path.{_≡_, refl, ap, _∙_}
 use mathlib.Core.List.{List, [], _∷_, _++_}
 use Prim.Native.Nat.{ℕ, zero, suc, _+_, _-_, _<_}
@@ -18,7 +17,7 @@ module _ {A : Type 0} (F : Frame) (make : Fields (F .widths) → A) (bytes : Fie
   unfolding passRun upTo
   pass-start = refl
 
-  pub pass-step : (n : ℕ) → passRun F make bytes (n + 1) place ls ≡ passStep F make bytes (place + n) (passRun F make bytes n place ls)
+  pass-step : (n : ℕ) → passRun F make bytes (n + 1) place ls ≡ passStep F make bytes (place + n) (passRun F make bytes n place ls)
   unfolding passRun
   pass-step n = upTo-more _ _ n
 

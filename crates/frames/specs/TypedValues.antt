@@ -15,7 +15,8 @@ use Rattle.network.specs.declared.branch.Branch.{Branch}
 use Rattle.network.specs.declared.switch.Switch.{Switch}
 use Rattle.network.specs.declared.topology.PowerNetwork.{PowerNetwork}
 use Rattle.network.specs.Inside.{Each}
-use Rattle.frames.specs.Acceptable.{BusRoom, BranchRoom, SwitchRoom, Typed}
+use Rattle.frames.specs.Acceptable.{BusRoom, BranchRoom, SwitchRoom}
+use Rattle.frames.specs.HandedOver.{Typed}
 
 -- what stands for an array stands for each of its elements
 each-element : {A D : Type 0} (Q : A → Type 0) (into : A → D) (own : D → List Val → Fml) → ((a : A) (vs : List Val) → shadow (own (into a) vs) → Q a)

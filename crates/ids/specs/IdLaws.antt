@@ -3,10 +3,10 @@
 use mathlib.Core.Path.{_≡_, refl, sym, ap, _∙_}
 use mathlib.Core.Bool.{Bool, true, false}
 use mathlib.Core.Logic.{_≢_}
-use mathlib.Core.List.{List, [], _∷_, map}
+use mathlib.Core.List.{List, map}
 use Prim.Native.Nat.{ℕ, zero, suc, _+_, _-_, _≤_, _<_, min}
 use native.Mathlib.Decide.{ℕ-discrete}
-use native.Mathlib.Nat.{add-zero, zero-add, zero-min, min-zero, suc-min-suc}
+use native.Mathlib.Nat.{add-zero, zero-add}
 use native.Mathlib.Omega.{arith}
 use lib.Dec.{ltb}
 use lib.ListN.{length, getD, take, drop, set, replicate, drop-of-length-le, length-map, length-take, length-set, length-replicate, getD-replicate, List·getD-eq-default}
@@ -15,26 +15,27 @@ use borrow.Author.Tests.{lt-ltb, le-ltb, eq-eqb, ne-eqb, ltb-true}
 use Rattle.numbers.specs.UpTo.{upTo, upTo-more, table}
 use Rattle.numbers.specs.TableLaws.{getD-table, replicate-table, filled, filled-none, filled-more, filled-all}
 use Rattle.numbers.specs.Choose.{indexOf}
+use Rattle.numbers.specs.Parts.{take-within}
 use Rattle.ids.specs.declared.rows.IdRows.{IdRows}
 use Rattle.network.specs.LookupLaws.{index-here, index-behind, key-at}
 use Rattle.ids.specs.Ids.{bucketOf, idArray, rows, putId, rowsFrom, rowsOf, idRows, seek, positionOf}
 
-pub bucket-small : (id : ℕ) → bucketOf id < 256
+bucket-small : (id : ℕ) → bucketOf id < 256
 unfolding bucketOf
 bucket-small id = omega arith
 
 -- ---- along a row: it ends, has the id, or goes on
 module _ (ids next : List ℕ) (none id : ℕ) where
-  pub seek-end : (n h : ℕ) → 512 ≤ h → seek ids next none id n h ≡ none
+  seek-end : (n h : ℕ) → 512 ≤ h → seek ids next none id n h ≡ none
   unfolding seek
   seek-end zero h l = refl
   seek-end (suc n) h l = rw (le-ltb h 512 l)
 
-  pub seek-here : (n h : ℕ) → h < 512 → getD ids h 0 ≡ id → seek ids next none id (suc n) h ≡ h
+  seek-here : (n h : ℕ) → h < 512 → getD ids h 0 ≡ id → seek ids next none id (suc n) h ≡ h
   unfolding seek
   seek-here n h l e = rw (lt-ltb h 512 l, eq-eqb (getD ids h 0) id e)
 
-  pub seek-on : (n h : ℕ) → h < 512 → getD ids h 0 ≢ id → seek ids next none id (suc n) h ≡ seek ids next none id n (getD next h 0)
+  seek-on : (n h : ℕ) → h < 512 → getD ids h 0 ≢ id → seek ids next none id (suc n) h ≡ seek ids next none id n (getD next h 0)
   unfolding seek
   seek-on n h l e = rw (lt-ltb h 512 l, ne-eqb (getD ids h 0) id e)
 
@@ -188,11 +189,6 @@ position-found l short ids first next e count x c =
     let h = rw (z, ← e) at (rows-held l short (length l) (omega arith)) in
     rw c (h .finds x (length l) (omega arith) ∙ zero-add (indexOf x l))
 
--- so for what is found by following a row
-pub first-position : (ids first next : List ℕ) (count id : ℕ) {r : ℕ} → r ≡ positionOf ids first next count id
-    → (r ≡ positionOf ids first next count id) × ((l : List ℕ) → length l ≤ 512 → rows ids first next ≡ idRows l → count ≡ length l → r ≡ indexOf id l)
-first-position ids first next count id e = (e, λ l short q c. e ∙ position-found l short ids first next q count id c)
-
 -- ---- the rows of the last i of n positions, in the arrays of the code
 module _ (ids : List ℕ) (n : ℕ) where
   pub none-put : rows ids (replicate 256 512) (replicate 512 512) ≡ rowsFrom ids n 0
@@ -227,17 +223,11 @@ module _ {A : Type 0} (key : A → ℕ) (none : A) (l : List A) (n : ℕ) where
     unfolding idsFilled
     all-ids h = e ∙ filled-all _ (key none) 512 i (λ j a b. List·getD-eq-default (map key (take n l)) (key none) {n = j} (simp (length-map, length-take) (omega arith)))
 
--- as many as there are
-take-least : {A : Type 0} (n : ℕ) (l : List A) → take (min n (length l)) l ≡ take n l
-take-least zero l = rw (zero-min (length l))
-take-least (suc n) [] = rw (min-zero (suc n))
-take-least (suc n) (a ∷ l) = rw (suc-min-suc n (length l), take-least n l)
-
 -- the rows of the listed records of an array
 pub rows-listed : {A : Type 0} (key : A → ℕ) (l : List A) (count n size : ℕ) (ids : List ℕ) → length l ≡ size → n ≡ min count size → ids ≡ idArray (map key (take n l))
     → rowsOf ids n ≡ idRows (map key (take count l))
 unfolding idRows
 rows-listed key l count n size ids e m i =
     let long : length (map key (take count l)) ≡ n = simp (length-map, length-take) (omega arith) in
-    let listed : take n l ≡ take count l = rw (m, ← e) (take-least count l) in
+    let listed : take n l ≡ take count l = rw (m, ← e) (take-within count l) in
     rw (i, listed, long)

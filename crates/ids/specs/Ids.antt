@@ -4,16 +4,17 @@ use mathlib.Core.List.{List}
 use Prim.Native.Nat.{ℕ, zero, suc, _-_, _*_, _/_, _%_}
 use lib.Dec.{eqb, ltb}
 use lib.ListN.{length, getD, set, replicate}
-use Rattle.numbers.specs.UpTo.{upTo, table}
+use Rattle.numbers.specs.UpTo.{upTo}
+use Rattle.numbers.specs.Arrays.{arrayOf}
 use Rattle.ids.specs.declared.rows.IdRows.{IdRows}
 
 -- one of 256 buckets
 unfoldable pub bucketOf : ℕ → ℕ
 bucketOf id = id * 40503 % 65536 / 256
 
--- an array of 512 ids that begins with the list and is 0 behind it
+-- 512 ids: those of the list, and 0 behind them
 abbrev pub idArray : List ℕ → List ℕ
-idArray l = table (λ i. getD l i 0) 512
+idArray l = arrayOf 512 0 l
 
 abbrev pub rows : List ℕ → List ℕ → List ℕ → IdRows
 rows ids first next = record { ids = ids; first = first; next = next }

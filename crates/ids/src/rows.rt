@@ -1,13 +1,13 @@
 // Ids in rows: an id is looked up among the few that share its bucket.
 ghost use mathlib.Core.Path.{_≡_};
-ghost use mathlib.Core.List.{List, map};
-ghost use Prim.Native.Nat.{ℕ, _≤_, _<_};
-ghost use lib.ListN.{length, take};
-ghost use Rattle.numbers.specs.Choose.{indexOf};
+ghost use mathlib.Core.List.{map};
+ghost use Prim.Native.Nat.{_≤_, _<_};
+ghost use lib.ListN.{take};
 ghost use Rattle.network.specs.Faults.{busId, switchId};
-ghost use Rattle.ids.specs.Ids.{bucketOf, idArray, rows, rowsOf, idRows, positionOf};
+ghost use Rattle.ids.specs.Ids.{bucketOf, idArray, rowsOf, idRows, positionOf};
 use network::bus::Bus;
 use network::switch::Switch;
+use network::topology::PowerNetwork;
 use numbers::at_most;
 use numbers::wide16;
 
@@ -60,7 +60,7 @@ fn bus_ids(buses: [Bus; 256], n: usize) -> [u16; 512]
 pub fn bus_rows(buses: [Bus; 256], count: usize) -> IdRows
     ensures { λ r. ⌜ r ≡ idRows (map busId (take count buses)) ⌝ }
 {
-    let n = at_most(count, 256);
+    let n = at_most(count, PowerNetwork::MAX_BUSES as usize);
     rows_of(bus_ids(buses, n), n)
 }
 
@@ -81,11 +81,12 @@ fn switch_ids(switches: [Switch; 512], n: usize) -> [u16; 512]
 pub fn switch_rows(switches: [Switch; 512], count: usize) -> IdRows
     ensures { λ r. ⌜ r ≡ idRows (map switchId (take count switches)) ⌝ }
 {
-    let n = at_most(count, 512);
+    let n = at_most(count, PowerNetwork::MAX_SWITCHES as usize);
     rows_of(switch_ids(switches, n), n)
 }
 
-// The first position of an id among count ids in rows, and count where it has none. Rows of no list of ids are followed all the same, count steps at most.
+// The first position of an id among count ids in rows, and count where it has none (`IdLaws.position-found`). Rows of no list of ids are followed all the
+// same, count steps at most.
 pub fn position_of<'a>(
     ids: &'a [u16; 512],
     first: &'a [u16; 256],
@@ -93,9 +94,7 @@ pub fn position_of<'a>(
     count: usize,
     id: u16,
 ) -> usize
-    ensures { λ r. ⌜ (r ≡ positionOf (now (ids .entry)) (now (first .entry)) (now (next .entry)) count id)
-        × ((l : List ℕ) → length l ≤ 512 → rows (now (ids .entry)) (now (first .entry)) (now (next .entry)) ≡ idRows l → count ≡ length l
-        → r ≡ indexOf id l) ⌝ }
+    ensures { λ r. ⌜ r ≡ positionOf (now (ids .entry)) (now (first .entry)) (now (next .entry)) count id ⌝ }
 {
     let row = bucket(id);
     let mut at = wide16(first[row]);

@@ -2,9 +2,9 @@
 use mathlib.Core.Path.{_≡_, refl, sym, ap, _∙_}
 use mathlib.Core.Bool.{true, false, and-false}
 use mathlib.Core.List.{List, [], _∷_, _++_}
-use Prim.Native.Nat.{ℕ, zero, suc, _+_, _*_, _-_, _^_, _≤_, _<_, min}
+use Prim.Native.Nat.{ℕ, suc, _+_, _*_, _-_, _^_, _≤_, _<_, min}
 use native.Mathlib.Omega.{arith}
-use native.Mathlib.Nat.{pow-le-pow-right, pow-suc, zero-min, min-zero, suc-min-suc, min-le-left, min-le-right}
+use native.Mathlib.Nat.{pow-le-pow-right, pow-suc, min-le-left, min-le-right}
 use native.Mathlib.Numerals.{add-one}
 use lib.Dec.{lit<}
 use lib.ListN.{getD, length, take, drop, length-append, length-take, length-drop, drop-of-length-le}
@@ -12,7 +12,7 @@ use lib.Seq.{take-suc, take-all, take-nil}
 use borrow.Author.Tests.{le-leb, lt-leb}
 use Rattle.lines.specs.Hex.{isDigit, value, number, numberAt}
 use Rattle.lines.specs.HexLaws.{value-of, value-below}
-use Rattle.lines.specs.PartLaws.{part-is}
+use Rattle.numbers.specs.Parts.{part-is, take-within}
 
 -- ---- one byte
 module _ (c : ℕ) where
@@ -78,11 +78,6 @@ module _ (s : List ℕ) where
     all-read h = r .so-far ∙ ap number (take-all i s h)
 
 -- ---- a part of a row: as many characters as are wanted, or as there are
-take-within : (k : ℕ) (l : List ℕ) → take (min k (length l)) l ≡ take k l
-take-within zero l = rw zero-min
-take-within (suc k) [] = rw min-zero
-take-within (suc k) (x ∷ xs) = rw suc-min-suc (ap (λ (l : List ℕ). x ∷ l) (take-within k xs))
-
 pub lesser : {n k m : ℕ} → n ≡ min k m → (n ≤ k) × (n ≤ m)
 lesser {n} {k} {m} e = rw e (min-le-left k m, min-le-right k m)
 

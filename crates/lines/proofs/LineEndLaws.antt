@@ -10,14 +10,14 @@ use lib.ListN.{length, take, drop, getD, length-drop}
 use lib.Seq.{take-suc, getD-drop}
 use borrow.Author.Tests.{ne-eqb}
 use Rattle.numbers.specs.Every.{every, every-append}
-use Rattle.lines.specs.CutLaws.{plain}
+use Rattle.lines.specs.CutLaws.{noFeed}
 use Rattle.lines.specs.FirstLine.{LineEnd}
 
 -- n characters from `at` on are no line feed
 pub record Sought (t : List ℕ) (at n : ℕ) : Type 0 where
   pub within : at + n ≤ length t
   pub few : n ≤ 37
-  pub no-feed : every plain (take n (drop at t)) ≡ true
+  pub no-feed : every noFeed (take n (drop at t)) ≡ true
 
 module _ (t : List ℕ) (at : ℕ) where
   pub none-sought : at ≤ length t → Sought t at 0
@@ -32,11 +32,11 @@ module _ (t : List ℕ) (at : ℕ) where
     unfolding every
     other-sought f m c =
         let inside : n < length (drop at t) = rw (length-drop at t) (omega (arith, s .within, m)) in
-        let next : every plain (getD (drop at t) n 0 ∷ []) ≡ true = rw (getD-drop at t n 0, ne-eqb _ 10 c) in
+        let next : every noFeed (getD (drop at t) n 0 ∷ []) ≡ true = rw (getD-drop at t n 0, ne-eqb _ 10 c) in
         record {
           within = omega (arith, s .within, m);
           few = omega arith;
-          no-feed = rw (add-one n, take-suc (drop at t) n 0 inside) (every-append plain (take n (drop at t)) (getD (drop at t) n 0 ∷ []) (s .no-feed) next);
+          no-feed = rw (add-one n, take-suc (drop at t) n 0 inside) (every-append noFeed (take n (drop at t)) (getD (drop at t) n 0 ∷ []) (s .no-feed) next);
         }
 
     pub text-ends : at + n ≡ length t → LineEnd (drop at t) n

@@ -11,12 +11,14 @@ use lib.ListN.{length, take, drop, getD, take-append-drop, length-drop, drop-of-
 use lib.Seq.{take-all, drop-cons, length-take-le}
 use borrow.Author.Tests.{lt-ltb, le-ltb, ltb-true, ltb-false, eq-eqb, ne-eqb, not-true, not-false}
 use Rattle.numbers.specs.Every.{every}
+use Rattle.numbers.specs.Tests.{both, neither}
 use Rattle.network.specs.Answers.{accepted, refused, _andThen_, _if_, judge}
+use Rattle.network.specs.AnswerLaws.{no-refusal}
 use Rattle.lines.specs.Hex.{isDigit, number}
-use Rattle.lines.specs.Lines.{Line, put, cut, lineFaults}
-use Rattle.lines.specs.JudgeLaws.{both, neither, no-refusal, judge-append, judge-passed}
-use Rattle.lines.specs.CutLaws.{plain, cut-ended, cut-unended, joined, joined-cut}
-use Rattle.lines.specs.FirstLine.{LineEnd, judgeFirst, characterFaults, wanted, judgeFrame, judgeEnd}
+use Rattle.lines.specs.Lines.{Line, put, cut, lineFaults, characterFaults}
+use Rattle.lines.specs.JudgeLaws.{judge-append, judge-passed}
+use Rattle.lines.specs.CutLaws.{noFeed, cut-ended, cut-unended, joined, joined-cut}
+use Rattle.lines.specs.FirstLine.{LineEnd, judgeFirst, wanted, judgeFrame, judgeEnd}
 
 -- ---- a line of over 36 characters
 abbrev firstLength : List Line → ℕ
@@ -28,11 +30,11 @@ unfolding put
 put-longer c [] = refl
 put-longer c (l ∷ ls) = refl
 
-cut-longer : (cs t : List ℕ) → every plain cs ≡ true → length cs ≤ firstLength (cut (cs ++ t))
+cut-longer : (cs t : List ℕ) → every noFeed cs ≡ true → length cs ≤ firstLength (cut (cs ++ t))
 unfolding every cut
 cut-longer [] t e = omega arith
 cut-longer (c ∷ cs) t e =
-    let h = both (plain c) (every plain cs) e in
+    let h = both (noFeed c) (every noFeed cs) e in
     rw (not-true (eqb c 10) (h .0), put-longer c (cut (cs ++ t))) (omega (arith, cut-longer cs t (h .1)))
 
 first-long : (p : ℕ) (ls : List Line) → 36 < firstLength ls → refused 2 p ≡ judgeFirst characterFaults p ls
@@ -41,7 +43,7 @@ first-long p [] h = absurd (omega arith)
 first-long p (l ∷ ls) h = rw (lt-ltb 36 (length (l .chars)) h)
 
 -- ---- an unended line
-unended : (p : ℕ) (t : List ℕ) → 0 < length t → length t ≤ 36 → every plain t ≡ true → refused 1 p ≡ judgeFirst characterFaults p (cut t)
+unended : (p : ℕ) (t : List ℕ) → 0 < length t → length t ≤ 36 → every noFeed t ≡ true → refused 1 p ≡ judgeFirst characterFaults p (cut t)
 unfolding judgeFirst judge lineFaults
 unended p [] k h e = absurd (omega arith)
 unended p (c ∷ cs) k h e = rw (cut-unended c cs e, le-ltb 36 (length (c ∷ cs)) h)
@@ -56,7 +58,7 @@ module _ (t : List ℕ) (n : ℕ) (w : LineEnd t n) where
 
     pub unended-refused : n ≤ 36 → 0 < length t → n ≡ length t → refused 1 p ≡ judgeFirst characterFaults p (cut t)
     unended-refused h k e =
-        let all : every plain t ≡ true = subst (λ (x : List ℕ). every plain x ≡ true) (take-all n t (omega arith)) (w .no-feed) in
+        let all : every noFeed t ≡ true = subst (λ (x : List ℕ). every noFeed x ≡ true) (take-all n t (omega arith)) (w .no-feed) in
         unended p t k (omega arith) all
 
   -- ---- an ended line

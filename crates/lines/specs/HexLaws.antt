@@ -48,7 +48,7 @@ pub value-other : (c : ℕ) → isDigit c ≡ false → value c ≡ 0
 unfolding value
 value-other c e = rw e
 
-pub value-digit : (n : ℕ) → n < 16 → value (digit n) ≡ n
+value-digit : (n : ℕ) → n < 16 → value (digit n) ≡ n
 unfolding digit
 value-digit n h = value-of (digit n) (digit-isDigit n h) ∙ go (ltb n 10) refl
   where

@@ -7,14 +7,11 @@ use lib.Dec.{eqb}
 use lib.ListN.{length}
 use borrow.Author.Tests.{not-false}
 use Rattle.numbers.specs.Every.{every}
-pub use Rattle.numbers.specs.Tests.{both, neither}
-use Rattle.network.specs.Answers.{Answer, accepted, _andThen_, Fault, _if_, judge}
-pub use Rattle.network.specs.AnswerLaws.{no-refusal}
+use Rattle.numbers.specs.Tests.{neither}
+use Rattle.network.specs.Answers.{accepted, _andThen_, Fault, _if_, judge}
+use Rattle.network.specs.AnswerLaws.{no-refusal}
 use Rattle.lines.specs.Hex.{isDigit}
 use Rattle.lines.specs.Lines.{Line, lineFaults}
-
-abbrev pub Verdict : Type 0
-Verdict = Answer (Unit {0})
 
 pub judge-past : (n : ℕ) (b : Bool) (fs : List Fault) (p : ℕ) → b ≡ false → judge ((n if b) ∷ fs) p ≡ judge fs p
 unfolding judge

@@ -6,4 +6,3 @@ pub mod JudgeLaws
 pub mod CutLaws
 pub mod FirstLine
 pub mod FirstLineLaws
-pub mod PartLaws

@@ -3,8 +3,8 @@ ghost use mathlib.Core.Path.{_≡_};
 ghost use Prim.Native.Nat.{_≤_, _<_};
 ghost use lib.ListN.{length, drop};
 ghost use Rattle.network.specs.Answers.{answerOf};
-ghost use Rattle.lines.specs.Lines.{cut};
-ghost use Rattle.lines.specs.FirstLine.{LineEnd, judgeFirst, characterFaults, judgeFrame, judgeEnd};
+ghost use Rattle.lines.specs.Lines.{cut, characterFaults};
+ghost use Rattle.lines.specs.FirstLine.{LineEnd, judgeFirst, judgeFrame, judgeEnd};
 use crate::hex;
 use network::error::Verdict;
 

@@ -1,25 +1,13 @@
-// Texts of half a megabyte: digits without a line feed, line feeds alone, and characters that are no digits.
+// Texts of half a megabyte, of one character each: digits without a line feed, line feeds alone, and a character that is no digit.
 ghost use mathlib.Core.Path.{_≡_};
 ghost use lib.ListN.{length};
 use libc::STDOUT_FILENO;
 use network::error::Verdict;
 
-fn digits() -> [u8; 524288]
+fn text_of(character: u8) -> [u8; 524288]
     ensures { λ r. ⌜ 524288 ≡ length r ⌝ }
 {
-    [48; 524288]
-}
-
-fn line_feeds() -> [u8; 524288]
-    ensures { λ r. ⌜ 524288 ≡ length r ⌝ }
-{
-    [10; 524288]
-}
-
-fn others() -> [u8; 524288]
-    ensures { λ r. ⌜ 524288 ≡ length r ⌝ }
-{
-    [255; 524288]
+    [character; 524288]
 }
 
 fn print_verdict(text: &[u8]) {
@@ -39,10 +27,10 @@ fn print_verdict(text: &[u8]) {
 }
 
 fn main() {
-    let text = digits();
-    print_verdict(&text);
-    let text = line_feeds();
-    print_verdict(&text);
-    let text = others();
-    print_verdict(&text);
+    let digits = text_of(b'0');
+    print_verdict(&digits);
+    let line_feeds = text_of(b'\n');
+    print_verdict(&line_feeds);
+    let others = text_of(255);
+    print_verdict(&others);
 }

@@ -1,5 +1,6 @@
 // Reads the feeders and states on standard input and prints the bits of each loss. A case is a line 'LENGTH NAME', a frame text, a line
-// feed, and a line with a digit for each byte of the state.
+// feed, and a line 'CHANGE STATE'. CHANGE is A (65) for 1,001 iterations or F (70) for a tie in place of the eleventh switch, which the
+// records get once they are read, or a hyphen for none. STATE has a digit for each byte.
 ghost use mathlib.Core.Path.{_≡_};
 ghost use Prim.Native.Nat.{_≤_};
 ghost use lib.ListN.{length};
@@ -11,7 +12,25 @@ use libc::STDOUT_FILENO;
 use losses::evaluation::LossAnswer;
 use losses::evaluation::evaluate_config;
 use network::error::Verdict;
+use network::switch::Switch;
+use network::topology::PowerNetwork;
 use numbers::at_most;
+
+// A fault that the records get once they are read: a text with it would not be.
+fn changed(mut network: PowerNetwork, change: u8) -> PowerNetwork {
+    if change == 65 {
+        network.max_iterations = 1001;
+    }
+    if change == 70 {
+        network.switches[10] = Switch {
+            id: 9,
+            branch_idx: 10,
+            normally_open: true,
+            can_operate: true,
+        };
+    }
+    network
+}
 
 // No loss is below zero or a NaN: such a one would print no bits.
 fn print_loss(loss: f64) {
@@ -37,17 +56,21 @@ fn print_answer(answer: LossAnswer) {
     }
 }
 
-// A text that the reader refuses is said to be no feeder: such a case is wrongly made.
-fn print_text(text: &[u8], digits: &[u8]) {
+// The line has the change and the state. A text that the reader refuses is said to be no feeder: such a case is wrongly made.
+fn print_text(text: &[u8], line: &[u8]) {
+    if line.len() < 2 {
+        return;
+    }
     let reading = frames::reader::read_text(text);
     let verdict = reading.verdict;
     let Verdict::Accepted = verdict else {
         io::write_all(STDOUT_FILENO, b" no feeder\n");
         return;
     };
-    let state = state_bytes(digits);
-    let n = at_most(digits.len(), 1024);
-    print_answer(evaluate_config(reading.network, &state[0..n]));
+    let state = state_bytes(&line[2..]);
+    let n = at_most(line.len() - 2, 1024);
+    let network = changed(reading.network, line[0]);
+    print_answer(evaluate_config(network, &state[0..n]));
 }
 
 // Prints what comes of the first case, and answers where it ends.
@@ -55,10 +78,10 @@ fn print_case(input: &[u8]) -> usize
     ensures { λ r. ⌜ r ≤ length (now (input .entry)) ⌝ }
 {
     let case = first_case(input);
-    let state = line_behind(input, case.text.to);
+    let line = line_behind(input, case.text.to);
     io::write_all(STDOUT_FILENO, part_of(input, case.name));
-    print_text(part_of(input, case.text), part_of(input, state));
-    state.to
+    print_text(part_of(input, case.text), part_of(input, line));
+    line.to
 }
 
 fn print_cases(input: &[u8]) {

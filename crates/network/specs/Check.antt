@@ -3,7 +3,7 @@ use mathlib.Core.List.{List, [], _∷_, _++_}
 use Prim.Native.Nat.{ℕ, suc, _+_}
 use lib.ListN.{length}
 use Rattle.network.specs.Records.{Network}
-use Rattle.network.specs.Answers.{Answer, accepted, _andThen_, Fault, judge}
+use Rattle.network.specs.Answers.{accepted, _andThen_, Fault, judge, Judgement}
 use Rattle.network.specs.Faults.{Head, headFaults, busFaults, branchFaults, switchFaults}
 
 -- the head line counts the records
@@ -12,12 +12,12 @@ headOf N =
     record { buses = length (N .buses); branches = length (N .branches); switches = length (N .switches); base = N .base; algorithm = N .algorithm; iterations = N .iterations }
 
 -- record after record of a kind, the first at this place; a record's faults may look at those before it
-unfoldable pub checkRun : {A : Type 0} → (List A → A → List Fault) → List A → ℕ → List A → Answer (Unit {0})
+unfoldable pub checkRun : {A : Type 0} → (List A → A → List Fault) → List A → ℕ → List A → Judgement
 checkRun faults before place [] = accepted tt
 checkRun faults before place (a ∷ rest) = judge (faults before a) place andThen checkRun faults (before ++ (a ∷ [])) (suc place) rest
 
 -- "The first faulty line decides": head, buses, branches, switches
-unfoldable pub checkRecords : Network → Answer (Unit {0})
+unfoldable pub checkRecords : Network → Judgement
 checkRecords N =
     let h = headOf N in
     judge (headFaults h) 1

@@ -14,8 +14,8 @@ Each P [] = Unit {0}
 Each P (a ∷ rest) = P a × Each P rest
 
 -- a bus with this id is listed
-abbrev pub Listed : Network → ℕ → Type 0
-Listed N i = List·Memᴰ i (map busId (N .buses))
+abbrev pub HasBus : Network → ℕ → Type 0
+HasBus N i = List·Memᴰ i (map busId (N .buses))
 
 pub record Inside (N : Network) : Type 0 where
   -- "At most 256 buses, 512 branches, 512 switches, 1,000 iterations, all from 0"
@@ -26,7 +26,7 @@ pub record Inside (N : Network) : Type 0 where
   pub loads : Each (λ b. okLoad (b .pd .0) ≡ true) (N .buses)
   pub resistances : Each (λ b. okR (b .r) ≡ true) (N .branches)
   -- both ends of a branch are listed buses, a switch is on a branch
-  pub ends : Each (λ b. Listed N (b .«from_bus») × Listed N (b .«to_bus»)) (N .branches)
+  pub ends : Each (λ b. HasBus N (b .«from_bus») × HasBus N (b .«to_bus»)) (N .branches)
   pub positions : Each (λ s. s .«branch_idx» < length (N .branches)) (N .switches)
   -- an id stands once in its kind
   pub bus-ids : Distinct (map busId (N .buses))

@@ -19,7 +19,7 @@ use Rattle.network.specs.AnswerLaws.{Passes, judge-iff, then-iff}
 use Rattle.network.specs.Faults.{Head, okBase, okLoad, okR, among, busId, switchId, on, ties, methodByte, headFaults, busFaults, branchFaults, switchFaults}
 use Rattle.network.specs.TieLaws.{ties-more}
 use Rattle.network.specs.Check.{headOf, checkRun, checkRecords}
-use Rattle.network.specs.Inside.{Each, Listed, Inside}
+use Rattle.network.specs.Inside.{Each, HasBus, Inside}
 
 -- ---- Q holds of each of the list, with those before it
 abbrev Through : {A : Type 0} → (List A → A → Type 0) → List A → List A → Type 0
@@ -309,6 +309,6 @@ check-inside N = (left, right)
         let v₃ = run-iff (switchFaults h) [] (2 + h .buses + h .branches) (N .switches) .1 (switches-iff h (N .switches) .1 (record { positions = i .positions; ids = i .switch-ids; alone = i .alone; few = i .few-ties })) in
         then-iff (judge (headFaults h) 1) _ .1 (v₀, then-iff (checkRun busFaults [] 2 (N .buses)) _ .1 (v₁, then-iff (checkRun (λ before. branchFaults (N .buses)) [] (2 + h .buses) (N .branches)) _ .1 (v₂, v₃)))
       where
-        each-zip : (l : List Branch) → Each (λ b. okR (b .r) ≡ true) l → Each (λ b. Listed N (b .«from_bus») × Listed N (b .«to_bus»)) l → Each (BranchInside (map busId (N .buses))) l
+        each-zip : (l : List Branch) → Each (λ b. okR (b .r) ≡ true) l → Each (λ b. HasBus N (b .«from_bus») × HasBus N (b .«to_bus»)) l → Each (BranchInside (map busId (N .buses))) l
         each-zip [] q r = tt
         each-zip (b ∷ rest) q r = (record { resistance = q .0; from-listed = r .0 .0; to-listed = r .0 .1 }, each-zip rest (q .1) (r .1))

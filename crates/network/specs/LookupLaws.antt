@@ -1,17 +1,15 @@
--- A lookup by rising position: what is left to look at from position i on.
-use mathlib.Core.Path.{_≡_, refl, sym, ap, _∙_}
-use mathlib.Core.Bool.{Bool, true, false}
+-- Lookups by rising position: what is left to look at from position i on, where `bus_index` stops, and that the first records of an array are the listed ones.
+use mathlib.Core.Path.{_≡_, sym, ap, _∙_}
 use mathlib.Core.List.{List, map}
 use Prim.Native.Nat.{ℕ, suc, _+_, _≤_, _<_}
 use native.Mathlib.Nat.{add-zero, zero-add}
 use native.Mathlib.Numerals.{add-one}
 use native.Mathlib.Omega.{arith}
-use lib.Dec.{ltb}
 use lib.ListN.{length, getD, take, drop, length-take, drop-of-length-le, List·getD-map}
-use lib.Seq.{drop-cons, getD-take, take-all}
-use borrow.Author.Tests.{eq-eqb, ne-eqb, lt-ltb, le-ltb, ltb-true, ltb-false}
+use lib.Seq.{drop-cons, getD-take}
+use borrow.Author.Tests.{eq-eqb, ne-eqb, lt-ltb, le-ltb}
 use Rattle.numbers.specs.Choose.{indexOf}
-use Rattle.numbers.specs.TableLaws.{length-table, as-table, take-table}
+use Rattle.numbers.specs.TableLaws.{as-table}
 use Rattle.network.specs.declared.bus.Bus.{Bus}
 use Rattle.network.specs.declared.topology.BusIndex.the-variants.{At, NotFound}
 use Rattle.network.specs.declared.topology.PowerNetwork.{PowerNetwork}
@@ -68,22 +66,6 @@ key-at key n l i d h = List·getD-map key (take n l) i d ∙ ap key (getD-take n
 -- inside the limit these are the listed records
 pub listed-first : {A : Type 0} (d : A) (l : List A) (n : ℕ) → n ≤ length l → take n l ≡ listed d l n
 listed-first d l n h = as-table _ n d (take n l) (length-take n l ∙ omega arith) (λ i k. getD-take n l i d k)
-
--- also where there are fewer than the count says: of the listed records as many as there are
-listed-within : {A : Type 0} (d : A) (l : List A) (n size : ℕ) → length l ≡ size → take n l ≡ take size (listed d l n)
-listed-within d l n size e = go (ltb n size) refl
-  where
-    go : (b : Bool) → ltb n size ≡ b → take n l ≡ take size (listed d l n)
-    go true q =
-        let h : n < size = ltb-true n size q in
-        listed-first d l n (omega arith) ∙ sym (take-all size (listed d l n) (rw (length-table (λ i. getD l i d) n) (omega arith)))
-    go false q =
-        let h : size ≤ n = ltb-false n size q in
-        take-all n l (omega arith) ∙ as-table (λ i. getD l i d) size d l e (λ i k. refl) ∙ sym (take-table (λ i. getD l i d) n size h)
-
-pub buses-within : (n : PowerNetwork) → length (n .buses) ≡ 256 → take (n .«bus_count») (n .buses) ≡ take 256 (recordsOf n .buses)
-unfolding recordsOf
-buses-within n e = listed-within noBus (n .buses) (n .«bus_count») 256 e
 
 pub listed-buses : (n : PowerNetwork) → n .«bus_count» ≤ length (n .buses) → take (n .«bus_count») (n .buses) ≡ recordsOf n .buses
 unfolding recordsOf

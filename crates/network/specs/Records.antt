@@ -1,10 +1,10 @@
 -- The records as lists, as long as their counts say.
 use mathlib.Core.Bool.{false}
-use mathlib.Core.List.{List, [], _++_}
-use Prim.Native.Nat.{ℕ, _-_}
-use lib.ListN.{length, getD, replicate}
+use mathlib.Core.List.{List, []}
+use Prim.Native.Nat.{ℕ}
+use lib.ListN.{length}
 use lib.Ieee.{Float, binary64, ofBits}
-use Rattle.numbers.specs.UpTo.{table}
+use Rattle.numbers.specs.Arrays.{arrayOf, padded}
 use Rattle.network.specs.declared.bus.Bus.{Bus}
 use Rattle.network.specs.declared.branch.Branch.{Branch}
 use Rattle.network.specs.declared.switch.Switch.{Switch}
@@ -23,6 +23,7 @@ noSwitch = record { id = 0; «branch_idx» = 0; «normally_open» = false; «can
 
 -- a feeder as document 01 lists it
 pub record Network : Type 0 where
+  -- base_mva, and not the base, document 01's state
   pub base : Float
   pub algorithm : ReconfigAlgorithm
   pub iterations : ℕ
@@ -32,7 +33,7 @@ pub record Network : Type 0 where
 
 -- the first n of an array, also where it has fewer
 abbrev pub listed : {A : Type 0} → A → List A → ℕ → List A
-listed none l n = table (λ i. getD l i none) n
+listed none l n = arrayOf n none l
 
 -- the listed records of a value handed over: as many of each kind as its count says, also where that is over the limit
 unfoldable pub recordsOf : PowerNetwork → Network
@@ -46,11 +47,7 @@ recordsOf n =
       switches = listed noSwitch (n .switches) (n .«switch_count»);
     }
 
--- the first entries are listed, the others empty
-unfoldable pub padded : {A : Type 0} → ℕ → A → List A → List A
-padded size none l = l ++ replicate (size - length l) none
-
--- the value that holds a feeder inside the limits
+-- the value that holds a feeder inside the limits: the first entries of each array are listed, the others empty
 unfoldable pub networkOf : Network → PowerNetwork
 networkOf N =
     record {

@@ -1,3 +1,4 @@
+// The feeder's records as one value, its limits, and its lookups.
 // Translated and changed from src/network/topology.rs of oxigrid. Copyright 2024-2026 COOLJAPAN OU (Team Kitasan), Apache License 2.0.
 ghost use mathlib.Core.Path.{_≡_};
 ghost use lib.ListN.{take};
@@ -91,10 +92,9 @@ impl PowerNetwork {
         self.branch_count as usize
     }
 
-    // The first position of a listed bus with this id. The array holds 256: where the count says more, the other records are empty ones that
-    // stand nowhere, and are not looked at.
+    // The first position of a listed bus with this id.
     pub fn bus_index(self, bus_id: u16) -> BusIndex
-        ensures { λ r. ⌜ r ≡ busIndex (take 256 (recordsOf self .buses)) «bus_id» ⌝ }
+        ensures { λ r. ⌜ r ≡ busIndex (take (self .«bus_count») (self .buses)) «bus_id» ⌝ }
     {
         let count = at_most(self.bus_count as usize, PowerNetwork::MAX_BUSES as usize);
         let mut i: usize = 0;

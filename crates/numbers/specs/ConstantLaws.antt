@@ -1,14 +1,18 @@
--- Document 01: "0.001, 1e-9 and 1e-12 in this paper mean the nearest f64": the patterns are those of 1 divided by 1,000, 1e9 and 1e12, which are exact, and a division rounds once, to the nearest.
+-- Document 01: "0.001, 1e-9 and 1e-12 in this paper mean the nearest f64". So do the patterns of the others, each of a fraction by `round`, which rounds to the nearest.
 use mathlib.Core.Path.{_≡_, refl}
-use lib.Ieee.{Float, binary64, ofBits, mul, div}
-use Rattle.numbers.specs.Constants.{thousandth, thousand, million, billionth, trillionth}
+use mathlib.Core.Bool.{true, false}
+use Prim.Native.Nat.{_^_}
+use lib.Ieee.{binary64, ofBits, neg, round}
+use Rattle.numbers.specs.Constants.{zero64, thousandth, thousand, million, minusMillion, billionth, trillionth, hundred}
 
-one : Float
-one = ofBits binary64 0x3ff0_0000_0000_0000
-
-nearest :
-    (div binary64 one thousand ≡ thousandth)
-    × (div binary64 one (mul binary64 thousand million) ≡ billionth)
-    × (div binary64 one (mul binary64 million million) ≡ trillionth)
-unfolding one ofBits mul div
-nearest = (refl, refl, refl)
+pub nearest :
+    (round binary64 false 0 1 ≡ zero64)
+    × (round binary64 false 1 1000 ≡ thousandth)
+    × (round binary64 false 1000 1 ≡ thousand)
+    × (round binary64 false 1000000 1 ≡ million)
+    × (round binary64 true 1000000 1 ≡ minusMillion)
+    × (round binary64 false 1 (10 ^ 9) ≡ billionth)
+    × (round binary64 false 1 (10 ^ 12) ≡ trillionth)
+    × (round binary64 false 100 1 ≡ hundred)
+unfolding round ofBits neg
+nearest = (refl, refl, refl, refl, refl, refl, refl, refl)

@@ -1,4 +1,4 @@
--- The floats that document 01 names, each by its bit pattern: "0.001, 1e-9 and 1e-12 in this paper mean the nearest f64".
+-- The floats that document 01 names, each by its bit pattern: "0.001, 1e-9 and 1e-12 in this paper mean the nearest f64" (`ConstantLaws.nearest`).
 use lib.Ieee.{Float, binary64, ofBits, neg}
 
 -- 0.0, where loads and totals start

@@ -5,6 +5,7 @@ pub mod Constants
 pub mod ConstantLaws
 pub mod Parts
 pub mod TableLaws
+pub mod Arrays
 pub mod Tests
 pub mod Every
 pub mod CountLaws

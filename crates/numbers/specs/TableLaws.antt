@@ -1,4 +1,4 @@
--- Laws of tables f 0, f 1, .., f (n - 1): length, entries, parts, and how an array is filled with one by rising position.
+-- Laws of tables f 0, f 1, .., f (n - 1): length, entries, parts, an entry stored, and how an array is filled with one by rising position.
 use mathlib.Core.Path.{_≡_, refl, sym, ap, _∙_}
 use mathlib.Core.Logic.{_≢_}
 use mathlib.Core.Bool.{Bool, true, false, cond}
@@ -61,7 +61,7 @@ unfolding table
 table-cong f g zero h = refl
 table-cong f g (suc n) h = rw (h n (omega arith), table-cong f g n (λ i l. h i (omega arith)))
 
--- with one entry changed it is the table of a function that differs there only
+-- one entry stored anew: the table of a function that differs there only
 pub table-set : {A : Type 0} (f g : ℕ → A) (n x : ℕ) (v : A) → x < n → g x ≡ v → ((k : ℕ) → k < n → k ≢ x → f k ≡ g k) → set (table f n) x v ≡ table g n
 table-set f g n x v l e h = as-table g n v (set (table f n) x v) (length-set (table f n) x v ∙ length-table f n) (λ k m. go k m (ℕ-discrete k x))
   where
@@ -91,18 +91,11 @@ module _ {A : Type 0} (f : ℕ → A) (d : A) where
 
   pub filled-more : (n i : ℕ) → i < n → set (filled n i) i (f i) ≡ filled n (i + 1)
   unfolding filled
-  filled-more n i h = as-table _ n d (set (filled n i) i (f i)) (length-set (filled n i) i (f i) ∙ length-table _ n) (λ j k. go j k (ℕ-discrete j i))
+  filled-more n i h = table-set _ _ n i (f i) h (rw (lt-ltb i (i + 1) (omega arith))) (λ j k m. ap (λ b. cond b (f j) d) (same j m (ltb j i) refl))
     where
-      go : (j : ℕ) → j < n → Dec (j ≡ i) → getD (set (filled n i) i (f i)) j d ≡ cond (ltb j (i + 1)) (f j) d
-      go j k (yes e) = rw (e, lt-ltb i (i + 1) (omega arith)) (getD-set-same (filled n i) i (f i) d (rw (length-table (λ j. cond (ltb j i) (f j) d) n) h))
-      go j k (no m) =
-          getD-set-other (filled n i) i j (f i) d m
-          ∙ getD-table _ n j d k
-          ∙ ap (λ b. cond b (f j) d) (same (ltb j i) refl)
-        where
-          same : (b : Bool) → ltb j i ≡ b → ltb j i ≡ ltb j (i + 1)
-          same true e = e ∙ sym (lt-ltb j (i + 1) (let l = ltb-true j i e in omega arith))
-          same false e = e ∙ sym (le-ltb j (i + 1) (let l = ltb-false j i e in omega arith))
+      same : (j : ℕ) → j ≢ i → (b : Bool) → ltb j i ≡ b → ltb j i ≡ ltb j (i + 1)
+      same j m true e = e ∙ sym (lt-ltb j (i + 1) (let l = ltb-true j i e in omega arith))
+      same j m false e = e ∙ sym (le-ltb j (i + 1) (let l = ltb-false j i e in omega arith))
 
   -- the others are d in the table too
   pub filled-all : (n i : ℕ) → ((j : ℕ) → j < n → i ≤ j → f j ≡ d) → filled n i ≡ table f n

@@ -1,4 +1,4 @@
--- Counting up: the one form of every loop, in code, definition and proof.
+-- Counting up: what a loop has after n steps, and a table of n entries, with the laws of one step more.
 use mathlib.Core.Path.{_≡_, refl}
 use mathlib.Core.List.{List, [], _∷_, _++_}
 use Prim.Native.Nat.{ℕ, zero, suc, _+_, _≤_, _<_}

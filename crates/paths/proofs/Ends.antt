@@ -1,4 +1,4 @@
--- Beyond the branches that a graph has room for both ends of a branch are bus 0, so that the path between them has none.
+-- Beyond the branches that a graph has room for both ends of a branch are bus 0, so the path is empty.
 use mathlib.Core.Path.{_≡_, refl, sym, ap, _∙_}
 use mathlib.Core.Bool.{Bool, true, false, cond}
 use mathlib.Core.List.{List, [], reverse}

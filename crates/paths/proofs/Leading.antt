@@ -85,10 +85,10 @@ module _ (far by : List ℕ) (start b : ℕ) where
         let r = rw (z, append-nil) at (d .rest) in
         rw (← r, d .stored, d .counted)
 
-    pub led-home : i < 256 → at ≡ start → (n m : ℕ) (o : List Visit) → ((x : ℕ) → x < 256 → getD by x 0 ≡ byOf x o)
+    pub back-at-start : i < 256 → at ≡ start → (n m : ℕ) (o : List Visit) → ((x : ℕ) → x < 256 → getD by x 0 ≡ byOf x o)
         → _≡_ {A = Path} (record { count = i; branch = branch }) (pathOf (back (farNet n m far) o start 256 b))
     unfolding back
-    led-home h e n m o w = let s : 256 - i ≡ suc (256 - (i + 1)) = omega arith in all-led n m o w (rw (s, eq-eqb at start e))
+    back-at-start h e n m o w = let s : 256 - i ≡ suc (256 - (i + 1)) = omega arith in all-led n m o w (rw (s, eq-eqb at start e))
 
     pub led-enough : 256 ≤ i → (n m : ℕ) (o : List Visit) → ((x : ℕ) → x < 256 → getD by x 0 ≡ byOf x o)
         → _≡_ {A = Path} (record { count = i; branch = branch }) (pathOf (back (farNet n m far) o start 256 b))

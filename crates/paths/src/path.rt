@@ -96,10 +96,10 @@ fn turned(list: Path) -> Path
 }
 
 // The branches of the path that a walk finds, beginning at bus from: none where the buses are the same or to is not reached.
-pub fn bfs_path(graph: Graph, live: [bool; 512], from: u8, to: u8) -> Path
+fn bfs_path(graph: Graph, live: [bool; 512], from: u8, to: u8) -> Path
     ensures { λ r. ⌜ r ≡ pathOf (rowPath graph live from to) ⌝ }
 {
-    let ways = ways_of(walk(graph, live, from, from));
+    let ways = ways_of(walk(graph, live, from));
     let at = wide8(to);
     if ways.reached[at] {
         return turned(way_back(graph, ways.by, from, to));
@@ -110,7 +110,7 @@ pub fn bfs_path(graph: Graph, live: [bool; 512], from: u8, to: u8) -> Path
     }
 }
 
-// The path between the ends of branch k, beginning at its from bus. Beyond the branches that a graph has room for both ends are bus 0, and the path has none.
+// The path between the ends of branch k, beginning at its from bus. Beyond the branches that a graph has room for both ends are bus 0, so the path is empty.
 pub fn path_of_ends(graph: Graph, live: [bool; 512], k: u16) -> Path
     ensures { λ r. ⌜ r ≡ pathOf (rowEndsPath graph live k) ⌝ }
 {

@@ -26,7 +26,7 @@ use Rattle.radiality.specs.FeederRowLaws.{flags-live}
 use Rattle.plan.specs.declared.pairs.PairList.{PairList}
 use Rattle.states.specs.Switches.{State, branchOf}
 use Rattle.states.specs.Listed.{switches-listed, few-switches, switch-at}
-use Rattle.changes.specs.declared.refusals.Change.{Change}
+use Rattle.changes.specs.declared.change.Change.{Change}
 use Rattle.openings.specs.Opening.{rowOpening}
 use Rattle.plan.specs.Plan.{Pair, closings, opening, exchanged, pairsFrom, pairs, switchOn, movesOf, plan}
 use Rattle.plan.specs.RowOpening.{row-opening}

@@ -3,9 +3,8 @@
 use mathlib.Core.Path.{_≡_, refl, ap, _∙_}
 use mathlib.Core.Logic.{_⊎_, inl, inr, _↔_, _≢_}
 use mathlib.Core.Bool.{Bool, true, false, not, _&&_, _||_, true≢false, false≢true}
-use mathlib.Core.List.{List, [], _∷_, List·Memᴰ·head, List·Memᴰ·not-nil}
+use mathlib.Core.List.{List, [], _∷_, cons≢nil, List·Memᴰ·head, List·Memᴰ·not-nil}
 use Prim.Native.Nat.{ℕ, _<_}
-use native.Mathlib.Omega.{arith}
 use lib.Dec.{eqb}
 use lib.ListN.{length, getD}
 use borrow.Author.Tests.{eq-eqb, ne-eqb, not-true}
@@ -16,7 +15,7 @@ use Rattle.network.specs.Records.{Network, noSwitch}
 use Rattle.network.specs.Answers.{accepted}
 use Rattle.network.specs.Faults.{switchId}
 use Rattle.network.specs.Check.{checkRecords}
-use Rattle.network.specs.AnswerLaws.{judge-accepted, then-iff}
+use Rattle.network.specs.AnswerLaws.{judge-accepted, then-iff, no-refusal}
 use Rattle.network.specs.InsideLaws.{check-inside}
 use Rattle.network.specs.Positions.{each-at, index-own}
 use Rattle.network.specs.Inside.{Inside}
@@ -63,7 +62,7 @@ module _ (N : Network) where
 
     none-locked : (l : List ℕ) → (refuseLocked N l ≡ accepted tt) ↔ (l ≡ [])
     none-locked [] = (λ e. refl, λ e. refl)
-    none-locked (i ∷ l) = (λ e. let z : _≡_ {A = ℕ} 0 1 = cc in absurd (omega arith), λ e. let z : _≡_ {A = ℕ} 0 1 = cc in absurd (omega arith))
+    none-locked (i ∷ l) = (λ e. no-refusal e, λ e. absurd (cons≢nil e))
 
     pub locked-accepted : (checkLocked N present wanted ≡ accepted tt) ↔ Free N present wanted
     unfolding checkLocked lockedDifferences lockedDifference

@@ -1,5 +1,5 @@
 -- Demand 3, one claim: the steps along a plan, what stands after a list of steps, and what holds of it for any two lists.
--- Read with: Plan (the planner's answer); crate graph's Graph (Path, Loop, Tree) and Feeder; crate states' Live.
+-- Read with: Plan; crate changes' Change; crate radiality's Feeder; crate graph's Graph (Path, Loop, Tree); crate states' Live and Switches.
 use mathlib.Core.Path.{_≡_}
 use mathlib.Core.Logic.{_↔_, _≢_}
 use mathlib.Core.Bool.{Bool, true, false, cond, _&&_}
@@ -7,14 +7,14 @@ use mathlib.Core.List.{List, [], _∷_, _++_, map, List·Memᴰ}
 use mathlib.Core.Option.{Option, none, some}
 use Prim.Native.Nat.{ℕ, zero, suc, pred, _≤_}
 use lib.Dec.{eqb}
-use lib.ListN.{length, set, getD, getElem?}
+use lib.ListN.{length, set, replicate, getElem?}
 use Rattle.numbers.specs.UpTo.{table}
 use Rattle.numbers.specs.Choose.{indexOf}
-use Rattle.network.specs.Records.{Network, noBranch}
+use Rattle.network.specs.Records.{Network}
 use Rattle.network.specs.Answers.{accepted}
 use Rattle.network.specs.Faults.{switchId}
 use Rattle.states.specs.Live.{live, SameLive}
-use Rattle.states.specs.Switches.{State, byte, branchOf, operable, GoodState}
+use Rattle.states.specs.Switches.{State, byte, branchOf, operable, inService, GoodState}
 use Rattle.graph.specs.Graph.{Path, Connected, Loop, Tree}
 use Rattle.radiality.specs.Feeder.{feeder, LiveIn}
 use Rattle.changes.specs.Change.{checkPlan}
@@ -26,11 +26,11 @@ abbrev pub switchAt : Network → ℕ → ℕ
 switchAt N id = indexOf id (map switchId (N .switches))
 
 -- "A pair carried out sets what it closes to 00, then what it opens to 01"
-unfoldable pub closed : Network → Moves → State → State
-closed N q s = set s (switchAt N (q .closes)) 0
+unfoldable pub afterClosing : Network → Moves → State → State
+afterClosing N q s = set s (switchAt N (q .closes)) 0
 
 unfoldable pub carriedOut : Network → Moves → State → State
-carriedOut N q s = set (closed N q s) (switchAt N (q .opens)) 1
+carriedOut N q s = set (afterClosing N q s) (switchAt N (q .opens)) 1
 
 -- "Undone, it moves the same switches the other way, the last moved first": that is carrying out the pair turned round
 abbrev pub turned : Moves → Moves
@@ -54,7 +54,7 @@ abbrev pub counted : Step → ℕ → ℕ
 counted forward d = suc d
 counted back d = pred d
 
--- document 01's stopping point: a state, and the number of pairs done
+-- what a step gets and leaves: a state, and the number of pairs done
 pub record Point : Type 0 where
   pub state : State
   pub done : ℕ
@@ -69,7 +69,7 @@ unfoldable pub run : Network → List Moves → List Step → Point → Point
 run N P [] p = p
 run N P (x ∷ xs) p = run N P xs (taken N x p (found P x (p .done)))
 
--- after a list of steps "from the present state with no pair done"
+-- document 01's stopping point: what a list of steps leaves, "from the present state with no pair done"
 unfoldable pub after : Network → State → State → List Step → Point
 after N present wanted xs = run N (plan N present wanted) xs (record { state = present; done = 0 })
 
@@ -94,15 +94,15 @@ pub record OnLoop (N : Network) (s t : State) (e f : ℕ) : Type 0 where
   pub only-loop : (o : Loop (feeder N) (LiveIn N t)) (k : ℕ) → List·Memᴰ k (o .branch ∷ o .rest) ↔ List·Memᴰ k (e ∷ path)
   pub lies : List·Memᴰ f path
 
--- another pair: it closes branch `closes` by its switches, then opens `opens` by those of its switches that `by` names
+-- another pair: branch `closed` is closed by its switches, then `opened` is opened by those of its switches that `by` names
 pub record OtherPair : Type 0 where
-  pub closes : ℕ
-  pub opens : ℕ
+  pub closed : ℕ
+  pub opened : ℕ
   pub by : ℕ → Bool
 
 unfoldable pub otherCarriedOut : Network → OtherPair → State → State
 otherCarriedOut N q s =
-    table (λ i. cond (eqb (branchOf N i) (q .opens) && q .by i) 1 (cond (eqb (branchOf N i) (q .closes)) 0 (byte s i))) (length (N .switches))
+    table (λ i. cond (eqb (branchOf N i) (q .opened) && q .by i) 1 (cond (eqb (branchOf N i) (q .closed)) 0 (byte s i))) (length (N .switches))
 
 unfoldable pub othersCarriedOut : Network → List OtherPair → State → State
 othersCarriedOut N [] s = s
@@ -138,17 +138,19 @@ module _ (N : Network) (present wanted : State) where
     -- each pair, undone too, closes one branch that was dead and opens one that was live
     pub exchanges : (xs : List Step) (x : Step) (q : Moves) → Carries xs x q → Exchanged N (reached xs) (carriedOut N q (reached xs)) (closedBy q) (openedBy q)
     -- each opening, undoing included, lies on the one loop that its closing made
-    pub on-loop : (xs : List Step) (x : Step) (q : Moves) → Carries xs x q → OnLoop N (reached xs) (closed N q (reached xs)) (closedBy q) (openedBy q)
+    pub on-loop : (xs : List Step) (x : Step) (q : Moves) → Carries xs x q → OnLoop N (reached xs) (afterClosing N q (reached xs)) (closedBy q) (openedBy q)
     -- no locked switch moves, and no other byte changes
     pub operable-only : (xs : List Step) (x : Step) (q : Moves) → Carries xs x q → (operable N (switchAt N (q .closes)) ≡ true) × (operable N (switchAt N (q .opens)) ≡ true)
     pub others-stay : (xs : List Step) (x : Step) (q : Moves) → Carries xs x q
         → (i : ℕ) → i ≢ switchAt N (q .closes) → i ≢ switchAt N (q .opens) → byte (carriedOut N q (reached xs)) i ≡ byte (reached xs) i
     -- after every list a switch whose branch is live in both states or in neither has its present byte; so "Switches on out-of-service branches are left as found"
     pub untouched : (xs : List Step) (i : ℕ) → live N present (branchOf N i) ≡ live N wanted (branchOf N i) → byte (reached xs) i ≡ byte present i
-    pub as-found : (xs : List Step) (i : ℕ) → getD (N .branches) (branchOf N i) noBranch .status ≡ false → byte (reached xs) i ≡ byte present i
+    pub as-found : (xs : List Step) (i : ℕ) → inService N (branchOf N i) ≡ false → byte (reached xs) i ≡ byte present i
     -- with all pairs done the live branches are the wanted ones, with none the present ones
     pub all-done : (xs : List Step) → done xs ≡ length (plan N present wanted) → SameLive N (reached xs) wanted
     pub none-done : (xs : List Step) → done xs ≡ 0 → SameLive N (reached xs) present
+    -- every number of pairs is reached, so there is a last point
+    pub forward-counts : (n : ℕ) → n ≤ length (plan N present wanted) → done (replicate n forward) ≡ n
     -- no more than all are ever done; forward finds none only with all done, back only with none done, and then state and number stay
     pub at-most-all : (xs : List Step) → done xs ≤ length (plan N present wanted)
     pub forward-none : (xs : List Step) → (found (plan N present wanted) forward (done xs) ≡ none) ↔ (done xs ≡ length (plan N present wanted))

@@ -65,23 +65,23 @@ module _ (G : Net) (W E : ℕ → Bool) where
 
 module _ (N : Network) (W : ℕ → Bool) where
   -- any other pair makes at most the branch that it closes live
-  other-live : (q : OtherPair) (s : State) (k : ℕ) → k ≢ q .closes → live N (otherCarriedOut N q s) k ≡ true → live N s k ≡ true
+  other-live : (q : OtherPair) (s : State) (k : ℕ) → k ≢ q .closed → live N (otherCarriedOut N q s) k ≡ true → live N s k ≡ true
   unfolding otherCarriedOut
   other-live q s k n = live-less N s (otherCarriedOut N q s) k stays
     where
       put : ℕ → ℕ
-      put i = cond (eqb (branchOf N i) (q .opens) && q .by i) 1 (cond (eqb (branchOf N i) (q .closes)) 0 (byte s i))
+      put i = cond (eqb (branchOf N i) (q .opened) && q .by i) 1 (cond (eqb (branchOf N i) (q .closed)) 0 (byte s i))
 
       stays : (i : ℕ) → On N k i → byte s i ≡ 1 → byte (otherCarriedOut N q s) i ≡ 1
-      stays i o b = getD-table put (length (N .switches)) i 0 (o .listed) ∙ go (eqb (branchOf N i) (q .opens) && q .by i)
+      stays i o b = getD-table put (length (N .switches)) i 0 (o .listed) ∙ go (eqb (branchOf N i) (q .opened) && q .by i)
         where
-          go : (t : Bool) → cond t 1 (cond (eqb (branchOf N i) (q .closes)) 0 (byte s i)) ≡ 1
+          go : (t : Bool) → cond t 1 (cond (eqb (branchOf N i) (q .closed)) 0 (byte s i)) ≡ 1
           go true = refl
-          go false = rw (ne-eqb (branchOf N i) (q .closes) (λ e. n (sym (o .here) ∙ e)), b)
+          go false = rw (ne-eqb (branchOf N i) (q .closed) (λ e. n (sym (o .here) ∙ e)), b)
 
   other-missing : (q : OtherPair) (s : State) → missing (feeder N) W (live N s) ≤ suc (missing (feeder N) W (live N (otherCarriedOut N q s)))
   unfolding missing
-  other-missing q s = count-but _ _ (feeder N .branches) (q .closes) (λ k l n h.
+  other-missing q s = count-but _ _ (feeder N .branches) (q .closed) (λ k l n h.
       let w = lacks-so W (live N s) k h in
       lacks-if W _ k (w .0) (not-so _ (λ t. clash (other-live q s k n t) (w .1))))
 

@@ -11,7 +11,7 @@ use lib.Seq.{getD-set-same, getD-set-other, set-set, set-comm, set-getD}
 use Rattle.numbers.specs.Tests.{clash}
 use Rattle.network.specs.Records.{Network}
 use Rattle.states.specs.Live.{live}
-use Rattle.states.specs.Switches.{State, byte, branchOf, operable, GoodState}
+use Rattle.states.specs.Switches.{State, byte, branchOf, operable, GoodState, inService}
 use Rattle.graph.specs.Graph.{Net, Branches, Live, Plus, Path, Connected, Loop, Tree}
 use Rattle.radiality.specs.Feeder.{feeder, LiveIn}
 use Rattle.graph.specs.Chains.{_⊆_, joined-more}
@@ -20,8 +20,8 @@ use Rattle.graph.specs.Forests.{path-unique}
 use Rattle.graph.specs.Trees.{tree-forest, tree-same}
 use Rattle.graph.specs.Loops.{closing-makes-loop, one-loop}
 use Rattle.plan.specs.Plan.{Pair, exchanged, Moves, movesOf}
-use Rattle.plan.specs.Claim.{switchAt, closed, carriedOut, turned, Exchanged, OnLoop}
-use Rattle.states.specs.LiveBytes.{InService, On, moved-other, opened-dead, closed-live, byte-open, byte-closed}
+use Rattle.plan.specs.Claim.{switchAt, afterClosing, carriedOut, turned, Exchanged, OnLoop}
+use Rattle.states.specs.LiveBytes.{On, moved-other, opened-dead, closed-live, byte-open, byte-closed}
 use Rattle.plan.specs.Exchanges.{turnedPair, Fits, opened-live, pair-differs, closing-closed, opening-opened, exchanged-other, exchanged-tree, fits-back}
 use Rattle.plan.specs.Plannable.{Regular}
 
@@ -29,7 +29,7 @@ use Rattle.plan.specs.Plannable.{Regular}
 pub record Switchable (N : Network) (k : ℕ) : Type 0 where
   pub at : ℕ
   pub on : On N k at
-  pub served : InService N k
+  pub served : inService N k ≡ true
   pub free : operable N at ≡ true
 
 -- exactly the flagged branches are live in state s
@@ -74,8 +74,8 @@ module _ {N : Network} (regular : Regular N) {s : State} {E : ℕ → Bool} {q :
   abbrev o : ℕ
   o = r .opening .at
 
-  closed-as : closed N m s ≡ set s c 0
-  unfolding closed
+  closed-as : afterClosing N m s ≡ set s c 0
+  unfolding afterClosing
   closed-as = ap (λ i. set s i 0) (regular .resolved (r .closing .on))
 
   end-as : carriedOut N m s ≡ set (set s c 0) o 1
@@ -88,10 +88,10 @@ module _ {N : Network} (regular : Regular N) {s : State} {E : ℕ → Bool} {q :
   mid-long : length (set s c 0) ≡ length (N .switches)
   mid-long = length-set s c 0 ∙ h .good .long
 
-  mid-closed : live N (closed N m s) e ≡ true
+  mid-closed : live N (afterClosing N m s) e ≡ true
   mid-closed = rw closed-as (closed-live N s e c (r .closing .on) (h .good .long) (λ j p. regular .alone p (r .closing .on)) (r .closing .served))
 
-  mid-other : (k : ℕ) → k ≢ e → live N (closed N m s) k ≡ live N s k
+  mid-other : (k : ℕ) → k ≢ e → live N (afterClosing N m s) k ≡ live N s k
   mid-other k n = rw closed-as (moved-other N s e c (r .closing .on) 0 k n)
 
   end-flags : (k : ℕ) → live N (carriedOut N m s) k ≡ exchanged E q k
@@ -124,7 +124,7 @@ module _ {N : Network} (regular : Regular N) {s : State} {E : ℕ → Bool} {q :
 
   -- undone, the pair leaves the state as it was
   pub undone : carriedOut N (turned m) (carriedOut N m s) ≡ s
-  unfolding carriedOut closed
+  unfolding carriedOut afterClosing
   undone =
       rw (regular .resolved (r .closing .on), regular .resolved (r .opening .on))
       (ap (λ t. set t c 1) (set-set (set s c 0) o 1 0)
@@ -157,25 +157,25 @@ module _ {N : Network} (regular : Regular N) {s : State} {E : ℕ → Bool} {q :
   pair-operable = (ap (operable N) (regular .resolved (r .closing .on)) ∙ r .closing .free, ap (operable N) (regular .resolved (r .opening .on)) ∙ r .opening .free)
 
   -- with the closing, the live branches have branch e too
-  mid-more : Plus (LiveIn N s) e ⊆ LiveIn N (closed N m s)
+  mid-more : Plus (LiveIn N s) e ⊆ LiveIn N (afterClosing N m s)
   mid-more k (inl (l, t)) = (l, mid-other k (λ p. clash t (ap (live N s) p ∙ h .flags e ∙ r .fits .dead)) ∙ t)
   mid-more k (inr p) = rw p (r .fits .listed, mid-closed)
 
-  mid-less : LiveIn N (closed N m s) ⊆ Plus (LiveIn N s) e
+  mid-less : LiveIn N (afterClosing N m s) ⊆ Plus (LiveIn N s) e
   mid-less k (l, t) = go (ℕ-discrete k e)
     where
       go : Dec (k ≡ e) → Plus (LiveIn N s) e k
       go (yes p) = inr p
       go (no n) = inl (l, sym (mid-other k n) ∙ t)
 
-  mid-connected : Connected (feeder N) (LiveIn N (closed N m s))
+  mid-connected : Connected (feeder N) (LiveIn N (afterClosing N m s))
   unfolding Connected
   mid-connected a b x y = joined-more (λ k l. mid-more k (inl l)) (shows-tree h (r .tree) .connected a b x y)
 
   joins : Path (feeder N) (LiveIn N s) (feeder N .from e) (feeder N .to e) (r .fits .path)
   joins = path-more (shows-more h) (r .fits .joins)
 
-  pub pair-on-loop : OnLoop N s (closed N m s) (branchOf N (switchAt N (m .closes))) (branchOf N (switchAt N (m .opens)))
+  pub pair-on-loop : OnLoop N s (afterClosing N m s) (branchOf N (switchAt N (m .closes))) (branchOf N (switchAt N (m .opens)))
   unfolding loop-more
   pair-on-loop = rw (closed-on, opened-on) (record {
     closing = (h .flags e ∙ r .fits .dead, mid-closed);
@@ -191,5 +191,5 @@ module _ {N : Network} (regular : Regular N) {s : State} {E : ℕ → Bool} {q :
 
 -- every other byte stays
 pub other-bytes : (N : Network) (m : Moves) (s : State) (i : ℕ) → i ≢ switchAt N (m .closes) → i ≢ switchAt N (m .opens) → byte (carriedOut N m s) i ≡ byte s i
-unfolding carriedOut closed
+unfolding carriedOut afterClosing
 other-bytes N m s i n d = getD-set-other (set s (switchAt N (m .closes)) 0) (switchAt N (m .opens)) i 1 0 d ∙ getD-set-other s (switchAt N (m .closes)) i 0 0 n

@@ -3,18 +3,18 @@ use mathlib.Core.Path.{_≡_, refl, sym, ap, _∙_}
 use mathlib.Core.Logic.{_↔_}
 use mathlib.Core.Bool.{Bool, false}
 use mathlib.Core.List.{List, [], _∷_, _++_, map}
-use mathlib.Core.Option.{Option, none, some}
+use mathlib.Core.Option.{Option, none, some, Option·some-ne-none}
 use Prim.Native.Nat.{ℕ, zero, suc, _+_, _≤_, _<_}
 use native.Mathlib.Omega.{arith}
-use lib.ListN.{length, getD, drop, getElem?, length-drop, length-map}
+use lib.ListN.{length, drop, replicate, getElem?, length-drop, length-map}
 use lib.Seq.{drop-length}
 use Rattle.numbers.specs.Tests.{clash, not-so, same-test}
-use Rattle.network.specs.Records.{Network, noBranch}
+use Rattle.network.specs.Records.{Network}
 use Rattle.states.specs.Live.{live, SameLive}
-use Rattle.states.specs.Switches.{State, byte, branchOf}
+use Rattle.states.specs.Switches.{State, byte, branchOf, inService}
 use Rattle.radiality.specs.Feeder.{feeder}
 use Rattle.plan.specs.Plan.{Pair, pairs, Moves, movesOf, plan}
-use Rattle.plan.specs.Claim.{turnedIf, Step, back, found, Point, taken, run, after, SwitchingPlan, Demand3}
+use Rattle.plan.specs.Claim.{turned, turnedIf, Step, forward, back, found, Point, carriedOut, taken, run, after, SwitchingPlan, Demand3}
 use Rattle.states.specs.LiveBytes.{live-so, live-listed}
 use Rattle.plan.specs.Plannable.{Regular, Plannable}
 use Rattle.plan.specs.Moved.{Shows, shows-tree, pair-exchanges, pair-on-loop, pair-operable, other-bytes}
@@ -26,7 +26,7 @@ use Rattle.plan.specs.Planner.{pairs-lead}
 -- below its length a list has an element, at its length none
 none-at : {A : Type 0} (l : List A) (n : ℕ) → n ≤ length l → (getElem? l n ≡ none) ↔ (n ≡ length l)
 none-at [] n h = (λ e. omega arith, λ e. refl)
-none-at (a ∷ l) zero h = (λ e. let z : _≡_ {A = ℕ} 0 1 = cc in absurd (omega arith), λ e. absurd (omega arith))
+none-at (a ∷ l) zero h = (λ e. absurd (Option·some-ne-none a e), λ e. absurd (omega arith))
 none-at (a ∷ l) (suc n) h = let r = none-at l n (omega arith) in (λ e. ap suc (r .0 e), λ e. r .1 (omega arith))
 
 run-more : (N : Network) (P : List Moves) (xs : List Step) (x : Step) (p : Point) → run N P (xs ++ (x ∷ [])) p ≡ taken N x (run N P xs p) (found P x (run N P xs p .done))
@@ -34,13 +34,24 @@ unfolding run
 run-more N P [] x p = refl
 run-more N P (y ∷ xs) x p = run-more N P xs x _
 
+-- forward, as often as there are pairs left, finds one each time
+run-forward : (N : Network) (P : List Moves) (n : ℕ) (p : Point) → n + p .done ≤ length P → run N P (replicate n forward) p .done ≡ n + p .done
+unfolding run found
+run-forward N P zero p h = omega arith
+run-forward N P (suc n) p h = go (getElem? P (p .done)) refl (λ q l. run-forward N P n q l)
+  where
+    go : (o : Option Moves) → getElem? P (p .done) ≡ o → ((q : Point) → n + q .done ≤ length P → run N P (replicate n forward) q .done ≡ n + q .done)
+        → run N P (replicate n forward) (taken N forward p o) .done ≡ suc n + p .done
+    go none e ih = absurd (omega (arith, none-at P (p .done) (omega arith) .0 e))
+    go (some m) e ih = unfold taken in ih (record { state = carriedOut N m (p .state); done = suc (p .done) }) (omega arith) ∙ omega arith
+
 -- the same listed branches are live: then the same branches are
 same-live : (N : Network) (s t : State) → ((k : ℕ) → k < feeder N .branches → live N s k ≡ live N t k) → SameLive N s t
 unfolding feeder
 same-live N s t h k = same-test _ _ (λ e. sym (h k (live-listed N s k e)) ∙ e) (λ e. h k (live-listed N t k e) ∙ e)
 
 -- a branch that is out of service is not live
-out-of-service : (N : Network) (s : State) (k : ℕ) → getD (N .branches) k noBranch .status ≡ false → live N s k ≡ false
+out-of-service : (N : Network) (s : State) (k : ℕ) → inService N k ≡ false → live N s k ≡ false
 out-of-service N s k e = not-so _ (λ h. clash (live-so N s k h .0) e)
 
 module _ (N : Network) (present wanted : State) (given : Plannable N present wanted) where
@@ -103,7 +114,7 @@ module _ (N : Network) (present wanted : State) (given : Plannable N present wan
     where
       go : (o : Option Moves) → getElem? P n ≡ o → turnedIf o ≡ none → suc n ≡ 0
       go none e g = absurd (omega (arith, none-at P n (omega arith) .0 e))
-      go (some m) e g = let z : _≡_ {A = ℕ} 0 1 = cc in absurd (omega arith)
+      go (some m) e g = absurd (Option·some-ne-none (turned m) g)
 
   low : (xs : List Step) → after N present wanted xs .done ≤ length P
   low xs = omega (arith, at xs .low, as-many)
@@ -126,6 +137,7 @@ module _ (N : Network) (present wanted : State) (given : Plannable N present wan
     as-found = λ xs i o. keeps xs i (out-of-service N present (branchOf N i) o ∙ sym (out-of-service N wanted (branchOf N i) o));
     all-done = arrives;
     none-done = λ xs e k. unfold after run in ap (λ s. live N s k) (same-state xs [] e);
+    forward-counts = λ n l. unfold after in run-forward N P n (record { state = present; done = 0 }) (omega arith) ∙ omega arith;
     at-most-all = low;
     forward-none = λ xs. none-at P (after N present wanted xs .done) (low xs);
     back-none = λ xs. back-finds (after N present wanted xs .done) (low xs);

@@ -4,7 +4,7 @@ use mathlib.Core.Path.{_≡_, refl, sym, ap, _∙_}
 use mathlib.Core.Logic.{_≢_}
 use mathlib.Core.Bool.{Bool, true, false}
 use mathlib.Core.List.{List, [], _∷_, map}
-use mathlib.Core.Option.{Option, none, some}
+use mathlib.Core.Option.{Option, none, some, Option·none-ne-some}
 use Prim.Native.Nat.{ℕ, zero, suc, _≤_, _<_}
 use native.Mathlib.Omega.{arith}
 use lib.ListN.{length, drop, getElem?}
@@ -56,10 +56,10 @@ module _ {N : Network} (regular : Regular N) where
   leads-at (there t e) h (suc n) b = absurd (omega arith)
   leads-at (next r w u l) h (suc n) b = leads-at l (end-shows regular h r) n (omega arith)
 
-  pub due-at : {W E : ℕ → Bool} {Q : List Pair} {s : State} → Leads N W E Q → Shows N s E → (n : ℕ) (m : Moves) → getElem? (map (movesOf N) Q) n ≡ some m
+  due-at : {W E : ℕ → Bool} {Q : List Pair} {s : State} → Leads N W E Q → Shows N s E → (n : ℕ) (m : Moves) → getElem? (map (movesOf N) Q) n ≡ some m
       → (n < length Q) × (stage N s (map (movesOf N) Q) (suc n) ≡ carriedOut N m (stage N s (map (movesOf N) Q) n)) × Due N (stage N s (map (movesOf N) Q) n) m
   unfolding stage
-  due-at (there t e) h n m g = let z : _≡_ {A = ℕ} 0 1 = cc in absurd (omega arith)
+  due-at (there t e) h n m g = absurd (Option·none-ne-some m g)
   due-at {s = s} (next {E = E} {q = q} r w u l) h zero m g =
       let p : m ≡ movesOf N q = cc in
       (omega arith, ap (λ x. carriedOut N x s) (sym p), record { flags = E; pair = q; moves = p; shows = h; ready = r })
@@ -135,7 +135,7 @@ module _ {N : Network} (regular : Regular N) {W E : ℕ → Bool} {s : State} {Q
   found-due x p a m e = go x (p .done) (p .state) (a .here) e
     where
       behind : (n : ℕ) (t : State) → t ≡ stage N s P (suc n) → (o : Option Moves) → getElem? P n ≡ o → turnedIf o ≡ some m → Due N t m
-      behind n t h none e g = let z : _≡_ {A = ℕ} 0 1 = cc in absurd (omega arith)
+      behind n t h none e g = absurd (Option·none-ne-some m g)
       behind n t h (some v) e g =
           let d = due-at regular lead start n v e in
           let i : turned v ≡ m = cc in
@@ -143,5 +143,5 @@ module _ {N : Network} (regular : Regular N) {W E : ℕ → Bool} {s : State} {Q
 
       go : (x : Step) (n : ℕ) (t : State) → t ≡ stage N s P n → found P x n ≡ some m → Due N t m
       go forward n t h e = rw h (due-at regular lead start n m (unfold found in e) .2)
-      go back zero t h e = let i : none ≡ some m = unfold found in e in let z : _≡_ {A = ℕ} 0 1 = cc in absurd (omega arith)
+      go back zero t h e = absurd (Option·none-ne-some m (unfold found in e))
       go back (suc n) t h e = behind n t h (getElem? P n) refl (unfold found in e)

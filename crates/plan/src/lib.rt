@@ -1,3 +1,3 @@
 // The switching plan from one state of a feeder's switches to another.
-pub mod pairs;
+mod pairs;
 pub mod planner;

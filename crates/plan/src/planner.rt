@@ -8,7 +8,7 @@ ghost use Rattle.plan.specs.Plan.{planText, planned, planAnswerOf};
 ghost use Rattle.plan.specs.Stored.{movesIn};
 use crate::pairs::PairList;
 use crate::pairs::pairs_of;
-use changes::refusals::check_plan;
+use changes::change::check_plan;
 use network::error::Verdict;
 use network::topology::PowerNetwork;
 use numbers::wide16;

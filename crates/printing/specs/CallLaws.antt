@@ -1,13 +1,15 @@
--- A call that is lent a slice, case by case: refused by its tests, without room, or done.
+-- A call that is lent a slice, case by case: refused by its tests, without room, or done. What the code writes stands as `written` here.
 use mathlib.Core.Path.{_≡_, refl, sym, _∙_}
 use mathlib.Core.Bool.{Bool, true, false, cond}
 use mathlib.Core.List.{List, [], _∷_, _++_}
 use Prim.Native.Nat.{ℕ, _≤_, _<_}
 use lib.Dec.{ltb}
 use lib.ListN.{length, drop}
-use borrow.Author.Tests.{lt-ltb, le-ltb, le-leb}
-use Rattle.network.specs.Answers.{Answer, accepted, refused, _andThen_, _if_, judge}
+use borrow.Author.Tests.{lt-ltb, le-ltb, ltb-false}
+use Rattle.network.specs.Answers.{accepted, refused, _andThen_, _if_, judge, Judgement}
+use Rattle.network.specs.AnswerLaws.{judge-iff, then-iff}
 use Rattle.slices.specs.Written.{written}
+use Rattle.slices.specs.WrittenLaws.{written-room}
 use Rattle.printing.specs.Calls.{checkRoom, Call, answered, called}
 
 -- ---- room in a lent slice
@@ -21,7 +23,7 @@ module _ {needed lent : ℕ} where
   room h = rw (le-ltb lent needed h)
 
 -- ---- the call
-module _ {A : Type 0} {tests : Answer (Unit {0})} (answer : A) (bytes out : List ℕ) where
+module _ {A : Type 0} {tests : Judgement} (answer : A) (bytes out : List ℕ) where
   pub call-refused : {number place : ℕ} → tests ≡ refused number place
       → record { answer = refused number place; out = out } ≡ called tests answer bytes out
   unfolding called _andThen_
@@ -35,21 +37,29 @@ module _ {A : Type 0} {tests : Answer (Unit {0})} (answer : A) (bytes out : List
   pub call-done : tests ≡ accepted tt → {needed : ℕ} → length bytes ≡ needed → needed ≤ length out
       → {after : List ℕ} → after ≡ written bytes out → record { answer = accepted answer; out = after } ≡ called tests answer bytes out
   unfolding called _andThen_ checkRoom judge
-  call-done e {needed} n h w = rw (e, n, le-ltb (length out) needed h, w)
+  call-done e {needed} n h w = rw (w, written-room bytes out (rw n h), e, le-ltb (length out) (length bytes) (rw n h))
 
   -- with its tests passed: refused by 13 where the slice is too short, else done
   pub call-passed : tests ≡ accepted tt → called tests answer bytes out ≡ cond (ltb (length out) (length bytes)) (record { answer = refused 13 0; out = out }) (record { answer = accepted answer; out = written bytes out })
   unfolding called _andThen_ checkRoom
-  call-passed e = rw e (go (ltb (length out) (length bytes)))
+  call-passed e = rw e (go (ltb (length out) (length bytes)) refl)
     where
-      go : (short : Bool) → answered (judge ((13 if short) ∷ []) 0) answer bytes out ≡ cond short (record { answer = refused 13 0; out = out }) (record { answer = accepted answer; out = written bytes out })
-      go true = unfold judge in refl
-      go false = unfold judge in refl
+      go : (short : Bool) → ltb (length out) (length bytes) ≡ short
+          → answered (judge ((13 if short) ∷ []) 0) answer bytes out ≡ cond short (record { answer = refused 13 0; out = out }) (record { answer = accepted answer; out = written bytes out })
+      go true q = unfold judge in refl
+      go false q = unfold judge in rw (written-room bytes out (ltb-false (length out) (length bytes) q))
 
   -- with room: the answer, and the bytes at the front of the slice, which keeps its tail
   pub call-is : {c : Call A} → tests ≡ accepted tt → length bytes ≤ length out → c ≡ called tests answer bytes out → c ≡ record { answer = accepted answer; out = written bytes out }
   call-is ok room e = e ∙ sym (call-done ok refl room refl)
 
   pub in-full : tests ≡ accepted tt → length bytes ≤ length out → called tests answer bytes out ≡ record { answer = accepted answer; out = bytes ++ drop (length bytes) out }
-  unfolding written
-  in-full ok room = sym (call-done ok refl room (rw (le-leb (length bytes) (length out) room)))
+  in-full ok room = sym (call-done ok refl room (sym (written-room bytes out room)))
+
+-- its tests and the room together are passed
+pub call-accepted : {A : Type 0} (tests : Judgement) (answer : A) (bytes out : List ℕ) → (tests andThen checkRoom (length bytes) (length out)) ≡ accepted tt
+    → record { answer = accepted answer; out = written bytes out } ≡ called tests answer bytes out
+unfolding checkRoom
+call-accepted tests answer bytes out e =
+    let passed = then-iff tests _ .0 e in
+    call-done answer bytes out (passed .0) refl (ltb-false (length out) (length bytes) (judge-iff _ 0 .0 (passed .1) .0)) refl

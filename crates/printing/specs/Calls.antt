@@ -1,13 +1,12 @@
 -- What a call answers that is lent a slice, and what the slice holds then.
-use mathlib.Core.List.{List, [], _∷_}
+use mathlib.Core.List.{List, [], _∷_, _++_}
 use Prim.Native.Nat.{ℕ}
 use lib.Dec.{ltb}
-use lib.ListN.{length}
-use Rattle.network.specs.Answers.{Answer, accepted, refused, _andThen_, _if_, judge}
-use Rattle.slices.specs.Written.{written}
+use lib.ListN.{length, drop}
+use Rattle.network.specs.Answers.{Answer, accepted, refused, _andThen_, _if_, judge, Judgement}
 
 -- refusal 13: "lent slice shorter than the answer"
-unfoldable pub checkRoom : ℕ → ℕ → Answer (Unit {0})
+unfoldable pub checkRoom : ℕ → ℕ → Judgement
 checkRoom needed room = judge ((13 if ltb room needed) ∷ []) 0
 
 pub record Call (A : Type 0) : Type 0 where
@@ -15,10 +14,10 @@ pub record Call (A : Type 0) : Type 0 where
   pub out : List ℕ
 
 -- "A refusal returns a number and a place and writes no lent byte"; "A longer slice keeps its tail"
-abbrev pub answered : {A : Type 0} → Answer (Unit {0}) → A → List ℕ → List ℕ → Call A
-answered (accepted u) answer bytes out = record { answer = accepted answer; out = written bytes out }
+abbrev pub answered : {A : Type 0} → Judgement → A → List ℕ → List ℕ → Call A
+answered (accepted u) answer bytes out = record { answer = accepted answer; out = bytes ++ drop (length bytes) out }
 answered (refused number place) answer bytes out = record { answer = refused number place; out = out }
 
 -- a call with its tests, what it answers, and the bytes that it writes: 13 comes after all other tests
-unfoldable pub called : {A : Type 0} → Answer (Unit {0}) → A → List ℕ → List ℕ → Call A
+unfoldable pub called : {A : Type 0} → Judgement → A → List ℕ → List ℕ → Call A
 called tests answer bytes out = answered (tests andThen checkRoom (length bytes) (length out)) answer bytes out

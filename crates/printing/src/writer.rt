@@ -1,6 +1,6 @@
 // The frames that are printed, written at the front of a lent slice. What stands behind them stays, and a slice too short stays as it is. A frame of at
 // most 16 digits is written as one number.
-// `SwitchAction` and `SwitchOperation` are translated from src/network/reconfiguration.rs of oxigrid. Copyright 2024-2026 COOLJAPAN OU (Team Kitasan), Apache License 2.0.
+// `SwitchAction` and `SwitchOperation` are translated and changed from src/network/reconfiguration.rs of oxigrid. Copyright 2024-2026 COOLJAPAN OU (Team Kitasan), Apache License 2.0.
 ghost use mathlib.Core.Path.{_≡_};
 ghost use mathlib.Core.List.{_++_};
 ghost use Prim.Native.Nat.{_≤_};

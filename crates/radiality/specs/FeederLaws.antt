@@ -12,7 +12,7 @@ use Rattle.network.specs.Records.{Network, noBranch}
 use Rattle.network.specs.Answers.{accepted}
 use Rattle.network.specs.Faults.{busId}
 use Rattle.network.specs.Check.{checkRecords}
-use Rattle.network.specs.Inside.{Listed, Inside}
+use Rattle.network.specs.Inside.{HasBus, Inside}
 use Rattle.network.specs.InsideLaws.{check-inside}
 use Rattle.network.specs.Positions.{each-at}
 use Rattle.states.specs.Live.{live}
@@ -23,9 +23,9 @@ use Rattle.graph.specs.RadialLaws.{radial-tree}
 module _ (N : Network) (inside : Inside N) where
   pub feeder-sound : Sound (feeder N)
   unfolding feeder position
-  feeder-sound k l = let h = each-at (λ b. Listed N (b .«from_bus») × Listed N (b .«to_bus»)) (N .branches) (inside .ends) k noBranch l in (found _ (h .0), found _ (h .1))
+  feeder-sound k l = let h = each-at (λ b. HasBus N (b .«from_bus») × HasBus N (b .«to_bus»)) (N .branches) (inside .ends) k noBranch l in (found _ (h .0), found _ (h .1))
     where
-      found : (id : ℕ) → Listed N id → indexOf id (map busId (N .buses)) < length (N .buses)
+      found : (id : ℕ) → HasBus N id → indexOf id (map busId (N .buses)) < length (N .buses)
       found id m = omega (arith, index-found id (map busId (N .buses)) m, length-map (N .buses) busId)
 
   pub feeder-small : feeder N .buses ≤ 256

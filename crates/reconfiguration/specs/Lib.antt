@@ -1,3 +1,3 @@
 pub mod Solve
-pub mod Answers
+pub mod AnswersHavePlans
 pub mod SolveLaws

@@ -1,4 +1,5 @@
 // Translated and changed from src/network/reconfiguration.rs of oxigrid. Copyright 2024-2026 COOLJAPAN OU (Team Kitasan), Apache License 2.0.
+// The search that the network asks for.
 ghost use mathlib.Core.Path.{_≡_};
 ghost use Rattle.network.specs.Records.{recordsOf};
 ghost use Rattle.searches.specs.Results.{solveAnswerOf};

@@ -13,8 +13,7 @@ use Rattle.record_lines.specs.Kinds.{readOne, without}
 use Rattle.record_lines.specs.VerdictLaws.{without-then}
 use Rattle.lines.specs.FirstLine.{judgeFrame}
 use Rattle.record_lines.specs.FramedLaws.{Framed, framed, size, fieldsAt, one-refused, one-framed}
-use Rattle.numbers.specs.Parts.{part-rest}
-use Rattle.lines.specs.PartLaws.{part-is}
+use Rattle.numbers.specs.Parts.{part-rest, part-is}
 
 module _ (text : List ℕ) (at : ℕ) where
   -- the part of the text that the code takes for a line of n characters, and the part behind its kind byte

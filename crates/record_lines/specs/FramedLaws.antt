@@ -1,75 +1,44 @@
 -- A line that passes rows 1 and 2 of a kind stands whole at the front of the text: its characters, and the lines behind it; and reading it is reading its fields.
-use mathlib.Core.Path.{_≡_, refl, sym, ap, _∙_, subst}
-use mathlib.Core.Bool.{Bool, true, false, cond, false≢true}
-use mathlib.Core.List.{List, [], _∷_}
+use mathlib.Core.Path.{_≡_, refl, sym, ap, _∙_}
+use mathlib.Core.Bool.{true}
+use mathlib.Core.List.{List, [], _∷_, _++_}
 use Prim.Native.Nat.{ℕ, suc, _<_}
 use native.Mathlib.Omega.{arith}
 use lib.Dec.{eqb}
-use lib.ListN.{length, take, drop}
+use lib.ListN.{length, take, drop, length-append}
+use lib.Seq.{append-snoc, take-at, drop-at}
 use borrow.Author.Tests.{eqb-true}
-use Rattle.network.specs.Answers.{Answer, accepted, refused, _andThen_, Fault, judge}
+use Rattle.network.specs.Answers.{Answer, accepted, refused, _andThen_, Fault, judge, Judgement}
 use Rattle.lines.specs.Hex.{number, Fields, readFields, total}
-use Rattle.lines.specs.Lines.{Line, put, cut, lineFaults}
+use Rattle.lines.specs.Lines.{Line, cut, lineFaults}
 use Rattle.lines.specs.Frames.{Frame, layout}
 use Rattle.record_lines.specs.Kinds.{isFrame, fieldsOf, readOne, without}
-use Rattle.lines.specs.JudgeLaws.{Verdict, both, no-refusal, judge-append, line-passed}
+use Rattle.lines.specs.JudgeLaws.{judge-append, line-passed}
 use Rattle.record_lines.specs.VerdictLaws.{then-accepted, without-then}
-use Rattle.network.specs.AnswerLaws.{same-value}
+use Rattle.network.specs.AnswerLaws.{same-value, no-refusal}
+use Rattle.numbers.specs.Tests.{both}
 use Rattle.lines.specs.FirstLine.{judgeFirst, wanted, judgeFrame}
-
--- ---- the first of a text's lines
-abbrev firstChars : List Line → List ℕ
-firstChars [] = []
-firstChars (l ∷ ls) = l .chars
-
-abbrev firstEnded : List Line → Bool
-firstEnded [] = false
-firstEnded (l ∷ ls) = l .ended
-
-abbrev behindFirst : List Line → List Line
-behindFirst [] = []
-behindFirst (l ∷ ls) = ls
-
-record Front (t : List ℕ) (ls : List Line) : Type 0 where
-  room : length (firstChars ls) < length t
-  chars : firstChars ls ≡ take (length (firstChars ls)) t
-  rest : behindFirst ls ≡ cut (drop (suc (length (firstChars ls))) t)
-
-put-front : (c : ℕ) (t : List ℕ) (ls : List Line) → (firstEnded ls ≡ true → Front t ls) → firstEnded (put c ls) ≡ true → Front (c ∷ t) (put c ls)
-unfolding put
-put-front c t [] f e = absurd (false≢true e)
-put-front c t (l ∷ ls) f e =
-    let h = f e in
-    record { room = omega (arith, h .room); chars = ap (λ (cs : List ℕ). c ∷ cs) (h .chars); rest = h .rest }
-
-cut-front : (t : List ℕ) → firstEnded (cut t) ≡ true → Front t (cut t)
-unfolding cut
-cut-front [] e = absurd (false≢true e)
-cut-front (c ∷ t) e = go (eqb c 10) refl (cut-front t) e
-  where
-    next : Bool → List Line
-    next b = cond b (record { chars = []; ended = true } ∷ cut t) (put c (cut t))
-
-    go : (b : Bool) → eqb c 10 ≡ b → (firstEnded (cut t) ≡ true → Front t (cut t)) → firstEnded (next b) ≡ true → Front (c ∷ t) (next b)
-    go true q ih f = record { room = omega arith; chars = refl; rest = refl }
-    go false q ih f = put-front c t (cut t) ih f
+use Rattle.lines.specs.CutLaws.{joined, first-ended}
 
 -- ---- a line of this length that passes rows 1 and 2
 pub record Framed (t : List ℕ) (size : ℕ) : Type 0 where
   pub room : size < length t
   pub line : cut t ≡ record { chars = take size t; ended = true } ∷ cut (drop (suc size) t)
 
+behind : (cs : List ℕ) (c : ℕ) (t : List ℕ) (n : ℕ) → length cs ≡ n → drop (suc n) (cs ++ (c ∷ t)) ≡ t
+behind cs c t n e = rw (← append-snoc cs c t) (drop-at (cs ++ (c ∷ [])) t (suc n) (length-append cs (c ∷ []) ∙ omega arith))
+
 line-framed : (kind size p : ℕ) (t : List ℕ) (l : Line) (ls : List Line) → cut t ≡ l ∷ ls → judge (lineFaults (wanted kind size l) l) p ≡ accepted tt → Framed t size
 unfolding lineFaults
 line-framed kind size p t l ls q a =
     let h = line-passed (wanted kind size l) l [] p a in
     let long : length (l .chars) ≡ size = eqb-true _ _ (both (eqb (length (l .chars)) size) (eqb (number (take 2 (l .chars))) kind) (h .2) .0) in
-    let f : Front t (l ∷ ls) = subst (Front t) q (cut-front t (ap firstEnded q ∙ h .0)) in
-    let chars : l .chars ≡ take size t = f .chars ∙ ap (λ (k : ℕ). take k t) long in
-    let rest : ls ≡ cut (drop (suc size) t) = f .rest ∙ ap (λ (k : ℕ). cut (drop (suc k) t)) long in
+    let f = first-ended t l ls q (h .0) in
+    let chars : l .chars ≡ take size t = sym (ap (take size) (f .0) ∙ take-at (l .chars) _ size long) in
+    let rest : cut (drop (suc size) t) ≡ ls = ap (λ x. cut (drop (suc size) x)) (f .0) ∙ ap cut (behind (l .chars) 10 (joined ls) size long) ∙ f .1 in
     record {
-      room = omega (arith, f .room);
-      line = q ∙ (λ i. record { chars = chars i; ended = h .0 i } ∷ rest i);
+      room = omega (arith, simp length-append at (ap length (f .0)));
+      line = q ∙ (λ i. record { chars = chars i; ended = h .0 i } ∷ sym rest i);
     }
 
 pub framed : (kind size p : ℕ) (t : List ℕ) → judgeFrame kind size p (cut t) ≡ accepted tt → Framed t size
@@ -91,8 +60,8 @@ fieldsAt F t = readFields (F .widths) (drop 2 (take (size F) t))
 module _ {A : Type 0} (F : Frame) (make : Fields (F .widths) → A) (bytes : Fields (F .widths) → List Fault) (p : ℕ) where
   -- rows 1 and 2 come first
   pub one-refused : (ls : List Line) {m q : ℕ} → judgeFrame (F .kind) (size F) p ls ≡ refused m q → readOne F make bytes p ls ≡ refused m q
-  unfolding judgeFrame judgeFirst readOne isFrame readFields _andThen_
-  one-refused [] e = ap (λ (v : Verdict). v andThen refused 2 p) e
+  unfolding judgeFrame judgeFirst readOne isFrame _andThen_
+  one-refused [] e = ap (λ (v : Judgement). v andThen refused 2 p) e
   one-refused (l ∷ ls) e = rw (judge-append (lineFaults (isFrame F l) l) (bytes (fieldsOf F l)) p, e)
 
   -- then the fields
@@ -106,19 +75,11 @@ module _ {A : Type 0} (F : Frame) (make : Fields (F .widths) → A) (bytes : Fie
       let clear : judge (lineFaults (isFrame F l) l) p ≡ accepted tt = sym (ap (judgeFrame (F .kind) (size F) p) (f .line)) ∙ e in
       ap (readOne F make bytes p) (f .line) ∙ rw (judge-append (lineFaults (isFrame F l) l) (bytes (fieldsOf F l)) p, clear)
 
--- ---- a refusal by its number and place
-abbrev numberOf : {A : Type 0} → Answer A → ℕ
-numberOf (accepted a) = 0
-numberOf (refused n p) = n
-
-abbrev placeOf : {A : Type 0} → Answer A → ℕ
-placeOf (accepted a) = 0
-placeOf (refused n p) = p
-
+-- ---- a refusal
 pub without-refused : {A : Type 0} (x : Answer (A × List Line)) {m q : ℕ} → without x ≡ refused m q → x ≡ refused m q
 unfolding without
 without-refused (accepted r) e = no-refusal (sym e)
-without-refused (refused n p) e = λ i. refused (numberOf (e i)) (placeOf (e i))
+without-refused (refused n p) e = cc
 
 -- ---- the line that is read is the one at the front
 module _ {A : Type 0} (F : Frame) (make : Fields (F .widths) → A) (bytes : Fields (F .widths) → List Fault) (p : ℕ) where
@@ -127,11 +88,11 @@ module _ {A : Type 0} (F : Frame) (make : Fields (F .widths) → A) (bytes : Fie
   unfolding without _andThen_
   one-made t {a} e = go (judgeFrame (F .kind) (size F) p (cut t)) refl
     where
-      go : (v : Verdict) → judgeFrame (F .kind) (size F) p (cut t) ≡ v → (readOne F make bytes p (cut t) ≡ accepted (a, cut (drop (suc (size F)) t))) × (size F < length t)
+      go : (v : Judgement) → judgeFrame (F .kind) (size F) p (cut t) ≡ v → (readOne F make bytes p (cut t) ≡ accepted (a, cut (drop (suc (size F)) t))) × (size F < length t)
       go (refused m q) f = no-refusal (sym (ap without (one-refused F make bytes p (cut t) f)) ∙ e)
       go (accepted u) f =
           let rest : List Line = cut (drop (suc (size F)) t) in
-          let v : Verdict = judge (bytes (fieldsAt F t)) p in
+          let v : Judgement = judge (bytes (fieldsAt F t)) p in
           let o = one-framed F make bytes p t f in
           let k = then-accepted v (accepted (make (fieldsAt F t))) (sym (without-then v (make (fieldsAt F t)) rest) ∙ sym (ap without o) ∙ e) in
-          (o ∙ ap (λ (x : Verdict). x andThen accepted (make (fieldsAt F t), rest)) (k .0) ∙ ap (λ (x : A). accepted (x, rest)) (same-value (k .1)), framed (F .kind) (size F) p t f .room)
+          (o ∙ ap (λ (x : Judgement). x andThen accepted (make (fieldsAt F t), rest)) (k .0) ∙ ap (λ (x : A). accepted (x, rest)) (same-value (k .1)), framed (F .kind) (size F) p t f .room)

@@ -1,9 +1,8 @@
 -- Document 01's four kinds of frame: the record that each makes, its refusals 3 to 9, and one line of a kind.
-use mathlib.Core.Bool.{Bool, _&&_}
+use mathlib.Core.Bool.{Bool}
 use mathlib.Core.List.{List, [], _∷_, _++_}
 use Prim.Native.Nat.{ℕ, zero, suc, _%_, _/_}
 use lib.Dec.{ltb, eqb}
-use lib.ListN.{length}
 use lib.Ieee.{binary64, ofBits}
 use Rattle.network.specs.declared.bus.Bus as N-bus
 use Rattle.network.specs.declared.branch.Branch as N-branch
@@ -14,6 +13,7 @@ use Rattle.network.specs.Answers.{Answer, accepted, refused, _andThen_, Fault, 
 use Rattle.network.specs.Faults.{Head, headFaults, busFaults, branchFaults, switchFaults}
 use Rattle.lines.specs.Hex.{Fields, readFields, total}
 use Rattle.lines.specs.Frames.{Frame, layout}
+use Rattle.lines.specs.FirstLine.{wanted}
 use Rattle.lines.specs.Lines.{Line, lineFaults}
 
 -- ---- the four kinds of frame
@@ -35,7 +35,7 @@ switch = record { kind = 4; widths = 4 ∷ 4 ∷ 2 ∷ [] }
 
 -- has a line this kind's length and kind byte?
 unfoldable pub isFrame : Frame → Line → Bool
-isFrame F l = eqb (length (l .chars)) (total (layout F)) && eqb (readFields (layout F) (l .chars) .0) (F .kind)
+isFrame F l = wanted (F .kind) (total (layout F)) l
 
 -- what the characters of a line say behind the kind byte
 unfoldable pub fieldsOf : (F : Frame) → Line → Fields (F .widths)

@@ -88,7 +88,7 @@ fn head_fields(f: &[u8]) -> HeadRead
     head_with(buses, branches, switches, base_mva, method, max_iterations)
 }
 
-// The first line of a text, judged whole.
+// The head of a text, from its first line, with refusals 1 to 5.
 pub fn head_line(text: &[u8]) -> HeadRead
     ensures { λ r. ⌜ headAnswer r ≡ without (readOne head headFrom headLineFaults 1 (cut (now (text .entry)))) ⌝ }
 {

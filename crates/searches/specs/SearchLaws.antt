@@ -16,6 +16,7 @@ use Rattle.network.specs.Check.{checkRecords}
 use Rattle.states.specs.Listed.{state-accepted, switches-listed, few-switches}
 use Rattle.graph.specs.Rows.{rowRadial}
 use Rattle.printing.specs.Calls.{checkRoom, answered, called}
+use Rattle.printing.specs.CallLaws.{call-accepted}
 use Rattle.slices.specs.Written.{written}
 use Rattle.radiality.specs.Feeder.{radialIn}
 use Rattle.radiality.specs.FeederRows.{liveFlags}
@@ -53,10 +54,13 @@ module _ (n : PowerNetwork) (search : Network → Best) (sound : (N : Network) �
   long = sound N .good .long ∙ switches-listed n
 
   module _ (v : Verdict) (tested : answerOf v ≡ (checkRecords N andThen checkRoom (n .«switch_count») (length out))) where
+    by-state : answerOf v ≡ (checkRecords N andThen checkRoom (length (search N .state)) (length out))
+    by-state = tested ∙ ap (λ m. checkRecords N andThen checkRoom m (length out)) (sym long)
+
     -- the call with its tests done
     as-tested : answered (answerOf v) (resultBy search N) (search N .state) out ≡ solvedBy search N out
     unfolding solvedBy called
-    as-tested = ap (λ t. answered t (resultBy search N) (search N .state) out) (tested ∙ ap (λ m. checkRecords N andThen checkRoom m (length out)) (sym long))
+    as-tested = ap (λ t. answered t (resultBy search N) (search N .state) out) by-state
 
     pub search-refused : {number place : ℕ} → v ≡ Refused number place → record { answer = refused number place; out = out } ≡ solvedBy search N out
     search-refused r = ap (λ w. answered (answerOf w) (resultBy search N) (search N .state) out) (sym r) ∙ as-tested
@@ -76,8 +80,7 @@ module _ (n : PowerNetwork) (search : Network → Best) (sound : (N : Network) �
           (state-flags N (search N .state) 0 ok (state-accepted N (search N .state) 0 .1 (sound N .good)) _ _ (ap (λ x. x .configuration) f) refl) _ refl
 
       pub search-answered : answerWith n start found out ≡ solvedBy search N out
-      unfolding answerWith
+      unfolding answerWith solvedBy
       search-answered =
           rw (held, judged, start-base n sized ok s .1) (unfold foundOf resultBy in rw f refl)
-          ∙ ap (λ w. answered (answerOf w) (resultBy search N) (search N .state) out) (sym r)
-          ∙ as-tested
+          ∙ call-accepted (checkRecords N) (resultBy search N) (search N .state) out (sym by-state ∙ ap answerOf r)

@@ -36,11 +36,14 @@ module _ {A : Type 0} where
       rw (none, append-nil, e, part-rest) (sym (rw add-zero at whole))
 
 -- ---- bytes at the front
-pub written-sets : (bytes out : List ℕ) → length bytes ≤ length out → written bytes out ≡ sets out 0 bytes
+pub written-room : (bytes out : List ℕ) → length bytes ≤ length out → written bytes out ≡ bytes ++ drop (length bytes) out
 unfolding written
+written-room bytes out h = rw (le-leb (length bytes) (length out) h)
+
+pub written-sets : (bytes out : List ℕ) → length bytes ≤ length out → written bytes out ≡ sets out 0 bytes
 written-sets bytes out h =
     let all = sets-eq bytes out 0 (omega arith) in
-    rw (le-leb (length bytes) (length out) h) (sym (rw zero-add at all))
+    written-room bytes out h ∙ sym (rw zero-add at all)
 
 pub written-short : (bytes out : List ℕ) → length out < length bytes → written bytes out ≡ out
 unfolding written

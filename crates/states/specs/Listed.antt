@@ -50,7 +50,7 @@ module _ (n : PowerNetwork) where
     inside : Inside (recordsOf n)
     inside = check-inside (recordsOf n) .0 ok
 
-    pub few-branches : n .«branch_count» ≤ 512
+    few-branches : n .«branch_count» ≤ 512
     few-branches = omega (arith, inside .counts .1, branches-listed)
 
     pub few-switches : n .«switch_count» ≤ 512

@@ -1,4 +1,4 @@
--- States of the switches, the live branches, and the base state.
+-- States of the switches and refusal 10, the live branches, and the base state.
 use mathlib.Core.Path.{_≡_}
 use mathlib.Core.Bool.{Bool, false, cond, not, _&&_, _||_}
 use mathlib.Core.List.{List, [], _∷_, map}
@@ -6,10 +6,9 @@ use Prim.Native.Nat.{ℕ}
 use lib.Dec.{leb, eqb}
 use lib.ListN.{length, getD}
 use Rattle.numbers.specs.Every.{every}
-use Rattle.network.specs.declared.branch.Branch.{Branch}
 use Rattle.network.specs.declared.switch.Switch.{Switch}
 use Rattle.network.specs.Records.{Network, noBranch}
-use Rattle.network.specs.Answers.{Answer, accepted, _andThen_, _if_, judge}
+use Rattle.network.specs.Answers.{Answer, accepted, _andThen_, _if_, judge, Judgement}
 use Rattle.network.specs.Check.{checkRecords}
 
 -- a state's bytes: "00 (closed) or 01 (open)"
@@ -17,7 +16,7 @@ abbrev pub stateByte : Bool → ℕ
 stateByte opened = cond opened 1 0
 
 -- refusal 10: "state isn't one byte 00 (closed) or 01 (open) for each switch"; place 0 for the present or only state, 1 for the wanted one
-unfoldable pub checkState : Network → List ℕ → ℕ → Answer (Unit {0})
+unfoldable pub checkState : Network → List ℕ → ℕ → Judgement
 checkState N s place = judge ((10 if not (eqb (length s) (length (N .switches)) && every (λ b. leb b 1) s)) ∷ []) place
 
 -- a call on one state: "Calls test the network, then 10", and then it answers
@@ -37,10 +36,6 @@ live N s k = getD (N .branches) k noBranch .status && not (openOn (N .switches) 
 -- the same branches are live in two states
 abbrev pub SameLive : Network → List ℕ → List ℕ → Type 0
 SameLive N s t = (k : ℕ) → live N s k ≡ live N t k
-
--- what is live, from flags of the branches with an open switch
-unfoldable pub liveBy : List Branch → List Bool → ℕ → Bool
-liveBy branches opened k = getD branches k noBranch .status && not (getD opened k false)
 
 -- document 01: "The base opens exactly the normally open switches"
 unfoldable pub baseState : Network → List ℕ

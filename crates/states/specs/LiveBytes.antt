@@ -16,13 +16,9 @@ use Rattle.numbers.specs.Choose.{indexOf}
 use Rattle.network.specs.Records.{Network, noBranch, noSwitch}
 use Rattle.network.specs.Faults.{on}
 use Rattle.network.specs.Inside.{Inside}
-use Rattle.network.specs.Positions.{index-own}
+use Rattle.network.specs.Positions.{index-own, one-on-branch}
 use Rattle.states.specs.Live.{live, openOn}
-use Rattle.states.specs.Switches.{State, byte, branchOf}
-
--- the status of branch k is 01
-abbrev pub InService : Network → ℕ → Type 0
-InService N k = getD (N .branches) k noBranch .status ≡ true
+use Rattle.states.specs.Switches.{State, byte, branchOf, inService}
 
 -- switch i is on branch k
 pub record On (N : Network) (k i : ℕ) : Type 0 where
@@ -50,13 +46,13 @@ open-find (w ∷ ws) (c ∷ s) k h = go (either _ _ h) (open-find ws s k)
 
 module _ (N : Network) (s : State) (k : ℕ) where
   -- a live branch is in service, and no switch on it is open
-  pub live-so : live N s k ≡ true → InService N k × ((i : ℕ) → On N k i → byte s i ≢ 1)
+  pub live-so : live N s k ≡ true → (inService N k ≡ true) × ((i : ℕ) → On N k i → byte s i ≢ 1)
   unfolding live
   live-so h =
       let p = both (getD (N .branches) k noBranch .status) _ h in
       (p .0, λ i o b. clash (open-yes (N .switches) s k i (o .listed) (o .here) b) (not-true _ (p .1)))
 
-  pub live-if : InService N k → ((i : ℕ) → On N k i → byte s i ≢ 1) → live N s k ≡ true
+  pub live-if : inService N k ≡ true → ((i : ℕ) → On N k i → byte s i ≢ 1) → live N s k ≡ true
   unfolding live
   live-if t h = rw t (ap not (not-so _ closed))
     where
@@ -64,7 +60,7 @@ module _ (N : Network) (s : State) (k : ℕ) where
       closed e = let (i, l, p, b) = open-find (N .switches) s k e in h i (record { listed = l; here = p }) b
 
   -- on a branch in service that is not live there is an open switch
-  pub live-not : InService N k → live N s k ≡ false → (i : ℕ) × On N k i × (byte s i ≡ 1)
+  live-not : inService N k ≡ true → live N s k ≡ false → (i : ℕ) × On N k i × (byte s i ≡ 1)
   unfolding live
   live-not t h = go (which (openOn (N .switches) s k))
     where
@@ -86,13 +82,13 @@ module _ (N : Network) (s t : State) (k : ℕ) where
   live-less h l = let p = live-so N t k l in live-if N s k (p .0) (λ i o b. p .1 i o (h i o b))
 
   -- where no switch of branch k moves, the branch is live or not as before
-  pub live-same : ((i : ℕ) → On N k i → byte s i ≡ byte t i) → live N s k ≡ live N t k
+  live-same : ((i : ℕ) → On N k i → byte s i ≡ byte t i) → live N s k ≡ live N t k
   live-same h = same-test _ _
       (λ l. let p = live-so N s k l in live-if N t k (p .0) (λ i o b. p .1 i o (h i o ∙ b)))
       (live-less (λ i o b. sym (h i o) ∙ b))
 
   -- a branch live in s only: it is in service, and on it is a switch that is open in t and not in s
-  pub live-one : live N s k ≡ true → live N t k ≡ false → InService N k × ((i : ℕ) × On N k i × (byte s i ≢ 1) × (byte t i ≡ 1))
+  pub live-one : live N s k ≡ true → live N t k ≡ false → (inService N k ≡ true) × ((i : ℕ) × On N k i × (byte s i ≢ 1) × (byte t i ≡ 1))
   live-one h d =
       let p = live-so N s k h in
       let (i, o, b) = live-not N t k (p .0) d in
@@ -107,7 +103,7 @@ module _ (N : Network) (s : State) (k i : ℕ) (o : On N k i) where
     pub opened-dead : live N (set s i 1) k ≡ false
     opened-dead = not-so _ (λ h. live-so N (set s i 1) k h .1 i o (getD-set-same s i 1 0 (omega (arith, o .listed))))
 
-    module _ (alone : (j : ℕ) → On N k j → j ≡ i) (served : InService N k) where
+    module _ (alone : (j : ℕ) → On N k j → j ≡ i) (served : inService N k ≡ true) where
       pub closed-live : live N (set s i 0) k ≡ true
       closed-live = live-if N (set s i 0) k served (λ j p b. absurd (omega (arith, b, only j p)))
         where
@@ -127,4 +123,4 @@ module _ (N : Network) (inside : Inside N) where
   on-found o = rw (← o .here) (index-own on (N .switches) (inside .alone) _ noSwitch (o .listed))
 
   pub one-switch : {k i j : ℕ} → On N k i → On N k j → i ≡ j
-  one-switch o p = sym (on-found o) ∙ on-found p
+  one-switch o p = one-on-branch N inside _ _ (o .listed) (p .listed) (o .here ∙ sym (p .here))

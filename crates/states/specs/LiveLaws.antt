@@ -4,21 +4,20 @@ use mathlib.Core.Bool.{Bool, true, false, not, _&&_, _||_, and-false, or-true, o
 use mathlib.Core.List.{List, [], _∷_, _++_}
 use mathlib.Core.Logic.{_⊎_, inl, inr}
 use Prim.Native.Nat.{ℕ, zero, suc, _+_, _-_, _≤_, _<_, min}
-use native.Mathlib.Decide.{ℕ-discrete}
 use native.Mathlib.Numerals.{add-one}
 use native.Mathlib.Omega.{arith}
 use lib.Dec.{eqb, ltb}
-use lib.ListN.{length, getD, take, set, length-set, length-take, length-map, List·getD-map, List·getD-eq-default, replicate}
-use lib.Seq.{getD-set-same, getD-set-other, take-suc}
+use lib.ListN.{length, getD, take, set, length-take, length-map, List·getD-map, List·getD-eq-default, replicate}
+use lib.Seq.{take-suc}
 use borrow.Author.Tests.{eq-eqb, ne-eqb, ltb-true, ltb-false}
 use Rattle.numbers.specs.UpTo.{table}
-use Rattle.numbers.specs.TableLaws.{length-table, getD-table, as-table, table-more, take-table, table-cong}
+use Rattle.numbers.specs.TableLaws.{length-table, getD-table, table-more, take-table, table-cong, table-set}
+use Rattle.numbers.specs.Arrays.{padded, array-padded}
 use Rattle.network.specs.declared.branch.Branch.{Branch}
 use Rattle.network.specs.declared.switch.Switch.{Switch}
 use Rattle.network.specs.declared.topology.PowerNetwork.{PowerNetwork}
-use Rattle.network.specs.Records.{Network, noBranch, noSwitch, listed, recordsOf, padded}
-use Rattle.network.specs.RecordLaws.{getD-padded, length-padded}
-use Rattle.states.specs.Live.{stateByte, openOn, live, liveBy, baseState}
+use Rattle.network.specs.Records.{Network, noBranch, noSwitch, listed, recordsOf}
+use Rattle.states.specs.Live.{stateByte, openOn, live, baseState}
 use Rattle.states.specs.Configuration.{configurationOf}
 use Rattle.states.specs.Switches.{byte, isTie}
 
@@ -70,16 +69,9 @@ module _ (f : ℕ → Switch) (s : List ℕ) where
 
     pub open-set : (x : ℕ) → x ≡ f i .«branch_idx» → x < size → getD s i 0 ≡ 1 → set (table (openSoFar i) size) x true ≡ table (openSoFar (i + 1)) size
     open-set x e l o =
-        as-table (openSoFar (i + 1)) size false (set (table (openSoFar i) size) x true) (length-set (table (openSoFar i) size) x true ∙ length-table _ size) (λ k m. go k m (ℕ-discrete k x))
-      where
-        go : (k : ℕ) → k < size → Dec (k ≡ x) → getD (set (table (openSoFar i) size) x true) k false ≡ openSoFar (i + 1) k
-        go k m (yes q) =
-            rw (q, open-next i x h, eq-eqb (f i .«branch_idx») x (sym e), eq-eqb (getD s i 0) 1 o, or-true)
-            (getD-set-same (table (openSoFar i) size) x true false (rw (length-table (openSoFar i) size) l))
-        go k m (no q) =
-            getD-set-other (table (openSoFar i) size) x k true false q
-            ∙ getD-table (openSoFar i) size k false m
-            ∙ sym (open-next i k h ∙ rw (ne-eqb (f i .«branch_idx») k (λ r. q (sym r ∙ sym e)), or-false))
+        table-set (openSoFar i) (openSoFar (i + 1)) size x true l
+        (open-next i x h ∙ rw (eq-eqb (f i .«branch_idx») x (sym e), eq-eqb (getD s i 0) 1 o, or-true))
+        (λ k m q. sym (open-next i k h ∙ rw (ne-eqb (f i .«branch_idx») k (λ r. q (sym r ∙ sym e)), or-false)))
 
   -- all switches, or all bytes, are passed
   pub open-all : (n i k : ℕ) → i ≡ min n (length s) → openSoFar i k ≡ openOn (table f n) s k
@@ -99,16 +91,13 @@ open-append [] s t k h = refl
 open-append (w ∷ ws) [] t k h = absurd (omega arith)
 open-append (w ∷ ws) (b ∷ s) t k h = rw (open-append ws s t k (omega arith))
 
-pub live-padded : (N : Network) (size : ℕ) (s : List ℕ) (k : ℕ) → length s ≡ length (N .switches) → live N (padded size 0 s) k ≡ live N s k
+live-padded : (N : Network) (size : ℕ) (s : List ℕ) (k : ℕ) → length s ≡ length (N .switches) → live N (padded size 0 s) k ≡ live N s k
 unfolding live padded
 live-padded N size s k e = rw (open-append (N .switches) s (replicate (size - length s) 0) k (omega arith))
 
 -- ---- a state's configuration
-pub configuration-padded : (s : List ℕ) → length s ≤ 512 → configurationOf s .switches ≡ padded 512 0 s
-configuration-padded s h = sym (as-table (λ i. getD s i 0) 512 0 (padded 512 0 s) (length-padded 512 0 s h) (λ i k. getD-padded 512 0 s i))
-
 pub live-configuration : (N : Network) (s : List ℕ) (k : ℕ) → length s ≡ length (N .switches) → length s ≤ 512 → live N (configurationOf s .switches) k ≡ live N s k
-live-configuration N s k e h = rw (configuration-padded s h) (live-padded N 512 s k e)
+live-configuration N s k e h = rw (array-padded 512 0 s h) (live-padded N 512 s k e)
 
 -- ---- the base
 pub base-byte : (N : Network) (i : ℕ) → byte (baseState N) i ≡ stateByte (isTie N i)
@@ -126,6 +115,9 @@ unfolding baseState recordsOf
 base-beyond n i h = List·getD-eq-default (baseState (recordsOf n)) 0 (simp (length-map, length-table) h)
 
 -- ---- liveness, branch by branch, from the flags of the branches with an open switch
+unfoldable pub liveBy : List Branch → List Bool → ℕ → Bool
+liveBy branches opened k = getD branches k noBranch .status && not (getD opened k false)
+
 module _ (branches : List Branch) (count : ℕ) (opened : List Bool) (k : ℕ) where
   pub live-at : k < count → (getD branches k noBranch .status && not (getD opened k false)) ≡ liveBy (listed noBranch branches count) opened k
   unfolding liveBy

@@ -1,3 +1,4 @@
+// States of the switches: their bytes, the base, refusal 10, and the branches that are live.
 // Translated and changed from src/network/reconfiguration.rs of oxigrid. Copyright 2024-2026 COOLJAPAN OU (Team Kitasan), Apache License 2.0.
 ghost use mathlib.Core.Path.{_≡_};
 ghost use mathlib.Core.Bool.{false, not, _&&_};
@@ -7,7 +8,8 @@ ghost use Rattle.numbers.specs.Every.{every};
 ghost use Rattle.numbers.specs.UpTo.{table};
 ghost use Rattle.network.specs.Answers.{answerOf};
 ghost use Rattle.states.specs.Configuration.{configurationOf};
-ghost use Rattle.states.specs.Live.{stateByte, checkState, openOn, liveBy, live, baseState};
+ghost use Rattle.states.specs.Live.{stateByte, checkState, openOn, live, baseState};
+ghost use Rattle.states.specs.LiveLaws.{liveBy};
 ghost use Rattle.network.specs.Records.{noBranch, noSwitch, listed, recordsOf};
 use network::branch::Branch;
 use network::error::Verdict;
@@ -133,7 +135,7 @@ fn open_branches(
     while i < n {
         let on = wide16(switches[i].branch_idx);
         if configuration.switches[i] == NetworkConfiguration::OPEN {
-            if on < 512 {
+            if on < PowerNetwork::MAX_BRANCHES as usize {
                 opened[on] = true;
             }
         }

@@ -12,9 +12,9 @@ use Rattle.numbers.specs.Tests.{clash, not-so}
 use Rattle.network.specs.Records.{Network, noBranch}
 use Rattle.network.specs.Inside.{Inside}
 use Rattle.states.specs.Live.{live, SameLive}
-use Rattle.states.specs.Switches.{State, byte, branchOf, size, toggled, GoodState}
+use Rattle.states.specs.Switches.{State, byte, branchOf, size, toggled, GoodState, inService}
 use Rattle.radiality.specs.Feeder.{radialIn}
-use Rattle.states.specs.LiveBytes.{InService, On, live-so, live-if, live-less, moved-other, opened-dead, closed-live, one-switch}
+use Rattle.states.specs.LiveBytes.{On, live-so, live-if, live-less, moved-other, opened-dead, closed-live, one-switch}
 use Rattle.searches.specs.LiveBranches.{same-radial, radial-part-same}
 
 module _ (N : Network) (inside : Inside N) (s : State) where
@@ -40,7 +40,7 @@ module _ (N : Network) (inside : Inside N) (s : State) where
     own = record { listed = l; here = refl }
 
     -- a switch on a branch in service makes it live or dead
-    toggled-other : InService N (branchOf N i) → live N s (branchOf N i) ≢ live N (toggled s i) (branchOf N i)
+    toggled-other : inService N (branchOf N i) ≡ true → live N s (branchOf N i) ≢ live N (toggled s i) (branchOf N i)
     unfolding toggled
     toggled-other served = go (eqb (byte s i) 1) refl
       where

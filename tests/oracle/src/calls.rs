@@ -47,31 +47,63 @@ struct Answer {
 }
 
 /// What the program is to print for a question, and which answer or refusal that is.
-pub struct Printed {
+struct Printed {
+    name: String,
     output: String,
     result: String,
 }
 
-impl Right for Printed {
+/// What it is to print for the questions of one run.
+pub struct Run(Vec<Printed>);
+
+impl Right for Run {
+    fn count(&self) -> usize {
+        self.0.len()
+    }
+
     fn output(&self) -> String {
-        self.output.clone()
+        self.0.iter().map(|printed| printed.output.as_str()).collect()
     }
 
     fn fault(&self, output: &[u8]) -> Option<String> {
-        (output != self.output.as_bytes()).then(|| "the call answers otherwise".to_string())
+        let mut rest = output;
+        for Printed { name, output, .. } in &self.0 {
+            let Some(behind) = rest.strip_prefix(output.as_bytes()) else {
+                return Some(format!("the call of question {name} answers otherwise"));
+            };
+            rest = behind;
+        }
+        (!rest.is_empty()).then(|| "there is more than the answers".to_string())
     }
 
     fn results(&self) -> Vec<(String, usize)> {
-        vec![(self.result.clone(), 1)]
+        self.0.iter().map(|printed| (printed.result.clone(), 1)).collect()
     }
 }
 
-pub fn questions(count: usize, seed: u64) -> Cases {
-    Box::new((0..count).map(move |number| any_question(&mut Random::new(seed, "questions", number), number)))
+pub fn questions(count: usize, seed: u64) -> impl Iterator<Item = Vec<u8>> + Send {
+    (0..count).map(move |number| any_question(&mut Random::new(seed, "questions", number), number))
 }
 
-fn any_question(random: &mut Random, number: usize) -> Case {
-    let (letter, call, kind) = CALLS[random.pick(&[0, 0, 1, 2, 3, 3])];
+/// The questions in runs of the program, each of one to so many, and of no more bytes than the program has room for.
+pub fn runs(count: usize, seed: u64) -> Cases {
+    const MOST: usize = 20;
+    const MOST_BYTES: usize = 200_000;
+    let mut questions = questions(count, seed).peekable();
+    let mut number = 0;
+    Box::new(std::iter::from_fn(move || {
+        let mut text = questions.next()?;
+        for _ in 0..number % MOST {
+            let Some(next) = questions.next_if(|next| text.len() + next.len() <= MOST_BYTES) else { break };
+            text.extend(next);
+        }
+        number += 1;
+        Some(Case { kind: "questions", text })
+    }))
+}
+
+fn any_question(random: &mut Random, number: usize) -> Vec<u8> {
+    let (letter, call, _) = CALLS[random.pick(&[0, 0, 1, 2, 3, 3])];
     let feeder = match call {
         // The original's searches would take minutes there.
         Call::State | Call::Operations | Call::Plan if random.percent(2) => shapes::full_size(random, 0, 10, 100),
@@ -86,7 +118,7 @@ fn any_question(random: &mut Random, number: usize) -> Case {
         Call::Plan => any_plan(random, &network),
     };
     let name = format!("{letter}{number}");
-    Case { kind, text: Question { name, text, call, change: '-', present, wanted, room }.written() }
+    Question { name, text, call, change: '-', present, wanted, room }.written()
 }
 
 /// Any two states, and a slice about as long as their operations.
@@ -108,13 +140,13 @@ fn bytes(digits: &[u8]) -> Vec<u8> {
 impl Question {
     fn written(&self) -> Vec<u8> {
         let head = format!("{} {}\n", self.text.len(), self.name);
-        let first = format!("\n{}{} {}\n", self.letter(), self.change, digits(&self.present));
+        let first = format!("\n{}{} {}\n", self.listed().0, self.change, digits(&self.present));
         let rest = format!("{}\n{}\n", digits(&self.wanted), ".".repeat(self.room));
         [head.as_bytes(), &self.text, first.as_bytes(), rest.as_bytes()].concat()
     }
 
-    fn letter(&self) -> char {
-        CALLS.into_iter().find(|listed| listed.1 == self.call).expect("each call is listed").0
+    fn listed(&self) -> (char, Call, &'static str) {
+        CALLS.into_iter().find(|listed| listed.1 == self.call).expect("each call is listed")
     }
 
     fn printed(&self) -> Printed {
@@ -127,7 +159,8 @@ impl Question {
             Call::State => String::new(),
             _ => format!(" [{written}{}]", ".".repeat(self.room - written.len())),
         };
-        Printed { output: format!("{}{fields}{slice}\n", self.name), result: format!("{} {result}", self.letter()) }
+        let output = format!("{}{fields}{slice}\n", self.name);
+        Printed { name: self.name.clone(), output, result: format!("{}: {result}", self.listed().2) }
     }
 
     /// Radiality and loss are two calls, which refuse alike.
@@ -205,12 +238,11 @@ fn changed(text: &[u8], change: char) -> Vec<u8> {
 
 /// What the program is to print for a file of questions.
 pub fn answers(questions: &[u8]) -> String {
-    read(questions).iter().map(|question| question.printed().output).collect()
+    expected(questions).output()
 }
 
-/// What the program is to print for one question.
-pub fn expected(question: &[u8]) -> Printed {
-    read(question).pop().expect("a question").printed()
+pub fn expected(questions: &[u8]) -> Run {
+    Run(read(questions).iter().map(Question::printed).collect())
 }
 
 fn read(questions: &[u8]) -> Vec<Question> {

@@ -42,7 +42,8 @@ pub fn cases(size: Size, seed: u64) -> Cases {
     let seeded = three_buses(size.three_buses, seed)
         .chain(every_shape(size.each_shape, seed))
         .chain(seeded("damaged copies", size.damaged, seed, damage::damaged))
-        .chain(full_size(size.full, seed));
+        .chain(full_size(size.full, seed))
+        .chain(full_size_not_radial(seed));
     Box::new(fixed.chain(seeded))
 }
 
@@ -79,9 +80,10 @@ fn every_shape(count: usize, seed: u64) -> impl Iterator<Item = Case> + Send {
     })
 }
 
-/// Each method with ten operable ties; then exchanges with more, which take the original seconds.
+const FULL_SIZE: &str = "256 buses, 512 branches, 512 switches";
+
+/// Radial bases: each method with ten operable ties; then exchanges with more, which take the original seconds.
 fn full_size(count: usize, seed: u64) -> impl Iterator<Item = Case> + Send {
-    const KIND: &str = "256 buses, 512 branches, 512 switches";
     const SEARCHES: [(u8, usize, u16); 9] = [
         (0, 10, 1_000),
         (1, 10, 1_000),
@@ -95,7 +97,17 @@ fn full_size(count: usize, seed: u64) -> impl Iterator<Item = Case> + Send {
     ];
     (0..count).map(move |number| {
         let (method, operable, iterations) = SEARCHES[number % SEARCHES.len()];
-        let feeder = shapes::full_size(&mut Random::new(seed, KIND, number), method, operable, iterations);
-        Case { kind: KIND, text: feeder.text() }
+        let feeder = shapes::full_size(&mut Random::new(seed, FULL_SIZE, number), method, operable, iterations);
+        Case { kind: FULL_SIZE, text: feeder.text() }
+    })
+}
+
+/// Bases from which tabu and the exhaustive search move switches: a radial one is their answer.
+fn full_size_not_radial(seed: u64) -> impl Iterator<Item = Case> + Send {
+    const MAKE: [fn(&mut Random) -> Feeder; 2] =
+        [|random| shapes::full_size_with_loop(random, 10), shapes::full_size_in_pieces];
+    MAKE.into_iter().enumerate().map(move |(number, make)| {
+        let feeder = make(&mut Random::new(seed, "full size, not radial", number));
+        Case { kind: FULL_SIZE, text: feeder.text() }
     })
 }

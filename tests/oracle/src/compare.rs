@@ -1,5 +1,5 @@
-//! Runs a program under test on every case of a set, texts of `feeder` or questions of `call_cases`, and holds its output
-//! against the expected one.
+//! Runs a program under test on every case of a set, a text of `feeder` or some questions of `call_cases`, and holds its
+//! output against the expected one.
 
 use crate::cases::{Case, Cases};
 use crate::expected::{Answered, Expected};
@@ -15,6 +15,8 @@ const IN_PIECES: usize = 97;
 
 /// What a program is to print for a case.
 pub trait Right {
+    /// How many texts or questions the case has.
+    fn count(&self) -> usize;
     fn output(&self) -> String;
     /// What is wrong with an output; none if nothing is.
     fn fault(&self, output: &[u8]) -> Option<String>;
@@ -32,8 +34,8 @@ pub struct Tally {
 impl Tally {
     pub fn add(&mut self, kind: &'static str, right: &impl Right) {
         match self.kinds.iter_mut().find(|(name, _)| *name == kind) {
-            Some((_, count)) => *count += 1,
-            None => self.kinds.push((kind, 1)),
+            Some((_, count)) => *count += right.count(),
+            None => self.kinds.push((kind, right.count())),
         }
         for (result, more) in right.results() {
             *self.results.entry(result).or_default() += more;
@@ -52,6 +54,10 @@ impl Tally {
 }
 
 impl Right for Expected {
+    fn count(&self) -> usize {
+        1
+    }
+
     fn output(&self) -> String {
         self.output()
     }
@@ -110,8 +116,10 @@ pub fn compare<R: Right>(compared: Compared<R>, program: &[String], workers: usi
         let work: Vec<_> =
             running.iter().map(|own| scope.spawn(|| worker(own, program, expected, &queue, &tally, &first))).collect();
         scope.spawn(|| watch(&running, &done));
-        work.into_iter().for_each(|worker| worker.join().expect("a worker panicked"));
+        // The watch must be told to end whatever became of the workers, or the scope waits for it forever.
+        let good = work.into_iter().map(|worker| worker.join().is_ok()).fold(true, |all, one| all & one);
         done.store(true, Ordering::Relaxed);
+        assert!(good, "a worker panicked");
     });
     let tally = tally.into_inner().expect("the workers are done");
     println!("{}", tally.lines());

@@ -33,7 +33,10 @@ pub fn print() -> bool {
     }
     for (name, noted, observed) in on_records() {
         println!("- {name}: {observed}");
-        good &= noted == observed;
+        if noted != observed {
+            println!("NOT AS NOTED: {noted}");
+            good = false;
+        }
     }
     good
 }
@@ -54,7 +57,10 @@ fn side_by_side(method: u8, iterations: u16, resistances: &[f64], switches: &[(u
 }
 
 fn on_texts() -> Vec<Finding> {
-    [of_solve(), of_exchange(), of_a_round(), of_tabu_and_exhaustive(), of_loss()].into_iter().flatten().collect()
+    [of_solve(), of_exchange(), of_a_round(), of_tabu_and_exhaustive(), of_loss(), of_ends()]
+        .into_iter()
+        .flatten()
+        .collect()
 }
 
 fn of_solve() -> Vec<Finding> {
@@ -109,8 +115,8 @@ fn of_exchange() -> Vec<Finding> {
             prints: "81013FFCCCCCCCCCCCCD3FF6666666666666403638E38E38E390000201\n82000100\n82000301\n8300030001\n",
         },
         Finding {
-            says: "\"Take the first improving exchange and break (Merlin-Back style)\"",
-            does: "the break comes after the first radial exchange, improving or not: opening branch 1 would take the loss from 1 to 0.5, it is not tried",
+            says: "\"Take the first improving exchange and break (Merlin-Back style)\"; BranchExchange: \"(fast, locally optimal)\"",
+            does: "the break comes after the first radial exchange, improving or not: opening branch 1 would take the loss from 1 to 0.5, it is not tried, and the answer is one exchange away from a better state",
             feeder: triangle_of([0.0, 1.0, 0.5]),
             prints: "81013FF00000000000003FF00000000000000000000000000000000101\n",
         },
@@ -153,8 +159,8 @@ fn of_tabu_and_exhaustive() -> Vec<Finding> {
     in_pieces.switch(1, 1, OPERABLE | TIE);
     vec![
         Finding {
-            says: "enumerate_radial_configs: \"choosing exactly one switch to open from each fundamental loop\"; Exhaustive: \"enumerate all radial spanning trees\"",
-            does: "only normally open switches are toggled: the tree with the tie closed and the section open is never looked at",
+            says: "enumerate_radial_configs: \"choosing exactly one switch to open from each fundamental loop\"; Exhaustive: \"enumerate all radial spanning trees\"; of a section switch: \"include in open set if bit not set\"",
+            does: "only normally open switches are toggled, no section is ever opened: the tree with the tie closed and the section open is never looked at",
             feeder: side_by_side(2, 0, &[1.0, 0.5], &section_and_tie),
             prints: "81013FF00000000000003FF00000000000000000000000000000000101\n",
         },
@@ -198,17 +204,88 @@ fn of_loss() -> Vec<Finding> {
     ]
 }
 
+fn of_ends() -> Vec<Finding> {
+    let mut against = with_buses(0, 0, &[0.0, 0.0, 1.0]);
+    against.branch(1, 2, 0.5);
+    against.branch(3, 2, 0.0);
+    vec![
+        Finding {
+            says: "compute_losses_estimate: \"(directed: from→to of the branch defines feeder flow direction)\"",
+            does: "the map goes both ways: the load of bus 3 reaches branch 0 against the direction of branch 1",
+            feeder: against,
+            prints: "81013FE00000000000003FE00000000000000000000000000000000000\n",
+        },
+        Finding {
+            says: "branch_exchange_solve: \"to completion\"",
+            does: "it ends at max_iterations, here before its first round, whatever there is to gain",
+            feeder: side_by_side(0, 0, &[1.0, 0.5], &[(0, OPERABLE), (1, OPERABLE | TIE)]),
+            prints: "81013FF00000000000003FF00000000000000000000000000000000000\n",
+        },
+        Finding {
+            says: "converged: \"Whether the algorithm converged within `max_iterations`\"",
+            does: "tabu and the exhaustive search have always converged, tabu with no round at all too",
+            feeder: with_buses(1, 0, &[]),
+            prints: "8101000000000000000000000000000000000000000000000000000001\n",
+        },
+        Finding {
+            says: "loss_reduction_pct: \"(base − opt) / base × 100\"",
+            does: "it is 0 when the base loses 1e-12 MW or less: here all of it is saved",
+            feeder: side_by_side(1, 1, &[1e-12, 0.0], &[(0, OPERABLE)]),
+            prints: "81013D719799812DEA1100000000000000000000000000000000000101\n82000100\n",
+        },
+    ]
+}
+
 type RecordFinding = (&'static str, &'static str, String);
 
-/// What the original does with records that document 01 refuses, or with fields that it drops.
+/// What the original does with records that document 01 refuses, or with items that it drops.
 fn on_records() -> Vec<RecordFinding> {
-    vec![
+    let mut findings = vec![
         ("three buses without a branch (two islands beside the main one), n_islands", "1", islands()),
         ("buses 1 and 2, a branch from 1 to an unlisted 9: verify_radiality", "true", unlisted_end()),
+        ("the same: degree and neighbors of 9", "1, [1]", unlisted_neighbors()),
+        ("a bus id twice, with 1 MW and with 5 MW: loss of a branch to it, verify_radiality", "1, false", bus_twice()),
         ("two switches of one id on branches 0 and 1, the id open: live branches 0, 1", "false, true", id_twice()),
         ("a switch on a branch position not below the count, open: loss as without it", "true", no_such_branch()),
         ("eleven ties, exhaustive", "invalid parameter", eleven_ties()),
         ("base_mva 0: loss", "NaN", base_zero()),
+        ("a total load of 1e-13 MW: reserve_margin", "inf", small_load()),
+    ];
+    findings.extend(on_floats());
+    findings.extend(on_two_switches());
+    findings
+}
+
+/// A section and beside it a tie that loses nothing: the losses of base and answer, and the reduction.
+fn on_floats() -> [RecordFinding; 3] {
+    [
+        (
+            "a section beside a tie that loses nothing, exchange, a NaN load: losses, reduction",
+            "NaN, NaN, 0",
+            exchanged(f64::NAN, 1.0),
+        ),
+        ("the same with a NaN resistance of the section", "NaN, NaN, 0", exchanged(1.0, f64::NAN)),
+        ("the same with an infinite resistance of the section", "inf, 0, NaN", exchanged(1.0, f64::INFINITY)),
+    ]
+}
+
+fn on_two_switches() -> [RecordFinding; 2] {
+    let switches = || vec![switch(1, 0, false), switch(2, 0, false), switch(3, 1, true)];
+    let mut network = network(&[1, 2], &[(1, 2), (1, 2)], 1.0);
+    network.branches[0].r = 1.0;
+    let radial = [vec![3], vec![1, 3], vec![2, 3]]
+        .map(|open| verify_radiality(&network, &opening(open), &switches()).to_string());
+    let result = solver(ReconfigAlgorithm::BranchExchange, switches()).solve(&network);
+    let operations = result.map_or(vec![], |result| result.switch_operations);
+    let moved: Vec<String> =
+        operations.iter().map(|operation| format!("{:?} {}", operation.action, operation.switch_id)).collect();
+    [
+        (
+            "switches 1 and 2 on a branch, beside it a tie 3: radial with 3 open, 1 and 3, 2 and 3",
+            "true, false, false",
+            radial.join(", "),
+        ),
+        ("the same, exchange: operations", "Open 1, Close 3", moved.join(", ")),
     ]
 }
 
@@ -240,6 +317,19 @@ fn unlisted_end() -> String {
     verify_radiality(&network(&[1, 2], &[(1, 9)], 1.0), &opening(vec![]), &[]).to_string()
 }
 
+fn unlisted_neighbors() -> String {
+    let network = network(&[1, 2], &[(1, 9)], 1.0);
+    format!("{}, {:?}", network.degree(9), network.neighbors(9))
+}
+
+fn bus_twice() -> String {
+    let mut network = network(&[1, 2, 2], &[(1, 2)], 1.0);
+    network.buses[2].pd = Power(5.0);
+    network.branches[0].r = 1.0;
+    let loss = solver(ReconfigAlgorithm::BranchExchange, vec![]).evaluate_config(&network, &opening(vec![]));
+    format!("{}, {}", loss.unwrap_or(f64::NAN), verify_radiality(&network, &opening(vec![]), &[]))
+}
+
 /// A tree of one branch tells which of the two is live.
 fn id_twice() -> String {
     let switches = vec![switch(1, 0, true), switch(1, 1, true)];
@@ -266,4 +356,23 @@ fn base_zero() -> String {
     let network = network(&[1, 2], &[(1, 2)], 0.0);
     let loss = solver(ReconfigAlgorithm::BranchExchange, vec![]).evaluate_config(&network, &opening(vec![]));
     loss.map_or("an error".to_string(), |loss| loss.to_string())
+}
+
+fn small_load() -> String {
+    let mut network = network(&[1], &[], 1.0);
+    network.buses[0].pd = Power(1e-13);
+    network.reserve_margin().to_string()
+}
+
+fn exchanged(load: f64, r: f64) -> String {
+    let mut network = network(&[1, 2], &[(1, 2), (1, 2)], 1.0);
+    network.buses[1].pd = Power(load);
+    network.branches[0].r = r;
+    let switches = vec![switch(1, 0, false), switch(2, 1, true)];
+    match solver(ReconfigAlgorithm::BranchExchange, switches).solve(&network) {
+        Ok(result) => {
+            format!("{}, {}, {}", result.base_losses_mw, result.optimized_losses_mw, result.loss_reduction_pct)
+        }
+        Err(_) => "an error".to_string(),
+    }
 }

@@ -56,7 +56,7 @@ fn main() -> ExitCode {
             compare::compare(texts, &arguments[3..], workers())
         }
         ["compare-calls", size, seed, _, ..] => {
-            let cases = calls::questions(named(size).questions, number(seed));
+            let cases = calls::runs(named(size).questions, number(seed));
             let questions = Compared { name: "questions", cases, expected: calls::expected };
             compare::compare(questions, &arguments[3..], workers())
         }
@@ -70,7 +70,7 @@ fn main() -> ExitCode {
         ["list", seed] => print(&list::list(number(seed))),
         ["entry", file, entry] => list::print_entry(&read_file(file), number(entry) as usize),
         ["questions", count, seed] => {
-            calls::questions(number(count) as usize, number(seed)).all(|question| print(&question.text))
+            calls::questions(number(count) as usize, number(seed)).all(|question| print(&question))
         }
         ["answers"] => print(calls::answers(&input()).as_bytes()),
         _ => {

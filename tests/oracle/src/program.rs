@@ -1,4 +1,4 @@
-//! The program under test: one run for each text, stopped after a time limit.
+//! The program under test: one run for each text or some questions, stopped after a time limit.
 
 use std::io::{Read, Write};
 use std::process::{Child, Command, Stdio};
@@ -8,8 +8,8 @@ use std::time::{Duration, Instant};
 const LIMIT: Duration = Duration::from_secs(120);
 /// What a pipe takes without a reader.
 const PIPE: usize = 60_000;
-/// No more of an output is read; the longest right one has 7,472 bytes.
-const LONGEST_OUTPUT: u64 = 20_000;
+/// No more of an output is read. The longest right one to a text has 7,472 bytes; one to questions is about as long as they are.
+const LONGEST_OUTPUT: u64 = 300_000;
 
 /// The running child of one worker, for the watch to stop.
 #[derive(Clone, Default)]

@@ -3,6 +3,7 @@
 use crate::feeder::{Feeder, OPERABLE, TIE};
 use crate::random::Random;
 use crate::values::Values;
+use std::collections::HashMap;
 
 pub struct Shape {
     pub name: &'static str,
@@ -429,4 +430,50 @@ pub fn full_size(random: &mut Random, method: u8, operable: usize, iterations: u
         }
     }
     feeder
+}
+
+/// The largest network with one loop in its base, for tabu: it opens a switch of the loop and from there moves switches of
+/// branches out of service.
+pub fn full_size_with_loop(random: &mut Random, iterations: u16) -> Feeder {
+    let mix = Mix {
+        ties: 256,
+        loops: 1,
+        dead_ties: 5,
+        unswitched: 0,
+        style: random.below(3),
+        ..Mix::plain(random, 256, 256)
+    };
+    let mut feeder = mix.feeder_of(random, Values::Plain);
+    (feeder.method, feeder.iterations) = (1, iterations);
+    feeder
+}
+
+/// The largest network in five pieces with ten ties between them, for the exhaustive search. The other ties are sections of
+/// branches out of service.
+pub fn full_size_in_pieces(random: &mut Random) -> Feeder {
+    let mix = Mix { pieces: 5, ties: 261, unswitched: 0, style: 1, ..Mix::plain(random, 256, 256) };
+    let mut feeder = mix.feeder_of(random, Values::Plain);
+    (feeder.method, feeder.iterations) = (2, 0);
+    let piece = pieces(&feeder);
+    let mut ties = 0;
+    for switch in feeder.switches.iter_mut().filter(|s| s.flags & TIE != 0) {
+        let branch = &mut feeder.branches[usize::from(switch.branch)];
+        if ties < 10 && piece[&branch.from] != piece[&branch.to] {
+            ties += 1;
+        } else {
+            (switch.flags, branch.status) = (OPERABLE, 0);
+        }
+    }
+    feeder
+}
+
+/// For each bus the piece of the base that it is in.
+fn pieces(feeder: &Feeder) -> HashMap<u16, u16> {
+    let tie = |k: usize| feeder.switches.iter().any(|s| usize::from(s.branch) == k && s.flags & TIE != 0);
+    let mut piece: HashMap<u16, u16> = feeder.buses.iter().map(|bus| (bus.id, bus.id)).collect();
+    for (_, branch) in feeder.branches.iter().enumerate().filter(|&(k, _)| !tie(k)) {
+        let (a, b) = (piece[&branch.from], piece[&branch.to]);
+        piece.values_mut().filter(|piece| **piece == a).for_each(|piece| *piece = b);
+    }
+    piece
 }

@@ -1,7 +1,7 @@
 -- `print_text` meets its contract: a text that is read has its network's lines printed, another one its refusal.
 use mathlib.Core.Path.{sym}
 use Rattle.frames.specs.Text.{readText}
-use Rattle.frames.specs.Claim.{claim}
+use Rattle.frames.specs.Proof.{passed}
 use Rattle.frames.specs.ReadingLaws.{read-accepted}
 use Rattle.answers.specs.PrintingLaws.{length-refusal}
 use Rattle.answers.proofs.PrinterLaws.{text-printed, text-refused}
@@ -19,7 +19,7 @@ print-network-requires : tie.Need-print-network-requires
 print-network-requires c κs =
     let read = c .before .before .before .before in
     let start = c .before .before .before .before .before .before .before in
-    (claim .passed (start .args .text .now) _ (read-accepted (readText (start .args .text .now)) _ (read .read-text .ensures) (c .before .before .enum-told .given .1)), start .pre)
+    (passed (start .args .text .now) _ (read-accepted (readText (start .args .text .now)) _ (read .read-text .ensures) (c .before .before .enum-told .given .1)), start .pre)
 
 enum-known-verdict : tie.Need-enum-known-verdict
 enum-known-verdict c = search needs

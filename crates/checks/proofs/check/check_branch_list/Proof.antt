@@ -64,8 +64,8 @@ judged c bus e =
     let small : start .args .bus-count ≤ 512 = omega arith in
     let read = branch-read (start .args .t1) (loop .loop .i) (start .good .0 .1 .0 .1) (omega arith) in
     let within : start .args .bus-count ≤ start .args .bus-count = omega arith in
-    let from-listed = stands-before busId bus _ small _ _ _ e _ _ _ within (to .before .position-of .ensures .1) in
-    let to-listed = stands-before busId bus _ small _ _ _ e _ _ _ within (to .position-of2 .ensures .1) in
+    let from-listed = stands-before busId bus _ small _ _ _ e _ _ _ within (to .before .position-of .ensures) in
+    let to-listed = stands-before busId bus _ small _ _ _ e _ _ _ within (to .position-of2 .ensures) in
     c .judge-branch .ensures ∙ ap (λ l. judge l (loop .loop .place)) (branch-faults _ _ _ _ _ read from-listed to-listed)
 
 returns : tie.Need-returns Inv-loop μ-loop

@@ -70,7 +70,7 @@ judged c h p q =
     let start = loop .before .before in
     let a = start .args in
     let within : loop .loop .i ≤ a .count = omega arith in
-    let twice = stands-before switchId _ (a .count) (start .pre .0) _ _ _ (start .pre .3) _ _ (loop .loop .i) within (sought .position-of .ensures .1) in
+    let twice = stands-before switchId _ (a .count) (start .pre .0) _ _ _ (start .pre .3) _ _ (loop .loop .i) within (sought .position-of .ensures) in
     c .judge-switch .ensures
     ∙ switch-judged h _ _ _ _ _ _ _ _ _ _ p q (start .pre .2) twice (flagged .has-flag .ensures) (loop .loop .inv .3) (sought .before .wide16 .ensures .0) (loop .loop .inv .4)
 

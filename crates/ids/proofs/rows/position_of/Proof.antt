@@ -1,7 +1,7 @@
--- `position_of` meets its contract. The invariant: what is left of the row gives the position; the step is `sought-one`. By `first-position` it is the first one of the list.
+-- `position_of` meets its contract. The invariant: what is left of the row gives the position; the step is `sought-one`.
 use Prim.Native.Nat.{_-_}
 use native.Mathlib.Omega.{arith}
-use Rattle.ids.specs.IdLaws.{Seeking, seek-starts, none-found, found-here, sought-one, all-sought, first-position}
+use Rattle.ids.specs.IdLaws.{Seeking, seek-starts, none-found, found-here, sought-one, all-sought}
 use Rattle.ids.proofs.rows.position_of.Statement.{statement}
 use Rattle.ids.proofs.rows.position_of.Tie as tie
 
@@ -27,7 +27,7 @@ loop-holds : tie.Need-loop-holds Inv-loop μ-loop
 loop-holds c = seek-starts _ _ _ _ _ _ _ (c .before .before .bucket .ensures .0) (c .wide16 .ensures .0)
 
 returns : tie.Need-returns Inv-loop μ-loop
-returns c = first-position _ _ _ _ _ (none-found _ _ _ _ _ (c .before .before .loop .inv) (c .if1 .taken))
+returns c = none-found _ _ _ _ _ (c .before .before .loop .inv) (c .if1 .taken)
 
 mul-if2 : tie.Need-mul-if2 Inv-loop μ-loop
 mul-if2 c = omega arith
@@ -39,7 +39,7 @@ returns-2 : tie.Need-returns-2 Inv-loop μ-loop
 returns-2 c =
     let f = c .before .before in
     let l = f .before in
-    first-position _ _ _ _ _ (found-here _ _ _ _ _ (l .before .loop .inv) (l .loop-test .taken) (f .if1 .left) (c .if2 .taken))
+    found-here _ _ _ _ _ (l .before .loop .inv) (l .loop-test .taken) (f .if1 .left) (c .if2 .taken)
 
 mul-wide16-2 : tie.Need-mul-wide16-2 Inv-loop μ-loop
 mul-wide16-2 c = omega arith
@@ -64,7 +64,7 @@ loop-again c =
     sought-one _ _ _ _ _ (l .before .loop .inv) (l .loop-test .taken) (f .if1 .left) _ (d .if2 .left) (c .wide162 .ensures .0)
 
 returns-3 : tie.Need-returns-3 Inv-loop μ-loop
-returns-3 c = first-position _ _ _ _ _ (all-sought _ _ _ _ _ (c .before .loop .inv) (c .loop-test .left))
+returns-3 c = all-sought _ _ _ _ _ (c .before .loop .inv) (c .loop-test .left)
 
 pub position-of-spec : {M : Type 1} → statement M
 position-of-spec =

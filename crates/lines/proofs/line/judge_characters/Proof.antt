@@ -6,7 +6,7 @@ use borrow.Author.Needs.{needs}
 use Rattle.numbers.specs.Every.{every}
 use Rattle.lines.specs.Hex.{isDigit}
 use Rattle.lines.specs.FirstLineLaws.{long-refused, unended-refused, odd-refused, other-refused, digits-accepted}
-use Rattle.lines.specs.PartLaws.{part-is}
+use Rattle.numbers.specs.Parts.{part-is}
 use Rattle.lines.proofs.line.judge_characters.Statement.{statement}
 use Rattle.lines.proofs.line.judge_characters.Tie as tie
 

@@ -6,7 +6,7 @@ use borrow.Author.Needs.{needs}
 use Rattle.network.specs.Answers.{answerOf}
 use Rattle.network.specs.AnswerLaws.{refused-then, accepted-then}
 use Rattle.lines.specs.Hex.{number}
-use Rattle.lines.specs.PartLaws.{part-is}
+use Rattle.numbers.specs.Parts.{part-is}
 use Rattle.lines.specs.FirstLineLaws.{clear-at, other-size, other-kind, as-wanted, frame-then, frame-missing}
 use Rattle.lines.proofs.line.judge_line.Statement.{statement}
 use Rattle.lines.proofs.line.judge_line.Tie as tie

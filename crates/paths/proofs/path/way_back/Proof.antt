@@ -2,7 +2,7 @@
 use Prim.Native.Nat.{_-_}
 use native.Mathlib.Omega.{arith}
 use borrow.Author.Needs.{needs}
-use Rattle.paths.proofs.Leading.{Leading, none-led, one-led, led-home, led-enough}
+use Rattle.paths.proofs.Leading.{Leading, none-led, one-led, back-at-start, led-enough}
 use Rattle.paths.proofs.path.way_back.Statement.{statement}
 use Rattle.paths.proofs.path.way_back.Tie as tie
 
@@ -16,7 +16,7 @@ loop-holds : tie.Need-loop-holds Inv-loop μ-loop
 loop-holds c = none-led _ _ _ _
 
 returns : tie.Need-returns Inv-loop μ-loop
-returns c = led-home _ _ _ _ (c .before .before .loop .inv) (c .before .loop-test .taken) (c .if1 .taken) _ _
+returns c = back-at-start _ _ _ _ (c .before .before .loop .inv) (c .before .loop-test .taken) (c .if1 .taken) _ _
 
 wide8-requires : tie.Need-wide8-requires Inv-loop μ-loop
 wide8-requires c κs = tt

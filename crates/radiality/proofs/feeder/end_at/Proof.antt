@@ -11,10 +11,10 @@ cast-result : tie.Need-cast-result
 cast-result c = search needs
 
 returns : tie.Need-returns
-returns c l long e = end-found _ _ _ _ _ _ (c .before .before .pre) (c .before .position-of .ensures .0) l long e (c .if1 .taken)
+returns c l long e = end-found _ _ _ _ _ _ (c .before .before .pre) (c .before .position-of .ensures) l long e (c .if1 .taken)
 
 returns-2 : tie.Need-returns-2
-returns-2 c l long e = no-end _ _ _ _ _ _ (c .before .before .pre) (c .before .position-of .ensures .0) l long e (c .if1 .left)
+returns-2 c l long e = no-end _ _ _ _ _ _ (c .before .before .pre) (c .before .position-of .ensures) l long e (c .if1 .left)
 
 pub end-at-spec : {M : Type 1} → statement M
 end-at-spec = tie.close (tie.spec position-of-requires cast-result returns returns-2)

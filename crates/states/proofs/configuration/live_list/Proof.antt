@@ -6,8 +6,7 @@ use native.Mathlib.Omega.{arith}
 use lib.ListN.{getD}
 use borrow.Author.Needs.{needs}
 use Rattle.numbers.specs.TableLaws.{filled, filled-none, filled-more, filled-all}
-use Rattle.states.specs.Live.{liveBy}
-use Rattle.states.specs.LiveLaws.{live-at, live-beyond}
+use Rattle.states.specs.LiveLaws.{live-at, live-beyond, liveBy}
 use Rattle.network.specs.ReadLaws.{branch-read}
 use Rattle.network.specs.Records.{noBranch, listed}
 use Rattle.states.proofs.configuration.live_list.Statement.{statement}

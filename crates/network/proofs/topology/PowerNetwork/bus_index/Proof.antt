@@ -1,13 +1,12 @@
 -- `bus_index` meets its contract: none of the first i listed buses has the id.
-use mathlib.Core.Path.{_≡_, sym, ap, _∙_}
+use mathlib.Core.Path.{_≡_, sym, _∙_}
 use mathlib.Core.List.{map}
 use Prim.Native.Nat.{_≤_, _<_, _-_}
 use native.Mathlib.Omega.{arith}
 use lib.ListN.{length, getD, take, length-take, length-map}
 use borrow.Author.Needs.{needs}
 use Rattle.network.specs.Faults.{busId}
-use Rattle.network.specs.LookupLaws.{Unseen, unseen-none, unseen-more, seen-here, seen-nowhere, found-at, not-found, key-at, buses-within}
-use Rattle.network.specs.Lookups.{busIndex}
+use Rattle.network.specs.LookupLaws.{Unseen, unseen-none, unseen-more, seen-here, seen-nowhere, found-at, not-found, key-at}
 use Rattle.network.specs.ReadLaws.{pastBus, length-of}
 use Rattle.network.proofs.bus.Bus.{the-type}
 use Rattle.network.proofs.topology.PowerNetwork.bus_index.Statement.{statement}
@@ -56,9 +55,7 @@ returns : tie.Need-returns Inv-loop μ-loop
 returns c =
     let at = c .before .before in
     let l = listed (c .before) in
-    let start = at .before .before in
     found-at _ _ (at .loop .i) (l .0) (seen-here _ _ (at .loop .i) (at .loop .inv .1) (l .1) (l .2 ∙ c .if1 .taken))
-    ∙ ap (λ buses. busIndex buses (start .args .bus-id)) (buses-within (start .args .t1) (size start))
 
 add-i : tie.Need-add-i Inv-loop μ-loop
 add-i c = search needs
@@ -78,7 +75,6 @@ returns-2 c =
     let i = c .before .loop .i in
     let h : length (take (n .«bus_count») (n .buses)) ≤ i = rw (length-take (n .«bus_count») (n .buses)) (omega (arith, size (c .before .before .before))) in
     not-found _ _ i h (seen-nowhere _ _ i (c .before .loop .inv .1) (rw (length-map (take (n .«bus_count») (n .buses)) busId) h))
-    ∙ ap (λ buses. busIndex buses (c .before .before .before .args .bus-id)) (buses-within n (size (c .before .before .before)))
 
 pub bus-index-spec : {M : Type 1} → statement M
 bus-index-spec =

@@ -1,7 +1,8 @@
 -- `PowerNetwork::new` meets its contract: arrays that repeat the empty record are what `padded` gives for no records.
 use mathlib.Core.Path.{refl}
 use lib.Ieee.{ofBits}
-use Rattle.network.specs.Records.{networkOf, padded}
+use Rattle.numbers.specs.Arrays.{padded}
+use Rattle.network.specs.Records.{networkOf}
 use Rattle.network.proofs.topology.PowerNetwork.new.Statement.{statement}
 use Rattle.network.proofs.topology.PowerNetwork.new.Tie as tie
 

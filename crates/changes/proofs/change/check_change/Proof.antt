@@ -7,8 +7,8 @@ use Rattle.network.proofs.bus.Bus.{the-type}
 use Rattle.network.specs.AnswerLaws.{decides, gives-way}
 use Rattle.changes.proofs.Radial.{not-radial, is-radial}
 use borrow.Author.Needs.{needs}
-use Rattle.changes.proofs.refusals.check_change.Statement.{statement}
-use Rattle.changes.proofs.refusals.check_change.Tie as tie
+use Rattle.changes.proofs.change.check_change.Statement.{statement}
+use Rattle.changes.proofs.change.check_change.Tie as tie
 
 is-radial-requires : tie.Need-is-radial-requires
 is-radial-requires c κs = search needs

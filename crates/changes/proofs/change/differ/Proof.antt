@@ -1,7 +1,7 @@
 -- `differ` meets its contract.
 use mathlib.Core.Bool.{not, and-true, and-false, or-false}
-use Rattle.changes.proofs.refusals.differ.Statement.{statement}
-use Rattle.changes.proofs.refusals.differ.Tie as tie
+use Rattle.changes.proofs.change.differ.Statement.{statement}
+use Rattle.changes.proofs.change.differ.Tie as tie
 
 returns : tie.Need-returns
 returns c = let b = c .before .args .b in rw (c .if1 .taken, and-false b, or-false (not b))

@@ -1,8 +1,8 @@
 -- `check_plan` meets its contract, from those of its calls.
 use Rattle.changes.specs.Change.{judged}
 use borrow.Author.Needs.{needs}
-use Rattle.changes.proofs.refusals.check_plan.Statement.{statement}
-use Rattle.changes.proofs.refusals.check_plan.Tie as tie
+use Rattle.changes.proofs.change.check_plan.Statement.{statement}
+use Rattle.changes.proofs.change.check_plan.Tie as tie
 
 graph-of-requires : tie.Need-graph-of-requires
 graph-of-requires c κs = search needs

@@ -14,7 +14,7 @@ use Rattle.network.specs.Check.{checkRecords}
 use Rattle.network.specs.Inside.{Inside}
 use Rattle.network.specs.InsideLaws.{check-inside}
 use Rattle.states.specs.Live.{baseState}
-use Rattle.states.specs.Switches.{branchOf, GoodState}
+use Rattle.states.specs.Switches.{State, branchOf, GoodState}
 use Rattle.slices.specs.Written.{written}
 use Rattle.printing.specs.CallLaws.{call-passed}
 use Rattle.radiality.specs.Feeder.{radialIn}
@@ -35,8 +35,8 @@ use Rattle.exhaustive.specs.Exhaustive.{exhaustiveBest}
 use Rattle.exhaustive.specs.ExhaustiveLaws.{exhaustive-closes, exhaustive-sound}
 use Rattle.reconfiguration.specs.Solve.{bestBy, best}
 
--- ---- of the answer of any search, whichever the head asks for. `exhaustive_solve` of another head checks and answers for the network that asks for method 02: take that
--- for N
+-- ---- of the answer of any search, whichever the head asks for. For `exhaustive_solve` on a network with another method, N is that network with method 02
+-- (`Exhaustive.asExhaustive`)
 module _ (N : Network) where
   -- it has one byte 00 or 01 for each switch, and from a radial base it is radial
   pub search-sound : (a : ReconfigAlgorithm) → SoundBest N (bestBy a N)
@@ -54,24 +54,27 @@ module _ (N : Network) where
     search-free Exhaustive inside = λ i l n d. let h = exhaustive-closes N in absurd (d (radial-part-same N inside (baseState N) _ r (h .radial r) (h .more) (branchOf N i)))
 
 -- planned for a search's answer from a radial base, no refusal comes before 13
-pub searches-have-plans : (N : Network) (a : ReconfigAlgorithm) → checkRecords N ≡ accepted tt → radialIn N (baseState N) ≡ true
+pub search-plan-accepted : (N : Network) (a : ReconfigAlgorithm) → checkRecords N ≡ accepted tt → radialIn N (baseState N) ≡ true
     → checkPlan N (baseState N) (bestBy a N .state) ≡ accepted tt
-searches-have-plans N a ok r =
+search-plan-accepted N a ok r =
     let sound = search-sound N a in
     plan-accepted N (baseState N) (bestBy a N .state) .1 (ok, base-good N, sound .good, r, sound .radial r, search-free N r a (check-inside N .0 ok))
 
 -- so a search's answer from a radial base has a plan, and all of demand 3 holds of it
 pub search-has-plan : (N : Network) (a : ReconfigAlgorithm) → checkRecords N ≡ accepted tt → radialIn N (baseState N) ≡ true
     → SwitchingPlan N (baseState N) (bestBy a N .state)
-search-has-plan N a ok r = demand3 N (baseState N) (bestBy a N .state) (searches-have-plans N a ok r)
+search-has-plan N a ok r = demand3 N (baseState N) (bestBy a N .state) (search-plan-accepted N a ok r)
 
 -- the planner's call for it: 13 where the lent slice is shorter than the plan's lines, else the plan
-pub only-13 : (N : Network) (a : ReconfigAlgorithm) → checkRecords N ≡ accepted tt → radialIn N (baseState N) ≡ true → (out : List ℕ)
-    → let moves = plan N (baseState N) (bestBy a N .state) in
-    planned N (baseState N) (bestBy a N .state) out
+abbrev pub Only13 : Network → State → Type 0
+Only13 N wanted =
+    (out : List ℕ) → let moves = plan N (baseState N) wanted in
+    planned N (baseState N) wanted out
     ≡ cond (ltb (length out) (length (planText moves))) (record { answer = refused 13 0; out = out }) (record { answer = accepted (length moves); out = written (planText moves) out })
+
+pub only-13 : (N : Network) (a : ReconfigAlgorithm) → checkRecords N ≡ accepted tt → radialIn N (baseState N) ≡ true → Only13 N (bestBy a N .state)
 unfolding planned
-only-13 N a ok r out = let moves = plan N (baseState N) (bestBy a N .state) in call-passed (length moves) (planText moves) out (searches-have-plans N a ok r)
+only-13 N a ok r out = let moves = plan N (baseState N) (bestBy a N .state) in call-passed (length moves) (planText moves) out (search-plan-accepted N a ok r)
 
 -- ---- of `solve`'s answer, that of the search that the head asks for
 module _ (N : Network) where
@@ -83,6 +86,16 @@ module _ (N : Network) where
   pub best-good : GoodState N (best N .state)
   best-good = best-sound .good
 
-  pub answers-have-plans : checkRecords N ≡ accepted tt → radialIn N (baseState N) ≡ true → checkPlan N (baseState N) (best N .state) ≡ accepted tt
-  unfolding best
-  answers-have-plans = searches-have-plans N (N .algorithm)
+  -- the three laws above, of it
+  module _ (ok : checkRecords N ≡ accepted tt) (r : radialIn N (baseState N) ≡ true) where
+    pub solve-plan-accepted : checkPlan N (baseState N) (best N .state) ≡ accepted tt
+    unfolding best
+    solve-plan-accepted = search-plan-accepted N (N .algorithm) ok r
+
+    pub solve-has-plan : SwitchingPlan N (baseState N) (best N .state)
+    unfolding best
+    solve-has-plan = search-has-plan N (N .algorithm) ok r
+
+    pub solve-only-13 : Only13 N (best N .state)
+    unfolding best
+    solve-only-13 = only-13 N (N .algorithm) ok r

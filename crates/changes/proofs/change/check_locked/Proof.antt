@@ -3,8 +3,8 @@ use Prim.Native.Nat.{_-_}
 use borrow.Author.Needs.{needs}
 use Rattle.changes.specs.Passing.{checked-counts}
 use Rattle.changes.proofs.Locking.{NoneLocked, start-unlocked, one-unlocked, one-locked, all-unlocked}
-use Rattle.changes.proofs.refusals.check_locked.Statement.{statement}
-use Rattle.changes.proofs.refusals.check_locked.Tie as tie
+use Rattle.changes.proofs.change.check_locked.Statement.{statement}
+use Rattle.changes.proofs.change.check_locked.Tie as tie
 
 abbrev Inv-loop : tie.InvT-loop
 Inv-loop present wanted present-live wanted-live network n i₀ i = NoneLocked network present wanted i

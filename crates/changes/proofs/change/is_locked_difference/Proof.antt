@@ -1,8 +1,8 @@
 -- `is_locked_difference` meets its contract, test by test.
 use borrow.Author.Tests.{not-true, not-false}
 use borrow.Author.Needs.{needs}
-use Rattle.changes.proofs.refusals.is_locked_difference.Statement.{statement}
-use Rattle.changes.proofs.refusals.is_locked_difference.Tie as tie
+use Rattle.changes.proofs.change.is_locked_difference.Statement.{statement}
+use Rattle.changes.proofs.change.is_locked_difference.Tie as tie
 
 returns : tie.Need-returns
 returns c = rw (not-true (c .before .args .differs) (c .if1 .taken))

@@ -4,8 +4,8 @@ use Rattle.network.specs.AnswerLaws.{accepted-so, refused-then, accepted-then}
 use Rattle.changes.specs.Change.{checkPlan}
 use Rattle.changes.specs.Passing.{flags-so}
 use borrow.Author.Needs.{needs}
-use Rattle.changes.proofs.refusals.verdict_of.Statement.{statement}
-use Rattle.changes.proofs.refusals.verdict_of.Tie as tie
+use Rattle.changes.proofs.change.verdict_of.Statement.{statement}
+use Rattle.changes.proofs.change.verdict_of.Tie as tie
 
 check-requires : tie.Need-check-requires
 check-requires c κs = search needs

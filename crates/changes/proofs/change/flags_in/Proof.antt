@@ -1,8 +1,8 @@
 -- `flags_in` meets its contract, from those of its two calls.
 use mathlib.Core.Path.{_∙_}
 use borrow.Author.Needs.{needs}
-use Rattle.changes.proofs.refusals.flags_in.Statement.{statement}
-use Rattle.changes.proofs.refusals.flags_in.Tie as tie
+use Rattle.changes.proofs.change.flags_in.Statement.{statement}
+use Rattle.changes.proofs.change.flags_in.Tie as tie
 
 of-requires : tie.Need-of-requires
 of-requires c κs = search needs
