@@ -28,7 +28,7 @@ use Rattle.slices.specs.Written.{written}
 use Rattle.printing.specs.Printed.{refusalText}
 use Rattle.slices.specs.WrittenLaws.{written-sets, sets-append, sets-part}
 use Rattle.printing.specs.Calls.{Call, called}
-use Rattle.printing.specs.CallLaws.{call-refused, call-short, call-done}
+use Rattle.printing.specs.CallLaws.{call-refused, call-short, call-done, call-is}
 use Rattle.radiality.specs.Feeder.{radialIn}
 use Rattle.plan.specs.declared.planner.PlanAnswer.{PlanAnswer}
 use Rattle.plan.specs.declared.planner.PlanAnswer.the-variants as plans
@@ -52,11 +52,7 @@ use Rattle.answers.specs.PrintingValues.{HasBits}
 use Rattle.answers.specs.PrintingLaws.{length-result, operations-short, plan-short, printed-short, base-bits, best-bits, reduction-bits}
 
 -- ---- accepted calls
-call-is : {A : Type 0} {tests : Answer (Unit {0})} (answer : A) (bytes out : List ℕ) {c : Call A} → tests ≡ accepted tt → length bytes ≤ length out
-    → c ≡ called tests answer bytes out → c ≡ record { answer = accepted answer; out = written bytes out }
-call-is answer bytes out ok room e = e ∙ sym (call-done answer bytes out ok refl room refl)
-
-pub take-written : (bytes out : List ℕ) → length bytes ≤ length out → take (length bytes) (written bytes out) ≡ bytes
+take-written : (bytes out : List ℕ) → length bytes ≤ length out → take (length bytes) (written bytes out) ≡ bytes
 unfolding written
 take-written bytes out room = rw (le-leb (length bytes) (length out) room) (take-append-seam bytes (drop (length bytes) out))
 

@@ -1,15 +1,14 @@
 -- Demand 1's first sentence, call by call: with records inside the limits, states of one byte 00 or 01 for each switch and room in the lent slice, nothing is refused, and the
 -- answer is the full one: the value, and the bytes at the front of the slice, which keeps its tail. What a text says is `frames.specs.Claim.accepted-texts`; the calls that take a
 -- text and states are in `controller.specs.Full`.
-use mathlib.Core.Path.{_≡_, refl, sym, ap, _∙_}
+use mathlib.Core.Path.{_≡_, refl, ap, _∙_}
 use mathlib.Core.List.{List, _++_}
 use Prim.Native.Nat.{ℕ, _*_, _≤_}
 use native.Mathlib.Omega.{arith}
 use lib.ListN.{length, drop}
-use borrow.Author.Tests.{le-leb}
 use Rattle.network.specs.Records.{Network}
 use Rattle.network.specs.declared.switch.ReconfigAlgorithm.{ReconfigAlgorithm}
-use Rattle.network.specs.Answers.{Answer, accepted, _andThen_}
+use Rattle.network.specs.Answers.{accepted, _andThen_}
 use Rattle.network.specs.AnswerLaws.{then-iff}
 use Rattle.network.specs.Check.{checkRecords}
 use Rattle.network.specs.Inside.{Inside}
@@ -17,9 +16,7 @@ use Rattle.network.specs.InsideLaws.{check-inside}
 use Rattle.states.specs.Live.{checkState, onState}
 use Rattle.frames.specs.Acceptable.{Acceptable}
 use Rattle.frames.specs.Proof.{claim}
-use Rattle.slices.specs.Written.{written}
-use Rattle.printing.specs.Calls.{called}
-use Rattle.printing.specs.CallLaws.{call-done}
+use Rattle.printing.specs.CallLaws.{in-full}
 use Rattle.graph.specs.Graph.{Tree}
 use Rattle.radiality.specs.Feeder.{feeder, LiveIn, radialIn}
 use Rattle.radiality.specs.FeederLaws.{radial-in-tree}
@@ -37,12 +34,6 @@ use Rattle.operations.specs.Operations.{operations, operationsText, operationsC
 use Rattle.operations.specs.OperationLines as Operations
 use Rattle.answers.specs.Printing.{networkText, printedOf, printed, answeredText}
 use Rattle.answers.specs.PrintingLaws.{printed-short}
-
--- a call whose tests are passed, lent room for its bytes
-in-full : {A : Type 0} {tests : Answer (Unit {0})} (answer : A) (bytes out : List ℕ) → tests ≡ accepted tt → length bytes ≤ length out
-    → called tests answer bytes out ≡ record { answer = accepted answer; out = bytes ++ drop (length bytes) out }
-unfolding written
-in-full answer bytes out passed room = sym (call-done answer bytes out passed refl room (rw (le-leb (length bytes) (length out) room)))
 
 module _ (N : Network) (inside : Inside N) where
   checked : checkRecords N ≡ accepted tt

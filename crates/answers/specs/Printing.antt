@@ -50,6 +50,7 @@ printed text = printedOf (readText text)
 unfoldable pub answeredText : List ℕ → List ℕ → Call ℕ
 answeredText text out = called (accepted tt) (length (printed text)) (printed text) out
 
+-- document 01's values for each case of the code's answer
 abbrev pub textAnswerOf : TextAnswer → Answer ℕ
 textAnswerOf (Printed count) = accepted count
 textAnswerOf (Refused number place) = refused number place

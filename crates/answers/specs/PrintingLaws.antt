@@ -32,7 +32,7 @@ use Rattle.plan.specs.Plan.{plan, planText}
 use Rattle.plan.specs.Length as PlanLength
 use Rattle.searches.specs.Results.{Result, reduction, resultBy}
 use Rattle.reconfiguration.specs.Solve.{result, best}
-use Rattle.reconfiguration.specs.AnswersHavePlans.{best-loss, solve-plan-accepted}
+use Rattle.reconfiguration.specs.AnswersHavePlans.{solve-plan-accepted}
 use Rattle.operations.specs.Operations.{operations}
 use Rattle.operations.specs.OperationLines as Operations
 use Rattle.operations.specs.OperationValues.{differs}
@@ -74,20 +74,20 @@ module _ (N : Network) (ok : checkRecords N ≡ accepted tt) where
   base-within : Within (2 ^ 115) (lossIn N (baseState N))
   base-within = accepted-loss-within N (check-inside N .0 ok) (baseState N)
 
-  best-within : Within (2 ^ 115) (best N .loss)
-  best-within = rw (best-loss N) (accepted-loss-within N (check-inside N .0 ok) (best N .state))
+  best-within : Within (2 ^ 115) (lossIn N (best N .state))
+  best-within = accepted-loss-within N (check-inside N .0 ok) (best N .state)
 
   pub base-bits : T (not (isNan (lossIn N (baseState N))))
   base-bits = within-no-nan base-within
 
-  pub best-bits : T (not (isNan (best N .loss)))
+  pub best-bits : T (not (isNan (lossIn N (best N .state))))
   best-bits = within-no-nan best-within
 
   pub reduction-bits : T (not (isNan (result N .reduction)))
   unfolding result resultBy reduction
   reduction-bits = go (lt trillionth (lossIn N (baseState N))) refl
     where
-      go : (b : Bool) → lt trillionth (lossIn N (baseState N)) ≡ b → T (not (isNan (cond b (mul binary64 (div binary64 (sub binary64 (lossIn N (baseState N)) (best N .loss)) (lossIn N (baseState N))) hundred) zero64)))
+      go : (b : Bool) → lt trillionth (lossIn N (baseState N)) ≡ b → T (not (isNan (cond b (mul binary64 (div binary64 (sub binary64 (lossIn N (baseState N)) (lossIn N (best N .state))) (lossIn N (baseState N))) hundred) zero64)))
       go true e = within-no-nan (percent-within base-within best-within (rw e tt))
       go false e = unfold ofBits isNan in tt
 

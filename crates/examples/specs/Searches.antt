@@ -19,8 +19,7 @@ use Rattle.graph.specs.Walk.{far, neighbours, reached, enter, enterAll, turn, w
 use Rattle.graph.specs.Radial.{radial}
 use Rattle.radiality.specs.Feeder.{feeder, position, endsPath, radialIn}
 use Rattle.losses.specs.Loss.{walkLoad, downstream, termOf, totalOf, loss, lossIn}
-use Rattle.searches.specs.Lesser.{lesserBy}
-use Rattle.searches.specs.Rounds.{untilEnded}
+use Rattle.searches.specs.Rounds.{untilEnded, lesserBy}
 use Rattle.exchange.specs.Exchange.{loopOf, sectionOf, swapWith, trial, improves, kept, roundOf, afterRound, exchange, exchangeBest}
 use Rattle.tabu.specs.Tabu.{allowed, bestMove, lastSeven, afterMove, tabu, tabuBest}
 use Rattle.exhaustive.specs.Exhaustive.{masked, tryMask, exhaustive, leastOrBase, exhaustiveBest}
@@ -47,7 +46,7 @@ data Value : Type 0 where
 
 abbrev valueOf : Case → Value
 valueOf (inState N s) = stands (radialIn N s) (lossIn N s)
-valueOf (searched N) = let b = best N in finds (b .state) (b .loss) (b .iterations) (b .converged)
+valueOf (searched N) = let b = best N in finds (b .state) (lossIn N (b .state)) (b .iterations) (b .converged)
 
 infix 68 _gives_
 data Row : Type 0 where

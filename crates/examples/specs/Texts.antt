@@ -62,7 +62,7 @@ pub table-rows :
 unfolding readText readLines readOne readRun readEnd without judge _andThen_ follow pure cut put every lineFaults isFrame fieldsOf methodOf number value digit digits isDigit readFields headFaults busFaults branchFaults switchFaults okBase okLoad okR among ties ofBits le neg
 table-rows = (refl, refl, refl, refl, refl, refl, refl, refl)
 
--- line 9: with method 02, ten ties pass, eleven are refused at the eleventh's line
+-- row 9: with method 02, ten ties pass, eleven are refused at the eleventh's line
 abbrev parallels : ℕ → List ℕ
 parallels zero = []
 parallels (suc n) = line 28 0x0300010002000000000000000001 ++ parallels n

@@ -33,7 +33,7 @@ unfoldable pub swapWith : Network → State → ℕ → Option ℕ → Option St
 swapWith N s tie none = none
 swapWith N s tie (some section) = cond (eqb (byte s section) 0 && radialIn N (swapped s tie section)) (some (swapped s tie section)) none
 
--- "The first branch whose first operable section switch is closed and whose swap is radial is tried, then the tie is done, better or not"
+-- "so the rank is path order. The first branch whose first operable section switch is closed and whose swap is radial is tried, then the tie is done, better or not"
 unfoldable pub trial : Network → State → ℕ → Option State
 trial N s tie = firstSome (λ k. swapWith N s tie (sectionOf N k)) (loopOf N s tie)
 
@@ -82,4 +82,4 @@ exchange N = untilEnded (λ x. x .ended) (next N) (N .iterations) (exchangeStart
 unfoldable pub exchangeBest : Network → Best
 exchangeBest N =
     let x = exchange N in
-    record { state = x .state; loss = x .loss; iterations = x .rounds; converged = ltb (x .rounds) (N .iterations) }
+    record { state = x .state; iterations = x .rounds; converged = ltb (x .rounds) (N .iterations) }

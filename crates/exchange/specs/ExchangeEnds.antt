@@ -1,5 +1,5 @@
 -- A round of the exchange that improves closes a tie for good: no later round sees it, and it makes no other seen. So there are at most as many such rounds as the
--- first round sees ties.
+-- first round sees ties. A fact for the reader: no proof uses it.
 use mathlib.Core.Path.{_≡_, ap, _∙_}
 use mathlib.Core.Logic.{_≢_}
 use mathlib.Core.Bool.{true, false, true≢false}
@@ -16,7 +16,7 @@ use Rattle.network.specs.Records.{Network}
 use Rattle.states.specs.Live.{baseState}
 use Rattle.states.specs.Switches.{State, byte, operable, size, isTie, swapped}
 use Rattle.exchange.specs.Exchange.{seen, roundOf, Exchange, afterRound, exchange}
-use Rattle.searches.specs.IfSome.{IfSome}
+use Rattle.numbers.specs.IfSome.{IfSome}
 use Rattle.exchange.specs.ExchangeLaws.{Swap, round-swaps, rounds-keep}
 
 module _ (s : State) (tie section : ℕ) where
@@ -47,10 +47,10 @@ module _ (N : Network) where
         go (yes l) = l
         go (no n) = absurd (omega (arith, tie-open .1, List·getD-eq-default s 0 {n = w .tie} (omega arith)))
 
-    pub swap-closes : seen N t (w .tie) ≡ false
+    swap-closes : seen N t (w .tie) ≡ false
     swap-closes = not-so _ (λ e. absurd (omega (arith, seen-open t (w .tie) e .1, ap (λ u. byte u (w .tie)) (w .result), swapped-tie s (w .tie) (w .section) apart within)))
 
-    pub swap-others : (i : ℕ) → i ≢ w .tie → seen N s i ≡ seen N t i
+    swap-others : (i : ℕ) → i ≢ w .tie → seen N s i ≡ seen N t i
     swap-others i n = go (ℕ-discrete i (w .section))
       where
         go : Dec (i ≡ w .section) → seen N s i ≡ seen N t i
@@ -58,7 +58,7 @@ module _ (N : Network) where
         go (no m) = rw (w .result, swapped-other s (w .tie) (w .section) i n m)
 
     -- one tie fewer is seen
-    pub swap-count : count (seen N s) (size N) ≡ suc (count (seen N t) (size N))
+    swap-count : count (seen N s) (size N) ≡ suc (count (seen N t) (size N))
     swap-count = count-drop (seen N s) (seen N t) (size N) (w .tie) (w .tie-listed) (w .tie-seen) swap-closes (λ i l n. swap-others i n)
 
   -- at most one round more than the ties that the first round sees

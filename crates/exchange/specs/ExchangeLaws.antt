@@ -14,10 +14,10 @@ use Rattle.states.specs.Switches.{State, byte, branchOf, operable, size, isTie,
 use Rattle.radiality.specs.Feeder.{radialIn}
 use Rattle.losses.specs.Loss.{lossIn}
 use Rattle.exchange.specs.Exchange.{seen, loopOf, sectionOf, swapWith, trial, improves, kept, roundOf, Exchange, afterRound, next, exchangeStart, exchange, exchangeBest}
-use Rattle.searches.specs.IfSome.{IfSome, cond-holds, firstSome-holds, least-passes}
+use Rattle.numbers.specs.IfSome.{IfSome, cond-holds, firstSome-holds, least-passes}
 use Rattle.searches.specs.FromBase.{FromBase, from-base, swapped-from-base}
-use Rattle.searches.specs.Rounds.{until-keeps}
-use Rattle.searches.specs.SearchLaws.{SoundBest}
+use Rattle.searches.specs.RoundLaws.{until-keeps}
+use Rattle.searches.specs.Results.{SoundBest}
 
 -- t is s with a tie that the round sees closed and a section opened, both operable; and t is radial
 pub record Swap (N : Network) (s t : State) : Type 0 where
@@ -82,7 +82,8 @@ module _ (N : Network) where
       one x h none w = h
       one x h (some t) w = swaps (x .state) t h w
 
-  exchange-loss : exchange N .loss ≡ lossIn N (exchange N .state)
+  -- the loss that it carries is that of its state
+  pub exchange-loss : exchange N .loss ≡ lossIn N (exchange N .state)
   unfolding afterRound
   exchange-loss = rounds-keep (λ x. x .loss ≡ lossIn N (x .state)) (λ x e h. one x h (roundOf N (x .state) (x .loss))) refl
     where
@@ -98,6 +99,5 @@ module _ (N : Network) where
   unfolding exchangeBest
   exchange-sound = record {
     good = exchange-from-base .good;
-    loses = exchange-loss;
     radial = exchange-keeps (λ s. radialIn N s ≡ true) (λ s t h w. w .radial);
   }

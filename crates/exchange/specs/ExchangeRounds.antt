@@ -21,9 +21,9 @@ use Rattle.states.specs.Listed.{switches-listed, few-switches}
 use Rattle.states.specs.Switches.{State, swapped}
 use Rattle.searches.specs.StateLaws.{held, state-held}
 use Rattle.exchange.specs.Exchange.{roundOf, Exchange, afterRound, next, exchangeStart, exchange}
-use Rattle.searches.specs.IfSome.{IfSome}
+use Rattle.numbers.specs.IfSome.{IfSome}
 use Rattle.searches.specs.FromBase.{base-good}
-use Rattle.searches.specs.Rounds.{Left, left-all, left-ended, left-none, left-less}
+use Rattle.searches.specs.RoundLaws.{Left, left-all, held-ended, held-none, held-less}
 use Rattle.exchange.specs.ExchangeLaws.{Swap, round-swaps}
 use Rattle.exchange.specs.ExchangeValues.{trialOf, exchangeOf}
 
@@ -49,6 +49,10 @@ round-long N x = go (roundOf N (x .state) (x .loss)) (round-swaps N (x .state) (
     go none w = refl
     go (some t) w = ap length (w .result) ∙ length-set (set (x .state) (w .tie) 0) (w .section) 1 ∙ length-set (x .state) (w .tie) 0
 
+ended-held : (x : Exchange) → exchangeOf x .ended ≡ x .ended
+unfolding exchangeOf
+ended-held x = refl
+
 -- after k rounds those that are left lead to the definition's answer
 abbrev RoundsLeft : PowerNetwork → ℕ → Exchange → Type 0
 RoundsLeft n = Left (λ (x : Exchange). x .ended) (next (recordsOf n)) (n .«max_iterations») (exchange (recordsOf n))
@@ -73,13 +77,6 @@ module _ (n : PowerNetwork) (ok : checkRecords (recordsOf n) ≡ accepted tt) wh
   standing-base c loss b = record { at = exchangeStart (recordsOf n); held-by = rw (b .0, b .1); long = base-long; left = left-all _ _ _ _ (exchangeStart (recordsOf n)) refl }
 
   module _ (y : BranchExchange) (w : Standing n y) where
-    at-end : w .at ≡ exchange (recordsOf n) → y ≡ exchangeOf (exchange (recordsOf n))
-    at-end e = w .held-by ∙ ap exchangeOf e
-
-    same-end : w .at .ended ≡ y .ended
-    unfolding exchangeOf
-    same-end = sym (ap (λ z. z .ended) (w .held-by))
-
     same-count : w .at .rounds ≡ y .rounds
     unfolding exchangeOf
     same-count = sym (ap (λ z. z .rounds) (w .held-by))
@@ -89,10 +86,10 @@ module _ (n : PowerNetwork) (ok : checkRecords (recordsOf n) ≡ accepted tt) wh
     standing-held = rw (w .held-by) (held n (w .at .state) (w .long) few)
 
     pub standing-ended : y .ended ≡ true → y ≡ exchangeOf (exchange (recordsOf n))
-    standing-ended e = at-end (left-ended _ _ _ _ _ (w .at) (w .left) (same-end ∙ e))
+    standing-ended e = held-ended _ _ _ _ _ (w .at) (w .left) exchangeOf (λ z. z .ended) ended-held y (w .held-by) e
 
     pub standing-done : (y .rounds < n .«max_iterations» → ⊥) → y ≡ exchangeOf (exchange (recordsOf n))
-    standing-done d = at-end (left-none _ _ _ _ _ (w .at) (w .left) (omega (arith, same-count)))
+    standing-done d = held-none _ _ _ _ _ (w .at) (w .left) exchangeOf (λ z. z .ended) ended-held y (w .held-by) (omega (arith, same-count))
 
     module _ (more : y .rounds < n .«max_iterations») (e : y .ended ≡ false) (step : Trial)
         (q : step ≡ trialOf (recordsOf n) (y .configuration) (roundOf (recordsOf n) (stateOf n (y .configuration)) (y .loss))) where
@@ -112,7 +109,7 @@ module _ (n : PowerNetwork) (ok : checkRecords (recordsOf n) ≡ accepted tt) wh
             at = next (recordsOf n) x;
             held-by = h (recordsOf n) x _ (w .held-by) same-round;
             long = round-long (recordsOf n) x ∙ w .long;
-            left = rw (round-counts (recordsOf n) x (roundOf (recordsOf n) (x .state) (x .loss))) (left-less _ _ _ _ (x .rounds) x (w .left) (omega (arith, same-count)) (same-end ∙ e));
+            left = rw (round-counts (recordsOf n) x (roundOf (recordsOf n) (x .state) (x .loss))) (held-less _ _ _ _ (x .rounds) x (w .left) exchangeOf (λ z. z .ended) ended-held y (w .held-by) (omega (arith, same-count)) e);
           }
 
       pub rounds-rise : (r : BranchExchange)

@@ -11,7 +11,7 @@ use lib.ListN.{length, getD, set, length-set, List·getD-eq-default}
 use borrow.Author.Tests.{eqb-true, eq-eqb, ne-eqb, lt-ltb}
 use Rattle.numbers.specs.Choose.{least}
 use Rattle.numbers.specs.Tests.{both}
-use Rattle.numbers.specs.TableLaws.{length-table, getD-table, table-cong}
+use Rattle.numbers.specs.TableLaws.{length-table, getD-table, table-cong, table-set}
 use Rattle.numbers.specs.UpTo.{table}
 use Rattle.states.specs.declared.configuration.NetworkConfiguration.{NetworkConfiguration}
 use Rattle.network.specs.declared.topology.PowerNetwork.{PowerNetwork}
@@ -31,12 +31,11 @@ use Rattle.searches.specs.Given.{Held}
 use Rattle.states.specs.Listed.{switches-listed, few-switches}
 use Rattle.searches.specs.StateLaws.{byte-at, held-long}
 use Rattle.searches.specs.StateRows.{flags-radial}
-use Rattle.searches.specs.TableSets.{table-set}
 use Rattle.searches.specs.LiveFlags.{on-flagged, flags-opened, flags-closed}
 use Rattle.exchange.specs.Exchange.{sectionOf, swapWith}
-use Rattle.searches.specs.IfSome.{IfSome, cond-holds, least-passes}
-use Rattle.exchange.specs.ExchangeValues.{sectionAt, sectionsOf, rowSwap, swapAt}
-use Rattle.exchange.specs.Firsts.{least-same, least-found, least-none, least-below}
+use Rattle.numbers.specs.IfSome.{IfSome, cond-holds, least-passes}
+use Rattle.exchange.specs.ExchangeValues.{sectionNumber, sectionsOf, rowSwap, swapAt}
+use Rattle.numbers.specs.FirstLaws.{least-same, least-found, least-none, least-below}
 
 -- ---- the operable section switch of each branch
 module _ (N : Network) where
@@ -48,19 +47,19 @@ module _ (N : Network) where
 
   -- of those among the first i switches
   unfoldable pub sectionsAmong : ℕ → List ℕ
-  sectionsAmong i = table (λ k. sectionAt (least (sectionOn k) i)) 512
+  sectionsAmong i = table (λ k. sectionNumber (least (sectionOn k) i)) 512
 
   pub sections-none : table (λ k. 512) 512 ≡ sectionsAmong 0
-  unfolding sectionsAmong sectionAt
-  sections-none = table-cong _ _ 512 (λ k l. ap sectionAt (sym (least-none (sectionOn k) 0 (λ i h. absurd (omega arith)))))
+  unfolding sectionsAmong sectionNumber
+  sections-none = table-cong _ _ 512 (λ k l. ap sectionNumber (sym (least-none (sectionOn k) 0 (λ i h. absurd (omega arith)))))
 
   pub sections-all : (i : ℕ) → i ≡ size N → sectionsAmong i ≡ sectionsOf N
   unfolding sectionsAmong sectionsOf sectionOf
   sections-all i e = rw e
 
-  pub section-skipped : (i : ℕ) → isSection i ≡ false → sectionsAmong i ≡ sectionsAmong (i + 1)
+  pub other-skipped : (i : ℕ) → isSection i ≡ false → sectionsAmong i ≡ sectionsAmong (i + 1)
   unfolding sectionsAmong
-  section-skipped i f = table-cong _ _ 512 (λ k l. ap sectionAt (sym (least-same (sectionOn k) i (rw (f, and-false)))))
+  other-skipped i f = table-cong _ _ 512 (λ k l. ap sectionNumber (sym (least-same (sectionOn k) i (rw (f, and-false)))))
 
   pub sections-long : length (sectionsOf N) ≡ 512
   unfolding sectionsOf
@@ -69,24 +68,24 @@ module _ (N : Network) where
   module _ (inside : Inside N) where
     -- a branch has one switch
     pub section-listed : (i : ℕ) → i < size N → isSection i ≡ true → set (sectionsAmong i) (branchOf N i) i ≡ sectionsAmong (i + 1)
-    unfolding sectionsAmong sectionAt
+    unfolding sectionsAmong sectionNumber
     section-listed i l t =
         table-set _ _ 512 (branchOf N i) i (on-flagged N inside i)
-        (ap sectionAt (least-found (sectionOn (branchOf N i)) i (rw (eq-eqb (branchOf N i) (branchOf N i) refl, t)) (least-none (sectionOn (branchOf N i)) i alone)))
-        (λ k m n. ap sectionAt (sym (least-same (sectionOn k) i (rw (ne-eqb (branchOf N i) k (λ e. n (sym e)))))))
+        (ap sectionNumber (least-found (sectionOn (branchOf N i)) i (rw (eq-eqb (branchOf N i) (branchOf N i) refl, t)) (least-none (sectionOn (branchOf N i)) i alone)))
+        (λ k m n. ap sectionNumber (sym (least-same (sectionOn k) i (rw (ne-eqb (branchOf N i) k (λ e. n (sym e)))))))
       where
         alone : (j : ℕ) → j < i → sectionOn (branchOf N i) j ≡ false
         alone j h = rw (ne-eqb (branchOf N j) (branchOf N i) (λ e. absurd (omega (arith, one-on-branch N inside j i (omega arith) l e))))
 
-    pub section-read : (k : ℕ) → getD (sectionsOf N) k 512 ≡ sectionAt (sectionOf N k)
-    unfolding sectionsOf sectionOf sectionAt
+    section-read : (k : ℕ) → getD (sectionsOf N) k 512 ≡ sectionNumber (sectionOf N k)
+    unfolding sectionsOf sectionOf sectionNumber
     section-read k = go (decLt k 512)
       where
-        go : Dec (k < 512) → getD (sectionsOf N) k 512 ≡ sectionAt (sectionOf N k)
+        go : Dec (k < 512) → getD (sectionsOf N) k 512 ≡ sectionNumber (sectionOf N k)
         go (yes l) = getD-table _ 512 k 512 l
         go (no n) =
-            List·getD-eq-default (sectionsOf N) 512 (rw (length-table (λ k. sectionAt (sectionOf N k)) 512) (omega arith))
-            ∙ ap sectionAt (sym (least-none (sectionOn k) (size N) (λ i l. rw (ne-eqb (branchOf N i) k (λ e. absurd (omega (arith, on-flagged N inside i)))))))
+            List·getD-eq-default (sectionsOf N) 512 (rw (length-table (λ k. sectionNumber (sectionOf N k)) 512) (omega arith))
+            ∙ ap sectionNumber (sym (least-none (sectionOn k) (size N) (λ i l. rw (ne-eqb (branchOf N i) k (λ e. absurd (omega (arith, on-flagged N inside i)))))))
 
   section-below : (k : ℕ) → IfSome (λ i. i < size N) (sectionOf N k)
   unfolding sectionOf
@@ -128,34 +127,34 @@ module _ (n : PowerNetwork) (ok : checkRecords (recordsOf n) ≡ accepted tt) (c
       ∙ flags-opened N inside (set s tie 0) (length-set s tie 0 ∙ long) section h
 
   module _ (sized : length (n .buses) ≡ 256) (g : Graph) (a : g ≡ feederGraph n) (sections : List ℕ) (q : sections ≡ sectionsOf N) (live : List Bool) (b : live ≡ liveFlags N s) where
-    abbrev pub swapRow : ℕ → Option ℕ
+    abbrev swapRow : ℕ → Option ℕ
     swapRow = rowSwap g sections (c .switches) (set live on (inService N on))
 
-    listed : (k : ℕ) → getD sections k 512 ≡ sectionAt (sectionOf N k)
+    listed : (k : ℕ) → getD sections k 512 ≡ sectionNumber (sectionOf N k)
     listed k = rw q (section-read N inside k)
 
     judged : (k section : ℕ) → section < size N → branchOf N section ≡ k → rowRadial g (set (set live on (inService N on)) k false) ≡ radialIn N (swapped s tie section)
     judged k section h e = flags-radial n sized ok (swapped s tie section) g _ a (rw (b, ← e) (swapped-flags section h)) _ refl
 
     pub swap-by-row : (k : ℕ) → swapWith N s tie (sectionOf N k) ≡ swapAt s tie (swapRow k)
-    unfolding swapWith swapAt rowSwap sectionAt
+    unfolding swapWith swapAt rowSwap sectionNumber
     swap-by-row k = go (sectionOf N k) (listed k) (section-below N k) (section-here N k)
       where
         same : (section : ℕ) (t : Bool) → cond t (some (swapped s tie section)) none ≡ swapAt s tie (cond t (some section) none)
         same section true = refl
         same section false = refl
 
-        go : (found : Option ℕ) → getD sections k 512 ≡ sectionAt found → IfSome (λ i. i < size N) found → IfSome (λ i. branchOf N i ≡ k) found → swapWith N s tie found ≡ swapAt s tie (swapRow k)
+        go : (found : Option ℕ) → getD sections k 512 ≡ sectionNumber found → IfSome (λ i. i < size N) found → IfSome (λ i. branchOf N i ≡ k) found → swapWith N s tie found ≡ swapAt s tie (swapRow k)
         go none e h p = rw e
         go (some section) e h p =
             rw (e, lt-ltb section 512 (omega (arith, switches-listed n, few)), ← byte-at n c section (omega (arith, switches-listed n)), judged k section h p)
             (same section (eqb (byte s section) 0 && radialIn N (swapped s tie section)))
 
     pub row-below : (k : ℕ) → IfSome (λ i. i < n .«switch_count») (swapRow k)
-    unfolding rowSwap sectionAt
+    unfolding rowSwap sectionNumber
     row-below k = go (sectionOf N k) (listed k) (section-below N k)
       where
-        go : (found : Option ℕ) → getD sections k 512 ≡ sectionAt found → IfSome (λ i. i < size N) found → IfSome (λ i. i < n .«switch_count») (swapRow k)
+        go : (found : Option ℕ) → getD sections k 512 ≡ sectionNumber found → IfSome (λ i. i < size N) found → IfSome (λ i. i < n .«switch_count») (swapRow k)
         go none e h = rw e tt
         go (some section) e h =
             let below : section < n .«switch_count» = omega (arith, switches-listed n) in

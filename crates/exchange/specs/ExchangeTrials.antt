@@ -12,7 +12,6 @@ use lib.ListN.{length, getD, take, drop, set, replicate, length-take, List·getD
 use lib.Seq.{getD-take, take-append-seam}
 use borrow.Author.Tests.{lt-ltb, le-ltb, ltb-true, eq-eqb, ne-eqb}
 use Rattle.numbers.specs.Constants.{billionth}
-use Rattle.numbers.specs.Tests.{both}
 use Rattle.numbers.specs.Choose.{firstSome, _orElse_}
 use Rattle.states.specs.declared.configuration.NetworkConfiguration.{NetworkConfiguration}
 use Rattle.network.specs.declared.switch.Switch.{Switch}
@@ -31,28 +30,57 @@ use Rattle.radiality.specs.FeederRows.{feederGraph, liveFlags}
 use Rattle.radiality.specs.FeederRowLaws.{live-row-ends-path}
 use Rattle.losses.specs.Loss.{lossIn}
 use Rattle.states.specs.Switches.{State, byte, branchOf, swapped, inService}
+use Rattle.exchange.specs.declared.exchange.Section.{Section}
+use Rattle.exchange.specs.declared.exchange.Section.the-variants.{At, Absent}
 use Rattle.exchange.specs.declared.exchange.Trial.{Trial}
 use Rattle.searches.specs.States.{stateOf}
 use Rattle.searches.specs.Given.{Held}
-use Rattle.states.specs.Listed.{switches-listed, few-switches, switch-at}
+use Rattle.states.specs.Listed.{switches-listed, switch-at}
 use Rattle.searches.specs.StateLaws.{byte-at}
 use Rattle.searches.specs.SwitchReads.{SwitchAt, own-switch, own-status}
 use Rattle.exchange.specs.Exchange.{seen, loopOf, sectionOf, swapWith, trial, improves, kept, seeing}
-use Rattle.searches.specs.IfSome.{IfSome, cond-holds, firstSome-holds}
-use Rattle.exchange.specs.ExchangeValues.{sectionAt, sectionsOf, rowSwap, rowTrial, swapAt, trialOf}
+use Rattle.numbers.specs.IfSome.{IfSome, firstSome-holds}
+use Rattle.exchange.specs.ExchangeValues.{sectionAt, sectionIn, sectionsOf, rowSwap, rowTrial, swapAt, trialOf}
 use Rattle.exchange.specs.ExchangeSwaps.{swapped-flags, swap-by-row, row-below}
-use Rattle.exchange.specs.Firsts.{first-next, first-found}
+use Rattle.numbers.specs.FirstLaws.{first-next, first-found}
 
--- ---- a section as the code holds it: 512 is none
-pub section-some : (found : Option ℕ) (section : ℕ) → section ≡ sectionAt found → section < 512 → found ≡ some section
+-- ---- a section as the code holds it
+section-some : (found : Option ℕ) (section : Section) {i : ℕ} → section ≡ sectionAt found → section ≡ At i → found ≡ some i
 unfolding sectionAt
-section-some none section e l = absurd (omega arith)
-section-some (some i) section e l = ap some (sym e)
+section-some none section e q = let z : _≡_ {A = ℕ} 0 1 = cc in absurd (omega arith)
+section-some (some j) section e q = cc
 
-pub section-none : (found : Option ℕ) (section : ℕ) → IfSome (λ i. i < 512) found → section ≡ sectionAt found → (section < 512 → ⊥) → found ≡ none
+section-none : (found : Option ℕ) (section : Section) → section ≡ sectionAt found → section ≡ Absent → found ≡ none
 unfolding sectionAt
-section-none none section h e l = refl
-section-none (some i) section h e l = absurd (l (omega arith))
+section-none none section e q = refl
+section-none (some j) section e q = let z : _≡_ {A = ℕ} 0 1 = cc in absurd (omega arith)
+
+-- ---- as it is read from the array
+module _ (sections : List ℕ) (k : ℕ) where
+  pub read-none : (getD sections k 512 < 512 → ⊥) → Absent ≡ sectionAt (sectionIn sections k)
+  unfolding sectionAt sectionIn
+  read-none n = rw (le-ltb (getD sections k 512) 512 (omega arith))
+
+  pub read-some : (i : ℕ) → i ≡ getD sections k 512 → i < 512 → At i ≡ sectionAt (sectionIn sections k)
+  unfolding sectionAt sectionIn
+  read-some i e l = rw (← e, lt-ltb i 512 l)
+
+  module _ {section : Section} (r : section ≡ sectionAt (sectionIn sections k)) where
+    pub found-read : {i : ℕ} → section ≡ At i → (i ≡ getD sections k 512) × (i < 512)
+    unfolding sectionIn
+    found-read {i} q = go (ltb (getD sections k 512) 512) refl (section-some _ section r q)
+      where
+        go : (b : Bool) → ltb (getD sections k 512) 512 ≡ b → cond b (some (getD sections k 512)) none ≡ some i → (i ≡ getD sections k 512) × (i < 512)
+        go true t e = let same : i ≡ getD sections k 512 = cc in (same, omega (arith, ltb-true (getD sections k 512) 512 t))
+        go false t e = let z : _≡_ {A = ℕ} 0 1 = cc in absurd (omega arith)
+
+    none-read : section ≡ Absent → ltb (getD sections k 512) 512 ≡ false
+    unfolding sectionIn
+    none-read q = go (ltb (getD sections k 512) 512) (section-none _ section r q)
+      where
+        go : (b : Bool) → cond b (some (getD sections k 512)) none ≡ none → b ≡ false
+        go true e = let z : _≡_ {A = ℕ} 0 1 = cc in absurd (omega arith)
+        go false e = refl
 
 -- ---- the swap with the section of a branch, test by test
 -- beyond the array there is none
@@ -63,35 +91,27 @@ section-within sections k section long e l = go (decLt k 512)
     go (yes h) = h
     go (no n) = absurd (omega (arith, List·getD-eq-default sections 512 {n = k} (omega arith)))
 
-module _ (g : Graph) (sections state : List ℕ) (live : List Bool) (k section : ℕ) (e : section ≡ getD sections k 512) where
-  pub swap-absent : (section < 512 → ⊥) → 512 ≡ sectionAt (rowSwap g sections state live k)
+module _ (g : Graph) (sections state : List ℕ) (live : List Bool) (k : ℕ) where
+  pub swap-absent : {section : Section} → section ≡ sectionAt (sectionIn sections k) → section ≡ Absent → Absent ≡ sectionAt (rowSwap g sections state live k)
   unfolding rowSwap sectionAt
-  swap-absent l = rw (← e, le-ltb section 512 (omega arith))
+  swap-absent r q = rw (none-read sections k r q)
 
-  module _ (l : section < 512) where
-    pub swap-open : (getD state section 0 ≡ 0 → ⊥) → 512 ≡ sectionAt (rowSwap g sections state live k)
+  module _ (section : ℕ) (e : section ≡ getD sections k 512) (l : section < 512) where
+    pub swap-open : (getD state section 0 ≡ 0 → ⊥) → Absent ≡ sectionAt (rowSwap g sections state live k)
     unfolding rowSwap sectionAt
     swap-open o = rw (← e, lt-ltb section 512 l, ne-eqb (getD state section 0) 0 o)
 
     module _ (o : getD state section 0 ≡ 0) (radial : Bool) (r : radial ≡ rowRadial g (set live k false)) where
-      pub swap-loops : radial ≡ false → 512 ≡ sectionAt (rowSwap g sections state live k)
+      pub swap-not-radial : radial ≡ false → Absent ≡ sectionAt (rowSwap g sections state live k)
       unfolding rowSwap sectionAt
-      swap-loops f = rw (← e, lt-ltb section 512 l, eq-eqb (getD state section 0) 0 o, ← r, f)
+      swap-not-radial f = rw (← e, lt-ltb section 512 l, eq-eqb (getD state section 0) 0 o, ← r, f)
 
-      pub swap-radial : radial ≡ true → section ≡ sectionAt (rowSwap g sections state live k)
+      pub swap-radial : radial ≡ true → At section ≡ sectionAt (rowSwap g sections state live k)
       unfolding rowSwap sectionAt
       swap-radial t = rw (← e, lt-ltb section 512 l, eq-eqb (getD state section 0) 0 o, ← r, t)
 
-pub swap-small : (g : Graph) (sections state : List ℕ) (live : List Bool) (k : ℕ) → IfSome (λ i. i < 512) (rowSwap g sections state live k)
-unfolding rowSwap
-swap-small g sections state live k =
-    let section = getD sections k 512 in
-    let fits = eqb (getD state section 0) 0 && rowRadial g (set live k false) in
-    cond-holds (λ i. i < 512) (ltb section 512 && fits) (some section) none (λ t. ltb-true section 512 (both (ltb section 512) fits t .0)) tt
-
 -- ---- the first swap along a path, whose branches are the first of an array
-module _ (f : ℕ → Option ℕ) (small : (k : ℕ) → IfSome (λ i. i < 512) (f k)) (array : List ℕ) (count i section : ℕ) (e : section ≡ sectionAt (f (getD array i 0))) (l : i < count)
-    (long : count ≤ length array) where
+module _ (f : ℕ → Option ℕ) (array : List ℕ) (count i : ℕ) (section : Section) (e : section ≡ sectionAt (f (getD array i 0))) (l : i < count) (long : count ≤ length array) where
   abbrev path : List ℕ
   path = take count array
 
@@ -101,12 +121,12 @@ module _ (f : ℕ → Option ℕ) (small : (k : ℕ) → IfSome (λ i. i < 512) 
   here : (found : Option ℕ) → f (getD array i 0) ≡ found → f (getD path i 0) ≡ found
   here found q = ap f (getD-take count array i 0 l) ∙ q
 
-  pub along-next : (section < 512 → ⊥) → firstSome f (drop i path) ≡ firstSome f path → firstSome f (drop (i + 1) path) ≡ firstSome f path
-  along-next h q = sym (first-next f path i inside (here none (section-none _ section (small (getD array i 0)) e h))) ∙ q
+  pub along-next : section ≡ Absent → firstSome f (drop i path) ≡ firstSome f path → firstSome f (drop (i + 1) path) ≡ firstSome f path
+  along-next h q = sym (first-next f path i inside (here none (section-none _ section e h))) ∙ q
 
-  pub along-found : section < 512 → firstSome f (drop i path) ≡ firstSome f path → section ≡ sectionAt (firstSome f path)
+  pub along-found : {k : ℕ} → section ≡ At k → firstSome f (drop i path) ≡ firstSome f path → At k ≡ sectionAt (firstSome f path)
   unfolding sectionAt
-  along-found h q = ap sectionAt (sym (first-found f path i section inside (here (some section) (section-some _ section e h))) ∙ q)
+  along-found {k} h q = ap sectionAt (sym (first-found f path i k inside (here (some k) (section-some _ section e h))) ∙ q)
 
 -- ---- a path as the code holds it
 pub path-list : (l : List ℕ) (p : Path) → p ≡ pathOf l → take (p .count) (p .branch) ≡ l
@@ -131,7 +151,7 @@ module _ (n : PowerNetwork) (ok : checkRecords (recordsOf n) ≡ accepted tt) (s
   abbrev on : ℕ
   on = branchOf N tie
 
-  abbrev pub tieRow : Option ℕ
+  abbrev tieRow : Option ℕ
   tieRow = rowTrial g sections (c .switches) live on (inService N on)
 
   loop-by-rows : rowEndsPath g live on ≡ loopOf N (stateOf n c) tie
@@ -140,7 +160,7 @@ module _ (n : PowerNetwork) (ok : checkRecords (recordsOf n) ≡ accepted tt) (s
       let listed : on < feeder N .branches = unfold feeder in on-a-branch N (check-inside N .0 ok) tie (omega (arith, switches-listed n)) in
       rw (a, b) (live-row-ends-path n sized ok (stateOf n c) on listed)
 
-  pub trial-by-rows : trial N (stateOf n c) tie ≡ swapAt (stateOf n c) tie tieRow
+  trial-by-rows : trial N (stateOf n c) tie ≡ swapAt (stateOf n c) tie tieRow
   unfolding trial rowTrial
   trial-by-rows =
       let path = rowEndsPath g live on in
@@ -148,19 +168,19 @@ module _ (n : PowerNetwork) (ok : checkRecords (recordsOf n) ≡ accepted tt) (s
       ∙ ap (λ f. firstSome f path) (fun-ext (swap-by-row n ok c held tie h sized g a sections q live b))
       ∙ first-swapped (stateOf n c) tie _ path
 
-  pub trial-below : IfSome (λ i. i < n .«switch_count») tieRow
+  trial-below : IfSome (λ i. i < n .«switch_count») tieRow
   unfolding rowTrial
   trial-below = firstSome-holds (λ i. i < n .«switch_count») _ (row-below n ok c held tie h sized g a sections q live b) _
 
--- what the section that the code finds for a tie says, 512 for none
-pub record Tried (n : PowerNetwork) (c : NetworkConfiguration) (tie section : ℕ) : Type 0 where
-  pub absent : (section < 512 → ⊥) → trial (recordsOf n) (stateOf n c) tie ≡ none
-  pub found : section < 512 → trial (recordsOf n) (stateOf n c) tie ≡ some (swapped (stateOf n c) tie section)
-  pub below : section < 512 → section < n .«switch_count»
+-- what the section that the code finds for a tie says
+pub record Tried (n : PowerNetwork) (c : NetworkConfiguration) (tie : ℕ) (section : Section) : Type 0 where
+  pub absent : section ≡ Absent → trial (recordsOf n) (stateOf n c) tie ≡ none
+  pub found : {i : ℕ} → section ≡ At i → trial (recordsOf n) (stateOf n c) tie ≡ some (swapped (stateOf n c) tie i)
+  pub below : {i : ℕ} → section ≡ At i → i < n .«switch_count»
 
 module _ (n : PowerNetwork) (ok : checkRecords (recordsOf n) ≡ accepted tt) (c : NetworkConfiguration) (held : Held n c) (tie : ℕ) (sw : Switch) (served : Bool) (at : SwitchAt n tie sw served)
     (live : List Bool) (b : live ≡ liveFlags (recordsOf n) (stateOf n c)) where
-  pub tie-tried : length (n .buses) ≡ 256 → (g : Graph) → g ≡ feederGraph n → (sections : List ℕ) → sections ≡ sectionsOf (recordsOf n) → (section : ℕ)
+  pub tie-tried : length (n .buses) ≡ 256 → (g : Graph) → g ≡ feederGraph n → (sections : List ℕ) → sections ≡ sectionsOf (recordsOf n) → (section : Section)
       → section ≡ sectionAt (rowTrial g sections (c .switches) live (sw .«branch_idx») served) → Tried n c tie section
   unfolding swapAt
   tie-tried sized g a sections q section e =
@@ -170,15 +190,11 @@ module _ (n : PowerNetwork) (ok : checkRecords (recordsOf n) ≡ accepted tt) (c
       let found : section ≡ sectionAt row = e ∙ ap (λ w. sectionAt (rowTrial g sections (c .switches) live (w .«branch_idx») served)) (sym (own-switch n ok tie sw served at))
       ∙ ap (λ t. sectionAt (rowTrial g sections (c .switches) live (branchOf (recordsOf n) tie) t)) (sym (own-status n ok tie sw served at)) in
       record {
-        absent = λ l. tried ∙ ap (swapAt (stateOf n c) tie) (section-none row section (few-some row listed) found l);
+        absent = λ l. tried ∙ ap (swapAt (stateOf n c) tie) (section-none row section found l);
         found = λ l. tried ∙ ap (swapAt (stateOf n c) tie) (section-some row section found l);
         below = λ l. some-below row listed (section-some row section found l);
       }
     where
-      few-some : (found : Option ℕ) → IfSome (λ i. i < n .«switch_count») found → IfSome (λ i. i < 512) found
-      few-some none h = tt
-      few-some (some i) h = omega (arith, few-switches n ok)
-
       some-below : (found : Option ℕ) → IfSome (λ i. i < n .«switch_count») found → {section : ℕ} → found ≡ some section → section < n .«switch_count»
       some-below found h e = rw e at h
 

@@ -15,18 +15,29 @@ use Rattle.graph.specs.declared.rows.Graph.{Graph}
 use Rattle.graph.specs.Rows.{rowEndsPath, rowRadial}
 use Rattle.losses.specs.Loss.{lossIn}
 use Rattle.states.specs.Switches.{State, swapped}
+use Rattle.exchange.specs.declared.exchange.Section.{Section}
+use Rattle.exchange.specs.declared.exchange.Section.the-variants.{At, Absent}
 use Rattle.exchange.specs.declared.exchange.Trial.{Trial}
 use Rattle.exchange.specs.declared.exchange.BranchExchange.{BranchExchange}
 use Rattle.exchange.specs.Exchange.{sectionOf, Exchange}
 
--- a switch by its position, 512 for none
-unfoldable pub sectionAt : Option ℕ → ℕ
-sectionAt none = 512
-sectionAt (some i) = i
+-- a switch by its position
+unfoldable pub sectionAt : Option ℕ → Section
+sectionAt none = Absent
+sectionAt (some i) = At i
+
+-- in an array 512 stands for none
+unfoldable pub sectionNumber : Option ℕ → ℕ
+sectionNumber none = 512
+sectionNumber (some i) = i
 
 -- the first operable section switch of each branch
 unfoldable pub sectionsOf : Network → List ℕ
-sectionsOf N = table (λ k. sectionAt (sectionOf N k)) 512
+sectionsOf N = table (λ k. sectionNumber (sectionOf N k)) 512
+
+-- the section of branch k, read from such an array
+unfoldable pub sectionIn : List ℕ → ℕ → Option ℕ
+sectionIn sections k = let section = getD sections k 512 in cond (ltb section 512) (some section) none
 
 -- ---- a trial by the rows of the feeder and the arrays that the code has
 -- the section of branch k, where it is closed and the swap with it radial: with the tie closed these branches are live
@@ -45,7 +56,7 @@ swapAt s tie none = none
 swapAt s tie (some section) = some (swapped s tie section)
 
 -- ---- where the exchange stands
--- a state that was found, with its loss; for none the configuration c that the search started from
+-- a state that was found, with its loss; for none the configuration c, the round's state
 unfoldable pub trialOf : Network → NetworkConfiguration → Option State → Trial
 trialOf N c none = record { found = false; configuration = c; loss = zero64 }
 trialOf N c (some t) = record { found = true; configuration = configurationOf t; loss = lossIn N t }

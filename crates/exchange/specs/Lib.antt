@@ -1,6 +1,5 @@
 pub mod Exchange
 pub mod ExchangeValues
-pub mod Firsts
 pub mod ExchangeLaws
 pub mod ExchangeEnds
 pub mod ExchangeSwaps

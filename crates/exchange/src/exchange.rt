@@ -6,7 +6,7 @@ ghost use mathlib.Core.Option.{Option};
 ghost use Prim.Native.Nat.{_<_, _≤_};
 ghost use lib.Dec.{eqb};
 ghost use lib.Ieee.{binary64, lt, sub};
-ghost use lib.ListN.{length, getD, take, set};
+ghost use lib.ListN.{length, take, set};
 ghost use Rattle.network.specs.Answers.{accepted};
 ghost use Rattle.network.specs.Check.{checkRecords};
 ghost use Rattle.network.specs.Records.{Network, recordsOf};
@@ -19,7 +19,7 @@ ghost use Rattle.searches.specs.SearchValues.{startOf, foundOf};
 ghost use Rattle.searches.specs.States.{stateOf};
 ghost use Rattle.searches.specs.Given.{Given, Held, Base};
 ghost use Rattle.exchange.specs.Exchange.{Exchange, roundOf, afterRound, exchange, exchangeBest};
-ghost use Rattle.exchange.specs.ExchangeValues.{sectionAt, sectionsOf, rowSwap, rowTrial, trialOf, exchangeOf};
+ghost use Rattle.exchange.specs.ExchangeValues.{sectionIn, sectionAt, sectionsOf, rowSwap, rowTrial, trialOf, exchangeOf};
 use bfs::radial::is_radial;
 use graph::rows::Graph;
 use graph::walks::Path;
@@ -39,11 +39,17 @@ use searches::start::start_of;
 use states::configuration::NetworkConfiguration;
 use states::configuration::live_branches;
 
-// A state that was tried, with its loss. Where none was found, the state that it started from.
+// A state that was tried, with its loss. Where none was found, the round's state.
 struct Trial {
     found: bool,
     configuration: NetworkConfiguration,
     loss: f64,
+}
+
+// The position of a section switch, where there is one.
+enum Section {
+    At(u16),
+    Absent,
 }
 
 // Where the exchange stands after some rounds.
@@ -61,7 +67,7 @@ fn is_section(switch: Switch) -> bool
     !switch.normally_open && switch.can_operate
 }
 
-// For each branch the position of its operable section switch, 512 where it has none. A branch has one switch at most.
+// For each branch the position of its operable section switch, 512 where it has none: an array of enums cannot be lent. A branch has one switch at most.
 fn sections_of(network: PowerNetwork) -> [u16; 512]
     requires { ⌜ checkRecords (recordsOf network) ≡ accepted tt ⌝ }
     ensures { λ r. ⌜ r ≡ sectionsOf (recordsOf network) ⌝ }
@@ -82,64 +88,65 @@ fn sections_of(network: PowerNetwork) -> [u16; 512]
 }
 
 // The section of branch k.
-fn section_on(sections: &[u16; 512], k: u16) -> u16
+fn section_on(sections: &[u16; 512], k: u16) -> Section
     requires { ⌜ length (now sections) ≡ 512 ⌝ }
-    ensures { λ r. ⌜ r ≡ getD (now (sections .entry)) k 512 ⌝ }
+    ensures { λ r. ⌜ r ≡ sectionAt (sectionIn (now (sections .entry)) k) ⌝ }
 {
     if k < PowerNetwork::MAX_BRANCHES {
         let at = wide16(k);
-        return sections[at];
+        let section = sections[at];
+        if section < PowerNetwork::MAX_SWITCHES {
+            return Section::At(section);
+        }
     }
-    PowerNetwork::MAX_SWITCHES
+    Section::Absent
 }
 
-// The section of branch k, where it is closed and the swap with it radial, else 512: with the tie closed these branches are live.
+// The section of branch k, where it is closed and the swap with it radial: with the tie closed these branches are live.
 fn swap_with(
     graph: Graph,
     sections: &[u16; 512],
     state: &[u8; 512],
     live: [bool; 512],
     k: u16,
-) -> u16
+) -> Section
     requires { ⌜ (length (now sections) ≡ 512) × (length (now state) ≡ 512) ⌝ }
     ensures { λ r. ⌜ r ≡ sectionAt (rowSwap graph (now (sections .entry)) (now (state .entry)) live k) ⌝ }
 {
-    let section = section_on(sections, k);
-    if section < PowerNetwork::MAX_SWITCHES {
+    if let Section::At(section) = section_on(sections, k) {
         let at = wide16(section);
         if state[at] == NetworkConfiguration::CLOSED {
             let on = wide16(k);
             let mut swapped = live;
             swapped[on] = false;
             if is_radial(graph, swapped) {
-                return section;
+                return Section::At(section);
             }
         }
     }
-    PowerNetwork::MAX_SWITCHES
+    Section::Absent
 }
 
-// The first section along a path that a tie can be swapped with, 512 where there is none.
+// The first section along a path that a tie can be swapped with.
 fn first_swap(
     graph: Graph,
     sections: &[u16; 512],
     state: &[u8; 512],
     live: [bool; 512],
     path: Path,
-) -> u16
+) -> Section
     requires { ⌜ (length (now sections) ≡ 512) × (length (now state) ≡ 512) × (path .count ≤ 256) ⌝ }
     ensures { λ r. ⌜ r ≡ sectionAt (firstSome (rowSwap graph (now (sections .entry)) (now (state .entry)) live) (take (path .count) (path .branch))) ⌝ }
 {
     let n = wide16(path.count);
     let mut i = 0usize;
     while i < n {
-        let section = swap_with(graph, sections, state, live, path.branch[i]);
-        if section < PowerNetwork::MAX_SWITCHES {
-            return section;
+        if let Section::At(section) = swap_with(graph, sections, state, live, path.branch[i]) {
+            return Section::At(section);
         }
         i += 1;
     }
-    PowerNetwork::MAX_SWITCHES
+    Section::Absent
 }
 
 // The branches that a closed tie on this branch would make a loop with: the path from its from bus to its to bus.
@@ -149,7 +156,7 @@ fn find_loop_branches_closed_tie(graph: Graph, live: [bool; 512], branch: u16) -
     path_of_ends(graph, live, branch)
 }
 
-// The section that a tie on this branch is swapped with: the first along its loop, 512 where there is none.
+// The section that a tie on this branch is swapped with: the first along its loop.
 fn try_tie(
     graph: Graph,
     sections: &[u16; 512],
@@ -157,7 +164,7 @@ fn try_tie(
     live: [bool; 512],
     branch: u16,
     in_service: bool,
-) -> u16
+) -> Section
     requires { ⌜ (length (now sections) ≡ 512) × (length (now state) ≡ 512) × (branch < 512) ⌝ }
     ensures { λ r. ⌜ r ≡ sectionAt (rowTrial graph (now (sections .entry)) (now (state .entry)) live branch «in_service») ⌝ }
 {
@@ -250,9 +257,15 @@ fn branch_exchange_step(
         let on = wide16(switch.branch_idx);
         let served = network.branches[on].status;
         if is_seen(switch, state[i]) {
-            let found = try_tie(graph, &sections, &state, live, switch.branch_idx, served);
-            let section = wide16(found);
-            if section < NetworkConfiguration::MAX_SWITCHES {
+            if let Section::At(found) = try_tie(
+                graph,
+                &sections,
+                &state,
+                live,
+                switch.branch_idx,
+                served,
+            ) {
+                let section = wide16(found);
                 let opened = wide16(network.switches[section].branch_idx);
                 let swapped = swapped_live(live, on, served, opened);
                 let loss = compute_losses_estimate(graph, loads, branches, base_mva, swapped);
@@ -321,7 +334,7 @@ fn branch_exchange_rounds(
 // What the exchange finds.
 fn search(network: PowerNetwork, start: Start) -> Found
     requires { ⌜ (checkRecords (recordsOf network) ≡ accepted tt) × (start ≡ startOf network) ⌝ }
-    ensures { λ r. ⌜ r ≡ foundOf (exchangeBest (recordsOf network)) ⌝ }
+    ensures { λ r. ⌜ r ≡ foundOf (recordsOf network) (exchangeBest (recordsOf network)) ⌝ }
 {
     let graph = start.graph;
     let loads = start.loads;

@@ -1,44 +1,38 @@
 -- What the exhaustive search answers: the base, or a radial state with some of its ties closed.
 use mathlib.Core.Path.{_≡_, refl, sym, _∙_}
-use mathlib.Core.Bool.{Bool, true, false, cond}
+use mathlib.Core.Bool.{Bool, true, false, not, _&&_}
 use mathlib.Core.Option.{Option, none, some}
-use Prim.Native.Nat.{ℕ, _≤_, _<_, _^_}
-use native.Mathlib.Omega.{arith}
+use Prim.Native.Nat.{ℕ, _<_, _^_}
 use Rattle.numbers.specs.Counts.{count}
 use Rattle.numbers.specs.TableLaws.{length-table, getD-table}
 use Rattle.numbers.specs.UpTo.{upTo-keeps}
 use Rattle.network.specs.Records.{Network}
-use Rattle.network.specs.Limits.{ties}
 use Rattle.states.specs.Live.{stateByte, live, baseState}
+use Rattle.states.specs.LiveLaws.{base-byte}
 use Rattle.states.specs.Switches.{byte, size, isTie, GoodState}
 use Rattle.radiality.specs.Feeder.{radialIn}
 use Rattle.losses.specs.Loss.{lossIn}
 use Rattle.states.specs.LiveBytes.{live-less}
-use Rattle.exhaustive.specs.Exhaustive.{bit, masked, Least, withLoss, Exhaustive, tryMask, exhaustive, leastOrBase, exhaustiveBest}
-use Rattle.searches.specs.IfSome.{IfSome}
-use Rattle.searches.specs.FromBase.{base-byte, base-good}
-use Rattle.searches.specs.Lesser.{lesser-holds}
-use Rattle.searches.specs.SearchLaws.{SoundBest}
+use Rattle.exhaustive.specs.Exhaustive.{bit, tieCount, maskedByte, masked, Least, withLoss, Exhaustive, tryMask, exhaustive, leastOrBase, exhaustiveBest}
+use Rattle.numbers.specs.IfSome.{IfSome}
+use Rattle.searches.specs.FromBase.{state-byte, base-good}
+use Rattle.searches.specs.LesserLaws.{lesser-holds}
+use Rattle.searches.specs.Results.{SoundBest}
 
 module _ (N : Network) where
   module _ (mask : ℕ) where
-    pub masked-byte : (i : ℕ) → i < size N → byte (masked N mask) i ≡ cond (isTie N i) (cond (bit mask (count (isTie N) i)) 0 1) 0
+    pub masked-byte : (i : ℕ) → i < size N → byte (masked N mask) i ≡ maskedByte N mask i
     unfolding masked
     masked-byte i l = getD-table _ (size N) i 0 l
 
     pub masked-good : GoodState N (masked N mask)
-    masked-good = record { long = unfold masked in length-table _ (size N); bytes = λ i l. rw (masked-byte i l) (go (isTie N i) (bit mask (count (isTie N) i))) }
-      where
-        go : (tie closed : Bool) → cond tie (cond closed 0 1) 0 ≤ 1
-        go true true = omega arith
-        go true false = omega arith
-        go false closed = omega arith
+    masked-good = record { long = unfold masked in length-table _ (size N); bytes = λ i l. rw (masked-byte i l) (state-byte (isTie N i && not (bit mask (count (isTie N) i)))) }
 
     -- a mask opens ties only, and those are open in the base
     masked-open : (i : ℕ) → i < size N → byte (masked N mask) i ≡ 1 → byte (baseState N) i ≡ 1
     masked-open i l e = base-byte N i ∙ go (isTie N i) (bit mask (count (isTie N) i)) (sym (masked-byte i l) ∙ e)
       where
-        go : (tie closed : Bool) → _≡_ {A = ℕ} (cond tie (cond closed 0 1) 0) 1 → stateByte tie ≡ 1
+        go : (tie closed : Bool) → stateByte (tie && not closed) ≡ 1 → stateByte tie ≡ 1
         go true closed e = refl
         go false closed e = e
 
@@ -55,7 +49,7 @@ module _ (N : Network) where
 
   pub exhaustive-closes : Closes (leastOrBase N (exhaustive N .least))
   unfolding exhaustive tryMask leastOrBase
-  exhaustive-closes = orBase (exhaustive N .least) (upTo-keeps (λ n x. IfSome Closes (x .least)) (tryMask N) _ (2 ^ ties (N .switches)) tt (λ m x l h. try m x h (radialIn N (masked N m)) refl))
+  exhaustive-closes = orBase (exhaustive N .least) (upTo-keeps (λ n x. IfSome Closes (x .least)) (tryMask N) _ (2 ^ tieCount N) tt (λ m x l h. try m x h (radialIn N (masked N m)) refl))
     where
       try : (m : ℕ) (x : Exhaustive) → IfSome Closes (x .least) → (b : Bool) → radialIn N (masked N m) ≡ b → IfSome Closes (tryMask N x m .least)
       try m x h true e = rw e (lesser-holds Closes _ (x .least) (withLoss N (masked N m)) h (record { good = masked-good m; more = masked-more m; radial = λ r. e; loses = refl }))
@@ -67,4 +61,4 @@ module _ (N : Network) where
 
   pub exhaustive-sound : SoundBest N (exhaustiveBest N)
   unfolding exhaustiveBest
-  exhaustive-sound = record { good = exhaustive-closes .good; loses = exhaustive-closes .loses; radial = exhaustive-closes .radial }
+  exhaustive-sound = record { good = exhaustive-closes .good; radial = exhaustive-closes .radial }

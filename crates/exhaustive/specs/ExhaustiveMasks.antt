@@ -1,6 +1,6 @@
--- Masks as the code goes through them: at most ten ties, the bits of a mask that are left, and the state of a mask.
+-- Masks as the code goes through them: the bits of a mask that are left, and the state of a mask.
 use mathlib.Core.Path.{_≡_, refl, sym, ap, _∙_}
-use mathlib.Core.Bool.{Bool, true, false, cond}
+use mathlib.Core.Bool.{Bool, true, false, cond, not, _&&_}
 use Prim.Native.Nat.{ℕ, suc, _+_, _≤_, _<_, _/_, _%_, _^_}
 use native.Mathlib.Nat.{div-one}
 use native.Mathlib.Numerals.{add-one}
@@ -9,22 +9,13 @@ use lib.Dec.{eqb}
 use lib.ListN.{length, getD, List·getD-eq-default}
 use lib.Pow.{shr-shr}
 use Rattle.numbers.specs.Counts.{count}
-use Rattle.network.specs.declared.switch.ReconfigAlgorithm.the-variants as method
 use Rattle.network.specs.declared.topology.PowerNetwork.{PowerNetwork}
 use Rattle.network.specs.Records.{noSwitch, recordsOf}
-use Rattle.network.specs.Answers.{accepted}
-use Rattle.network.specs.Check.{checkRecords}
-use Rattle.network.specs.Limits.{ties, methodByte}
-use Rattle.network.specs.InsideLaws.{check-inside}
 use Rattle.states.specs.Listed.{switches-listed, switch-at}
+use Rattle.states.specs.Live.{stateByte}
 use Rattle.states.specs.Switches.{isTie}
 use Rattle.exhaustive.specs.Exhaustive.{masked}
 use Rattle.exhaustive.specs.ExhaustiveLaws.{masked-byte, masked-good}
-
--- refusal 9 leaves ten
-pub ten-ties : (n : PowerNetwork) → checkRecords (recordsOf n) ≡ accepted tt → n .algorithm ≡ method.Exhaustive → ties (recordsOf n .switches) ≤ 10
-unfolding recordsOf
-ten-ties n ok e = check-inside (recordsOf n) .0 ok .few-ties (ap methodByte e)
 
 -- ---- the bits of a mask: the i-th tie takes bit i, which is the lowest that those before it left
 bit-taken : (tie : Bool) (mask k : ℕ) → cond tie (mask / 2 ^ k / 2) (mask / 2 ^ k) ≡ mask / 2 ^ cond tie (suc k) k
@@ -51,11 +42,11 @@ module _ (n : PowerNetwork) (mask : ℕ) where
     unfolding bitsFrom count
     bits-next = rw (add-one i, same-tie) (bit-taken here mask (count (isTie (recordsOf n)) i))
 
-    pub masked-at : getD (masked (recordsOf n) mask) i 0 ≡ cond here (cond (eqb (bitsFrom i % 2) 1) 0 1) 0
+    pub masked-at : getD (masked (recordsOf n) mask) i 0 ≡ stateByte (here && not (eqb (bitsFrom i % 2) 1))
     unfolding bitsFrom
-    masked-at = masked-byte (recordsOf n) mask i (omega (arith, switches-listed n)) ∙ ap (λ b. cond b (cond (eqb (bitsFrom i % 2) 1) 0 1) 0) same-tie
+    masked-at = masked-byte (recordsOf n) mask i (omega (arith, switches-listed n)) ∙ ap (λ b. stateByte (b && not (eqb (bitsFrom i % 2) 1))) same-tie
 
-  pub masked-long : length (masked (recordsOf n) mask) ≡ n .«switch_count»
+  masked-long : length (masked (recordsOf n) mask) ≡ n .«switch_count»
   masked-long = masked-good (recordsOf n) mask .long ∙ switches-listed n
 
   pub masked-beyond : (i : ℕ) → n .«switch_count» ≤ i → getD (masked (recordsOf n) mask) i 0 ≡ 0

@@ -1,7 +1,8 @@
 -- From a radial base the exhaustive search answers the base: mask 0 is the base, and every other radial mask has its live branches, so that its loss is not below.
+-- `exhaustive-of-radial` is a fact for the reader: no proof uses it.
 use mathlib.Core.Path.{_≡_, refl, sym, _∙_}
 use mathlib.Core.Logic.{_⊎_, inl, inr}
-use mathlib.Core.Bool.{Bool, true, false, cond}
+use mathlib.Core.Bool.{Bool, true, false, not, _&&_}
 use mathlib.Core.Option.{none, some}
 use Prim.Native.Nat.{ℕ, suc, _^_}
 use native.Mathlib.Nat.{zero-div}
@@ -12,16 +13,16 @@ use Rattle.numbers.specs.TableLaws.{as-table}
 use Rattle.numbers.specs.Tests.{clash}
 use Rattle.numbers.specs.UpTo.{upTo-keeps}
 use Rattle.network.specs.Records.{Network}
-use Rattle.network.specs.Limits.{ties}
 use Rattle.network.specs.Inside.{Inside}
 use Rattle.states.specs.Live.{stateByte, baseState}
+use Rattle.states.specs.LiveLaws.{base-byte}
 use Rattle.states.specs.Switches.{isTie, size}
 use Rattle.radiality.specs.Feeder.{radialIn}
 use Rattle.losses.specs.Loss.{lossIn}
-use Rattle.exhaustive.specs.Exhaustive.{bit, masked, withLoss, Exhaustive, tryMask, exhaustive, leastOrBase}
+use Rattle.exhaustive.specs.Exhaustive.{bit, tieCount, masked, withLoss, Exhaustive, tryMask, exhaustive, leastOrBase}
 use Rattle.searches.specs.Floats.{lt-self}
-use Rattle.searches.specs.Lesser.{lesserBy}
-use Rattle.searches.specs.FromBase.{base-byte, base-good}
+use Rattle.searches.specs.Rounds.{lesserBy}
+use Rattle.searches.specs.FromBase.{base-good}
 use Rattle.searches.specs.LiveBranches.{same-loss, radial-part-same}
 use Rattle.exhaustive.specs.ExhaustiveLaws.{masked-more}
 
@@ -31,7 +32,7 @@ module _ (N : Network) where
   unfolding masked
   masked-none = sym (as-table _ (size N) 0 (baseState N) (base-good N .long) (λ i l. base-byte N i ∙ go i (isTie N i)))
     where
-      go : (i : ℕ) (tie : Bool) → stateByte tie ≡ cond tie (cond (bit 0 (count (isTie N) i)) 0 1) 0
+      go : (i : ℕ) (tie : Bool) → stateByte tie ≡ stateByte (tie && not (bit 0 (count (isTie N) i)))
       go i true = rw (zero-div (2 ^ count (isTie N) i))
       go i false = refl
 
@@ -45,7 +46,7 @@ module _ (N : Network) where
 
     pub exhaustive-of-radial : leastOrBase N (exhaustive N .least) ≡ withLoss N (baseState N)
     unfolding exhaustive tryMask lesserBy leastOrBase BaseLeast
-    exhaustive-of-radial = ends (upTo-keeps BaseLeast (tryMask N) _ (2 ^ ties (N .switches)) (inl (refl, refl)) (λ m x l h. try m x (radialIn N (masked N m)) refl h))
+    exhaustive-of-radial = ends (upTo-keeps BaseLeast (tryMask N) _ (2 ^ tieCount N) (inl (refl, refl)) (λ m x l h. try m x (radialIn N (masked N m)) refl h))
       where
         try : (m : ℕ) (x : Exhaustive) (b : Bool) → radialIn N (masked N m) ≡ b → BaseLeast m x → BaseLeast (suc m) (tryMask N x m)
         try m x true e (inl (z, n)) = inr (rw (e, n, z, masked-none))
@@ -53,6 +54,6 @@ module _ (N : Network) where
         try m x false e (inl (z, n)) = clash r (rw (z, masked-none) at e)
         try m x false e (inr h) = inr (rw e h)
 
-        ends : BaseLeast (2 ^ ties (N .switches)) (exhaustive N) → leastOrBase N (exhaustive N .least) ≡ withLoss N (baseState N)
-        ends (inl (z, n)) = absurd (omega (arith, pow-pos (ties (N .switches))))
+        ends : BaseLeast (2 ^ tieCount N) (exhaustive N) → leastOrBase N (exhaustive N .least) ≡ withLoss N (baseState N)
+        ends (inl (z, n)) = absurd (omega (arith, pow-pos (tieCount N)))
         ends (inr h) = rw h

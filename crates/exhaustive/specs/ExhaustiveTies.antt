@@ -1,66 +1,39 @@
 -- The ties as the code lists them, and the live branches of a mask: those of the base, with the ties closed whose bit is 1.
 use mathlib.Core.Path.{_≡_, refl, sym, ap, _∙_}
 use mathlib.Core.Logic.{_≢_}
-use mathlib.Core.Bool.{Bool, true, false, cond, true≢false}
-use mathlib.Core.List.{List, [], _∷_, _++_}
+use mathlib.Core.Bool.{Bool, true, false, cond}
+use mathlib.Core.List.{List, []}
 use Prim.Native.Nat.{ℕ, zero, suc, _+_, _≤_, _<_, _/_, _%_, _^_}
 use native.Mathlib.Decide.{ℕ-discrete, decLt}
 use native.Mathlib.Numerals.{add-one}
 use native.Mathlib.Omega.{arith}
 use lib.Dec.{ltb}
-use lib.ListN.{length, getD, set, length-append, List·getD-append, List·getD-eq-default}
-use lib.Seq.{getD-at}
+use lib.ListN.{getD, set, List·getD-eq-default}
 use lib.Pow.{shr-shr}
 use borrow.Author.Tests.{lt-ltb, le-ltb, eq-eqb, ne-eqb}
 use Rattle.numbers.specs.Counts.{count, count-yes, count-no}
-use Rattle.numbers.specs.Choose.{those}
-use Rattle.numbers.specs.ChooseLaws.{those-more}
+use Rattle.numbers.specs.CountLaws.{counted-before}
+use Rattle.numbers.specs.ChooseLaws.{those-at}
 use Rattle.numbers.specs.UpTo.{upTo, upTo-more, table}
-use Rattle.numbers.specs.TableLaws.{length-table, getD-table, as-table, table-cong, filled, filled-none, filled-more}
-use Rattle.network.specs.Records.{Network}
-use Rattle.network.specs.Limits.{ties}
+use Rattle.numbers.specs.TableLaws.{length-table, getD-table, as-table, table-cong, filled, filled-none, filled-more, table-set}
+use Rattle.network.specs.declared.switch.ReconfigAlgorithm.the-variants as method
+use Rattle.network.specs.declared.topology.PowerNetwork.{PowerNetwork}
+use Rattle.network.specs.Records.{Network, recordsOf}
+use Rattle.network.specs.Answers.{accepted}
+use Rattle.network.specs.Check.{checkRecords}
+use Rattle.network.specs.Limits.{ties, methodByte}
+use Rattle.network.specs.InsideLaws.{check-inside}
 use Rattle.network.specs.TieLaws.{ties-next}
 use Rattle.network.specs.Inside.{Inside}
 use Rattle.states.specs.Live.{baseState}
+use Rattle.states.specs.LiveLaws.{base-byte}
 use Rattle.radiality.specs.FeederRows.{liveFlags}
 use Rattle.states.specs.Switches.{State, byte, branchOf, size, switch, isTie, inService}
 use Rattle.exhaustive.specs.declared.exhaustive.Ties.{Ties}
-use Rattle.searches.specs.TableSets.{table-set}
 use Rattle.searches.specs.LiveFlags.{on-flagged, flags-closed}
-use Rattle.searches.specs.FromBase.{base-byte, base-good}
-use Rattle.exhaustive.specs.Exhaustive.{bit, masked}
+use Rattle.searches.specs.FromBase.{base-good}
+use Rattle.exhaustive.specs.Exhaustive.{bit, tieCount, maskedByte, masked}
 use Rattle.exhaustive.specs.ExhaustiveValues.{tieAt, tiesOf, closing, closedBy}
-
--- ---- the numbers that pass a test, by how many pass before them
-module _ (p : ℕ → Bool) where
-  those-long : (n : ℕ) → length (those p n) ≡ count p n
-  unfolding those upTo count
-  those-long zero = refl
-  those-long (suc n) = go (p n) (those-long n)
-    where
-      go : (b : Bool) → length (those p n) ≡ count p n → length (cond b (those p n ++ (n ∷ [])) (those p n)) ≡ cond b (suc (count p n)) (count p n)
-      go true e = simp (length-append, e) (omega arith)
-      go false e = e
-
-  -- one more is counted behind it
-  counted-before : (n i : ℕ) → i < n → p i ≡ true → count p i < count p n
-  counted-before zero i l t = absurd (omega arith)
-  counted-before (suc n) i l t = go (ℕ-discrete i n) (p n) refl (λ k. counted-before n i k t)
-    where
-      go : Dec (i ≡ n) → (b : Bool) → p n ≡ b → (i < n → count p i < count p n) → count p i < count p (suc n)
-      go (yes e) b q ih = rw (← e, count-yes p i t) (omega arith)
-      go (no d) true q ih = omega (arith, count-yes p n q, ih (omega arith))
-      go (no d) false q ih = omega (arith, count-no p n q, ih (omega arith))
-
-  those-at : (n i : ℕ) → i < n → p i ≡ true → getD (those p n) (count p i) 0 ≡ i
-  those-at zero i l t = absurd (omega arith)
-  those-at (suc n) i l t = rw (those-more p n) (go (ℕ-discrete i n) (p n) refl (λ k. those-at n i k t))
-    where
-      go : Dec (i ≡ n) → (b : Bool) → p n ≡ b → (i < n → getD (those p n) (count p i) 0 ≡ i) → getD (cond b (those p n ++ (n ∷ [])) (those p n)) (count p i) 0 ≡ i
-      go (yes e) true q ih = rw e (getD-at (those p n) n [] 0 (count p n) (those-long n))
-      go (yes e) false q ih = absurd (true≢false (sym t ∙ ap p e ∙ q))
-      go (no d) true q ih = List·getD-append (those p n) (n ∷ []) 0 (count p i) (rw (those-long n) (counted-before n i (omega arith) t)) ∙ ih (omega arith)
-      go (no d) false q ih = ih (omega arith)
 
 -- ---- a tie closed or left open, by the bits of the mask that are left
 module _ (held : Ties) (mask t rest : ℕ) (e : rest ≡ mask / 2 ^ t) where
@@ -81,10 +54,15 @@ module _ (N : Network) where
   ties-counted zero = refl
   ties-counted (suc i) = ties-next (switch N) i (count (isTie N) i) (ties-counted i) ∙ ap (λ m. ties (table (switch N) m)) (add-one i)
 
-  pub all-ties : count (isTie N) (size N) ≡ ties (N .switches)
+  all-ties : tieCount N ≡ ties (N .switches)
   all-ties = ties-counted (size N) ∙ ap ties (sym (as-table (switch N) (size N) _ (N .switches) refl (λ i l. refl)))
 
-  -- ---- the ties listed
+-- refusal 9 leaves ten
+pub ten-ties : (n : PowerNetwork) → checkRecords (recordsOf n) ≡ accepted tt → n .algorithm ≡ method.Exhaustive → tieCount (recordsOf n) ≤ 10
+ten-ties n ok e = rw (all-ties (recordsOf n)) (unfold recordsOf in check-inside (recordsOf n) .0 ok .few-ties (ap methodByte e))
+
+-- ---- the ties listed
+module _ (N : Network) where
   pub no-ties : record { count = 0; on = table (λ j. 0) 10; «in_service» = table (λ j. false) 10 } ≡ tiesOf N 0
   unfolding tiesOf
   no-ties = rw (filled-none (λ j. branchOf N (tieAt N j)) 0 10, filled-none (λ j. inService N (branchOf N (tieAt N j))) false 10)
@@ -108,8 +86,8 @@ module _ (N : Network) where
     tie-behind : count (isTie N) (i + 1) ≡ count (isTie N) i + 1
     tie-behind = ap (count (isTie N)) (add-one i) ∙ count-yes (isTie N) i tie ∙ sym (add-one (count (isTie N) i))
 
-    pub tie-room : ties (N .switches) ≤ 10 → count (isTie N) i < 10
-    tie-room few = omega (arith, all-ties, counted-before (isTie N) (size N) i l tie)
+    pub tie-room : tieCount N ≤ 10 → count (isTie N) i < 10
+    tie-room few = omega (arith, counted-before (isTie N) (size N) i l tie)
 
     pub tie-listed : count (isTie N) i < 10 → (held : Ties) → held ≡ tiesOf N (count (isTie N) i) → (on : ℕ) (served : Bool) → on ≡ branchOf N i → served ≡ inService N (branchOf N i)
         → record { count = held .count + 1; on = set (held .on) (held .count) on; «in_service» = set (held .«in_service») (held .count) served } ≡ tiesOf N (count (isTie N) (i + 1))
@@ -135,13 +113,10 @@ module _ (N : Network) where
   section-skipped i f held e = e ∙ ap (tiesOf N) (sym (ap (count (isTie N)) (add-one i) ∙ count-no (isTie N) i f))
 
   -- ---- the live branches of a mask
-  module _ (inside : Inside N) (few : ties (N .switches) ≤ 10) (mask : ℕ) where
-    abbrev byteBy : ℕ → ℕ
-    byteBy j = cond (isTie N j) (cond (bit mask (count (isTie N) j)) 0 1) 0
-
+  module _ (inside : Inside N) (few : tieCount N ≤ 10) (mask : ℕ) where
     -- the first m switches as the mask has them, the others as the base
     abbrev mixedAt : ℕ → ℕ → ℕ
-    mixedAt m j = cond (ltb j m) (byteBy j) (byte (baseState N) j)
+    mixedAt m j = cond (ltb j m) (maskedByte N mask j) (byte (baseState N) j)
 
     abbrev mixed : ℕ → State
     mixed m = table (mixedAt m) (size N)
@@ -153,24 +128,24 @@ module _ (N : Network) where
         go (yes l) = rw (lt-ltb j m l, lt-ltb j (suc m) (omega arith))
         go (no d) = rw (le-ltb j m (omega arith), le-ltb j (suc m) (omega arith))
 
-    mixed-now : (m : ℕ) → mixedAt (suc m) m ≡ byteBy m
+    mixed-now : (m : ℕ) → mixedAt (suc m) m ≡ maskedByte N mask m
     mixed-now m = rw (lt-ltb m (suc m) (omega arith))
 
     mixed-before : (m : ℕ) → mixedAt m m ≡ byte (baseState N) m
     mixed-before m = rw (le-ltb m m (omega arith))
 
-    mixed-kept : (m : ℕ) → byte (baseState N) m ≡ byteBy m → mixed m ≡ mixed (suc m)
+    mixed-kept : (m : ℕ) → byte (baseState N) m ≡ maskedByte N mask m → mixed m ≡ mixed (suc m)
     mixed-kept m e = table-cong (mixedAt m) (mixedAt (suc m)) (size N) (λ j l. go j (ℕ-discrete j m))
       where
         go : (j : ℕ) → Dec (j ≡ m) → mixedAt m j ≡ mixedAt (suc m) j
         go j (yes q) = rw q (mixed-before m ∙ e ∙ sym (mixed-now m))
         go j (no n) = mixed-other m j n
 
-    mixed-closed : (m : ℕ) → m < size N → byteBy m ≡ 0 → set (mixed m) m 0 ≡ mixed (suc m)
+    mixed-closed : (m : ℕ) → m < size N → maskedByte N mask m ≡ 0 → set (mixed m) m 0 ≡ mixed (suc m)
     mixed-closed m l e = table-set (mixedAt m) (mixedAt (suc m)) (size N) m 0 l (mixed-now m ∙ e) (λ j k n. mixed-other m j n)
 
     abbrev all : Ties
-    all = tiesOf N (ties (N .switches))
+    all = tiesOf N (tieCount N)
 
     flags-mixed : (m : ℕ) → m ≤ size N → upTo (closing all mask) (liveFlags N (baseState N)) (count (isTie N) m) ≡ liveFlags N (mixed m)
     unfolding upTo count
@@ -183,7 +158,7 @@ module _ (N : Network) where
         go : (tie : Bool) → isTie N m ≡ tie → (closed : Bool) → bit mask before ≡ closed → upTo (closing all mask) (liveFlags N (baseState N)) before ≡ liveFlags N (mixed m)
             → upTo (closing all mask) (liveFlags N (baseState N)) (count (isTie N) (suc m)) ≡ liveFlags N (mixed (suc m))
         go true t true b ih =
-            let k : before < ties (N .switches) = rw (← all-ties) (counted-before (isTie N) (size N) m (omega arith) t) in
+            let k : before < tieCount N = counted-before (isTie N) (size N) m (omega arith) t in
             rw (count-yes (isTie N) m t, b, ih, on-read m (omega arith) t _ few k, served-read m (omega arith) t _ few k)
             (flags-closed N inside (mixed m) (length-table (mixedAt m) (size N)) m (omega arith) ∙ ap (liveFlags N) (mixed-closed m (omega arith) (rw (t, b))))
         go true t false b ih = rw (count-yes (isTie N) m t, b) (ih ∙ ap (liveFlags N) (mixed-kept m (base-byte N m ∙ rw (t, b))))
@@ -192,6 +167,5 @@ module _ (N : Network) where
     pub masked-flags : closedBy all mask (liveFlags N (baseState N)) ≡ liveFlags N (masked N mask)
     unfolding closedBy masked tiesOf
     masked-flags =
-        ap (upTo (closing all mask) (liveFlags N (baseState N))) (sym all-ties)
-        ∙ flags-mixed (size N) (omega arith)
-        ∙ ap (liveFlags N) (table-cong (mixedAt (size N)) byteBy (size N) (λ j l. rw (lt-ltb j (size N) l)))
+        flags-mixed (size N) (omega arith)
+        ∙ ap (liveFlags N) (table-cong (mixedAt (size N)) (maskedByte N mask) (size N) (λ j l. rw (lt-ltb j (size N) l)))

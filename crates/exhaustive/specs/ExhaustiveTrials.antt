@@ -17,7 +17,7 @@ use Rattle.radiality.specs.Feeder.{radialIn}
 use Rattle.losses.specs.Loss.{lossIn}
 use Rattle.exhaustive.specs.declared.exhaustive.ExhaustiveSearch.{ExhaustiveSearch}
 use Rattle.searches.specs.Given.{Base}
-use Rattle.searches.specs.Lesser.{lesserBy}
+use Rattle.searches.specs.Rounds.{lesserBy}
 use Rattle.exhaustive.specs.Exhaustive.{masked, Least, withLoss, Exhaustive, noMask, withRadial, tryMask, leastOrBase}
 use Rattle.exhaustive.specs.ExhaustiveSettles.{masked-none}
 use Rattle.exhaustive.specs.ExhaustiveValues.{isSome, exhaustiveOf}

@@ -7,7 +7,7 @@ use lib.ListN.{getD, set}
 use Rattle.numbers.specs.Choose.{those}
 use Rattle.numbers.specs.TableLaws.{filled}
 use Rattle.numbers.specs.UpTo.{upTo}
-use Rattle.network.specs.declared.switch.ReconfigAlgorithm.{ReconfigAlgorithm}
+use Rattle.network.specs.declared.switch.ReconfigAlgorithm.the-variants as method
 use Rattle.network.specs.declared.topology.PowerNetwork.{PowerNetwork}
 use Rattle.states.specs.Configuration.{configurationOf}
 use Rattle.network.specs.Records.{Network}
@@ -49,9 +49,9 @@ exhaustiveOf N x =
     let b = leastOrBase N (x .least) in
     record { found = isSome (x .least); configuration = configurationOf (b .state); loss = b .loss; «radial_count» = x .radialCount }
 
--- the feeder with this method in its head, as the code has it
-abbrev pub askedFor : ReconfigAlgorithm → PowerNetwork → PowerNetwork
-askedFor method n =
+-- the feeder with method 02 in its head, as the code has it
+abbrev pub exhaustiveHead : PowerNetwork → PowerNetwork
+exhaustiveHead n =
     record {
       buses = n .buses;
       branches = n .branches;
@@ -60,6 +60,6 @@ askedFor method n =
       «branch_count» = n .«branch_count»;
       «switch_count» = n .«switch_count»;
       «base_mva» = n .«base_mva»;
-      algorithm = method;
+      algorithm = method.Exhaustive;
       «max_iterations» = n .«max_iterations»;
     }

@@ -1,6 +1,6 @@
 pub mod Exhaustive
 pub mod ExhaustiveValues
-pub mod AskingLaws
+pub mod AsExhaustive
 pub mod ExhaustiveLaws
 pub mod ExhaustiveSettles
 pub mod ExhaustiveMasks

@@ -2,7 +2,7 @@
 // Document 01's exhaustive search. `exhaustive_masks` goes through the masks of the source's `enumerate_radial_configs` and keeps the least radial state,
 // where the source makes a list of the radial ones first.
 ghost use mathlib.Core.Path.{_≡_};
-ghost use mathlib.Core.Bool.{true, cond, not, _||_};
+ghost use mathlib.Core.Bool.{true, cond, not, _&&_, _||_};
 ghost use Prim.Native.Nat.{ℕ, _+_, _<_, _≤_, _/_, _%_, _^_};
 ghost use lib.Dec.{eqb};
 ghost use lib.Ieee.{lt};
@@ -10,8 +10,7 @@ ghost use lib.ListN.{getD, set};
 ghost use Rattle.network.specs.Answers.{accepted};
 ghost use Rattle.network.specs.Check.{checkRecords};
 ghost use Rattle.states.specs.Configuration.{configurationOf};
-ghost use Rattle.network.specs.Limits.{ties};
-ghost use Rattle.states.specs.Live.{baseState};
+ghost use Rattle.states.specs.Live.{stateByte, baseState};
 ghost use Rattle.network.specs.Records.{Network, recordsOf};
 ghost use Rattle.radiality.specs.Feeder.{radialIn};
 ghost use Rattle.radiality.specs.FeederRows.{liveFlags};
@@ -19,8 +18,8 @@ ghost use Rattle.states.specs.Switches.{State};
 ghost use Rattle.searches.specs.Results.{solvedBy, solveAnswerOf};
 ghost use Rattle.searches.specs.SearchValues.{startOf, foundOf};
 ghost use Rattle.searches.specs.Given.{Given, Base};
-ghost use Rattle.exhaustive.specs.Exhaustive.{masked, Exhaustive, noMask, withRadial, tryMask, exhaustive, exhaustiveBest, asking};
-ghost use Rattle.exhaustive.specs.ExhaustiveValues.{tiesOf, closedBy, exhaustiveOf, askedFor};
+ghost use Rattle.exhaustive.specs.Exhaustive.{tieCount, masked, Exhaustive, noMask, withRadial, tryMask, exhaustive, exhaustiveBest, asExhaustive};
+ghost use Rattle.exhaustive.specs.ExhaustiveValues.{tiesOf, closedBy, exhaustiveOf, exhaustiveHead};
 use bfs::radial::is_radial;
 use graph::rows::Graph;
 use losses::estimate::compute_losses_estimate;
@@ -91,7 +90,7 @@ fn is_tie(switch: Switch) -> bool
 
 // The byte of a switch, with the bits of a mask that are left: the lowest closes a tie, and a section is closed.
 fn masked_byte(tie: bool, rest: u16) -> u8
-    ensures { λ r. ⌜ r ≡ cond tie (cond (eqb (rest % 2) 1) 0 1) 0 ⌝ }
+    ensures { λ r. ⌜ r ≡ stateByte (tie && not (eqb (rest % 2) 1)) ⌝ }
 {
     if tie {
         if rest % 2 == 1 {
@@ -132,8 +131,8 @@ fn masked(network: PowerNetwork, mask: u16) -> NetworkConfiguration
 
 // The ties, of which there are at most ten.
 fn find_ties(network: PowerNetwork) -> Ties
-    requires { ⌜ (checkRecords (recordsOf network) ≡ accepted tt) × (ties (recordsOf network .switches) ≤ 10) ⌝ }
-    ensures { λ r. ⌜ r ≡ tiesOf (recordsOf network) (ties (recordsOf network .switches)) ⌝ }
+    requires { ⌜ (checkRecords (recordsOf network) ≡ accepted tt) × (tieCount (recordsOf network) ≤ 10) ⌝ }
+    ensures { λ r. ⌜ r ≡ tiesOf (recordsOf network) (tieCount (recordsOf network)) ⌝ }
 {
     let count = wide16(network.switch_count);
     let mut ties = Ties::new();
@@ -280,7 +279,7 @@ fn exhaustive_masks(
 // What the exhaustive search finds: it counts the radial states, and it converged.
 fn search(network: PowerNetwork, start: Start) -> Found
     requires { ⌜ (checkRecords (recordsOf network) ≡ accepted tt) × (start ≡ startOf network) × (network .algorithm ≡ ReconfigAlgorithm.Exhaustive) ⌝ }
-    ensures { λ r. ⌜ r ≡ foundOf (exhaustiveBest (recordsOf network)) ⌝ }
+    ensures { λ r. ⌜ r ≡ foundOf (recordsOf network) (exhaustiveBest (recordsOf network)) ⌝ }
 {
     let graph = start.graph;
     let loads = start.loads;
@@ -297,7 +296,7 @@ fn search(network: PowerNetwork, start: Start) -> Found
 }
 
 // The exhaustive search of a feeder that asks for it: so it has at most ten ties.
-fn solve_asking(network: PowerNetwork, out: &mut [u8]) -> SolveAnswer
+fn solve_as_exhaustive(network: PowerNetwork, out: &mut [u8]) -> SolveAnswer
     requires { ⌜ network .algorithm ≡ ReconfigAlgorithm.Exhaustive ⌝ }
     ensures { λ r. ⌜ record { answer = solveAnswerOf r; out = now (out .exit) } ≡ solvedBy exhaustiveBest (recordsOf network) (now (out .entry)) ⌝ }
 {
@@ -308,9 +307,9 @@ fn solve_asking(network: PowerNetwork, out: &mut [u8]) -> SolveAnswer
     answer_with(network, start, search(network, start), out)
 }
 
-// The feeder with this method in its head.
-fn asking(network: PowerNetwork, algorithm: ReconfigAlgorithm) -> PowerNetwork
-    ensures { λ r. ⌜ r ≡ askedFor algorithm network ⌝ }
+// The feeder with method 02 in its head.
+fn as_exhaustive(network: PowerNetwork) -> PowerNetwork
+    ensures { λ r. ⌜ r ≡ exhaustiveHead network ⌝ }
 {
     let buses = network.buses;
     let branches = network.branches;
@@ -323,20 +322,20 @@ fn asking(network: PowerNetwork, algorithm: ReconfigAlgorithm) -> PowerNetwork
         branch_count: network.branch_count,
         switch_count: network.switch_count,
         base_mva: network.base_mva,
-        algorithm,
+        algorithm: ReconfigAlgorithm::Exhaustive,
         max_iterations: network.max_iterations,
     }
 }
 
 // Document 01's exhaustive search of a feeder, whichever search its head asks for: the best state's bytes at the front of the slice, and the result.
-// The feeder is tested as one that asks for this search, which wants at most ten ties.
+// The feeder is tested as one that asks for this search, which wants at most ten ties: one that does is handed on as it is, and only of another a copy is made.
 pub fn exhaustive_solve(network: PowerNetwork, out: &mut [u8]) -> SolveAnswer
     ensures { λ r. ⌜ record { answer = solveAnswerOf r; out = now (out .exit) }
-        ≡ solvedBy exhaustiveBest (asking ReconfigAlgorithm.Exhaustive (recordsOf network)) (now (out .entry)) ⌝ }
+        ≡ solvedBy exhaustiveBest (asExhaustive (recordsOf network)) (now (out .entry)) ⌝ }
 {
     let algorithm = network.algorithm;
     if let ReconfigAlgorithm::Exhaustive = algorithm {
-        return solve_asking(network, out);
+        return solve_as_exhaustive(network, out);
     }
-    solve_asking(asking(network, ReconfigAlgorithm::Exhaustive), out)
+    solve_as_exhaustive(as_exhaustive(network), out)
 }

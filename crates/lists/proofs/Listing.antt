@@ -18,7 +18,7 @@ use Rattle.graph.specs.Rows.{rowFrom, leads, rowLeads}
 use Rattle.bfs.proofs.Along.{along, Along, one-along}
 use Rattle.bfs.proofs.Along as Along
 use Rattle.lists.specs.declared.lists.LiveLists.{LiveLists}
-use Rattle.lists.specs.Lists.{listsTo, arrayOf, startOf, listsOf, liveLists, listFrom, listed, listLive, Listing, Reaching}
+use Rattle.lists.specs.Lists.{listsTo, arrayOf, listStart, listsOf, liveLists, listFrom, listed, listLive, Listing, Reaching}
 use Rattle.lists.specs.ListLaws.{lists-more}
 
 -- ---- one bus
@@ -107,25 +107,25 @@ module _ (far first next : List ℕ) (live : List Bool) where
   -- the lists of the first u buses
   pub record Rowing (at near : List ℕ) (end u : ℕ) : Type 0 where
     pub listing : Listing (listsTo row u) near end
-    pub begins : at ≡ filled (startOf row) 0 257 (u + 1)
+    pub begins : at ≡ filled (listStart row) 0 257 (u + 1)
 
   pub none-rowed : Rowing (replicate 257 0) (replicate 1024 0) 0 0
-  unfolding listsTo upTo filled startOf
+  unfolding listsTo upTo filled listStart
   none-rowed =
       record {
         listing = record { ends = refl; entries = replicate-table 0 1024 };
-        begins = replicate-table 0 257 ∙ table-cong _ _ 257 (λ j l. none-begins (startOf row) refl j);
+        begins = replicate-table 0 257 ∙ table-cong _ _ 257 (λ j l. none-begins (listStart row) refl j);
       }
 
   module _ {at near : List ℕ} {end u : ℕ} (r : Rowing at near end u) where
     pub one-rowed : {near′ : List ℕ} {end′ : ℕ} → u < 256
         → ((l : List ℕ) → Listing l near end → Listing (l ++ busesOf (leads far live (rowFrom next 1024 (getD first u 0)))) near′ end′)
         → Rowing (set at (u + 1) end′) near′ end′ (u + 1)
-    unfolding rowLeads startOf
+    unfolding rowLeads listStart
     one-rowed {near′} {end′} l step =
         let more : listsTo row (u + 1) ≡ listsTo row u ++ row u = lists-more row u in
         let w : Listing (listsTo row (u + 1)) near′ end′ = rw more (step (listsTo row u) (r .listing)) in
-        record { listing = w; begins = rw (r .begins, w .ends) (filled-more (startOf row) 0 257 (u + 1) (omega arith)) }
+        record { listing = w; begins = rw (r .begins, w .ends) (filled-more (listStart row) 0 257 (u + 1) (omega arith)) }
 
 pub all-rowed : (g : Graph) (live : List Bool) {at near : List ℕ} {end u : ℕ} → Rowing (g .far) (g .first) (g .next) live at near end u → u ≡ min (g .«bus_count») 256
     → _≡_ {A = LiveLists} (record { at = at; near = near }) (liveLists g live)

@@ -14,7 +14,7 @@ use Rattle.numbers.specs.TableLaws.{getD-table, table-cong, as-table, filled}
 use Rattle.graph.specs.Walk.{Visit, startAt, reached, enter, enterAll, turn, walkBy}
 use Rattle.graph.specs.Visits.{visit, busesOf}
 use Rattle.graph.specs.RowsWalk.{Small, same-walk}
-use Rattle.lists.specs.Lists.{listsTo, startOf, listsOf, forget, listFrom, listed}
+use Rattle.lists.specs.Lists.{listsTo, listStart, listsOf, forget, listFrom, listed}
 
 -- ---- a walk without its branches is the walk by neighbours without their branches
 module _ (barred : ℕ) where
@@ -87,16 +87,16 @@ module _ (next : ℕ → List Visit) (n : ℕ) (few : n ≤ 256) (room : length 
       let e : length (listsTo row n) ≡ before + (length (row u) + length (s .0)) = ap length (s .1) ∙ length-append (listsTo row u) (row u ++ s .0) ∙ ap (_+_ before) (length-append (row u) (s .0)) in
       omega (arith, room, length-map (next u) (λ v. v .bus))
 
-  starts : (x : ℕ) → x ≤ n → getD (listsOf row n .at) x 0 ≡ startOf row x
+  starts : (x : ℕ) → x ≤ n → getD (listsOf row n .at) x 0 ≡ listStart row x
   unfolding listsOf filled
   starts x k = getD-table _ 257 x 0 (omega arith) ∙ rw (lt-ltb x (n + 1) (omega arith))
 
   begins : getD (listsOf row n .at) u 0 ≡ before
-  unfolding startOf
+  unfolding listStart
   begins = starts u (omega arith) ∙ omega (arith, size)
 
   ends : getD (listsOf row n .at) (u + 1) 0 ≡ before + length (next u)
-  unfolding startOf
+  unfolding listStart
   ends =
       let more : length (listsTo row (u + 1)) ≡ before + length (row u) = ap length (lists-more row u) ∙ length-append (listsTo row u) (row u) in
       starts (u + 1) (omega arith) ∙ omega (arith, size, more, length-map (next u) (λ v. v .bus))
@@ -112,7 +112,7 @@ module _ (next : ℕ → List Visit) (n : ℕ) (few : n ≤ 256) (room : length 
       ∙ List·getD-append (row u) (s .0) 0 i inside
       ∙ List·getD-map (λ (v : Visit). v .bus) (next u) i (startAt 0)
 
-  pub list-read : listed (listsOf row n .at) (listsOf row n .near) u ≡ map forget (next u)
+  list-read : listed (listsOf row n .at) (listsOf row n .near) u ≡ map forget (next u)
   unfolding listed listFrom
   list-read =
       let count : min (before + length (next u)) 1024 - before ≡ length (next u) = omega (arith, size) in

@@ -25,12 +25,12 @@ abbrev pub arrayOf : List ℕ → List ℕ
 arrayOf l = table (λ i. getD l i 0) 1024
 
 -- where the list of bus u begins; 1,024 where there is no room for it
-unfoldable pub startOf : (ℕ → List ℕ) → ℕ → ℕ
-startOf near u = min (length (listsTo near u)) 1024
+unfoldable pub listStart : (ℕ → List ℕ) → ℕ → ℕ
+listStart near u = min (length (listsTo near u)) 1024
 
 -- the lists of n buses, as far as 1,024 entries have room for them. The list of bus u ends where that of bus u + 1 begins
 unfoldable pub listsOf : (ℕ → List ℕ) → ℕ → LiveLists
-listsOf near n = record { at = tables.filled (startOf near) 0 257 (n + 1); near = arrayOf (listsTo near n) }
+listsOf near n = record { at = tables.filled (listStart near) 0 257 (n + 1); near = arrayOf (listsTo near n) }
 
 -- the lists of a graph's buses, read off its rows
 unfoldable pub liveLists : Graph → List Bool → LiveLists

@@ -51,7 +51,7 @@ module _ (n : PowerNetwork) (sized : length (n .buses) ≡ 256) (ok : checkRecor
       let e = feeder-ends n sized ok k inner in
       (omega (arith, s .0, e .0, same-buses n sized ok), omega (arith, s .1, e .1, same-buses n sized ok))
 
-  pub feeder-list-loss : (flags : List Bool) → length flags ≤ 512
+  feeder-list-loss : (flags : List Bool) → length flags ≤ 512
       → listLoss (feederGraph n) (loadsOf n) (n .branches) (n .«base_mva») flags ≡ lossWith (recordsOf n) (flag flags)
   unfolding feederGraph recordsOf
   feeder-list-loss flags short =

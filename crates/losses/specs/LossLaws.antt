@@ -1,17 +1,15 @@
--- Inside document 01's limits the loss is finite and not below zero, and a running total never falls. By counting up, from the laws of a term.
+-- Inside document 01's limits the loss is finite and not below zero. By counting up, from the laws of a term.
 use mathlib.Core.Path.{_≡_}
 use mathlib.Core.Bool.{Bool, true, false, cond}
 use Prim.Native.Nat.{ℕ, suc, _*_, _^_, _≤_, _<_}
 use native.Mathlib.Omega.{arith}
 use lib.Dec.{T, eqb, lit≤}
-use lib.Ieee.{Float, binary64, add, le, fits}
-use lib.Ieee.Bits.{ofBits-fits}
-use lib.Ieee.Fits.{add-fits}
+use lib.Ieee.{Float, binary64, add, le}
 use Rattle.numbers.specs.Bounds.{Within, within-more, within-finite, holds64, add-within}
 use Rattle.numbers.specs.Constants.{zero64}
 use Rattle.numbers.specs.Signs.{HasSign, NonNeg}
-use Rattle.numbers.specs.Sums.{zero-within, zero-sign, plus-above-zero, add-sign, le-add, le-self}
-use Rattle.numbers.specs.UpTo.{upTo, upTo-keeps}
+use Rattle.numbers.specs.Sums.{zero-within, zero-sign, plus-above-zero, add-sign}
+use Rattle.numbers.specs.UpTo.{upTo-keeps}
 use Rattle.network.specs.Limits.{okBase, okLoad, okR}
 use Rattle.graph.specs.Graph.{Net, Sound}
 use Rattle.graph.specs.Visits.{reached-at}
@@ -25,41 +23,32 @@ use Rattle.losses.specs.TermLaws.{walk-load-within, term-within, term-no
 record Total (n : ℕ) (t : Float) : Type 0 where
   size : Within (n * 1000 * 2 ^ 96) t
   sign : HasSign false t
-  held : T (fits binary64 t)
 
 total-starts : Total 0 zero64
-total-starts = record { size = within-more (omega arith) zero-within; sign = zero-sign; held = ofBits-fits binary64 0 }
+total-starts = record { size = within-more (omega arith) zero-within; sign = zero-sign }
 
 -- a live branch adds its term
-total-grows : (n : ℕ) {t x : Float} → n < 512 → Total n t → Within (1000 * 2 ^ 96) x → NonNeg x → Total (suc n) (add binary64 t x) × T (le t (add binary64 t x))
+total-grows : (n : ℕ) {t x : Float} → n < 512 → Total n t → Within (1000 * 2 ^ 96) x → NonNeg x → Total (suc n) (add binary64 t x)
 total-grows n {t} {x} h k w g =
-    let s : Within (suc n * 1000 * 2 ^ 96) (add binary64 t x) = add-within binary64 (suc n * 1000) 96 (holds64 _ 96 (omega arith) (lit≤ tt)) (omega arith) (k .size) w in (
-      record { size = s; sign = add-sign binary64 (k .sign) g (within-finite s); held = add-fits binary64 t x },
-      le-add binary64 (k .sign) (k .held) g (within-finite s),
-    )
+    let s : Within (suc n * 1000 * 2 ^ 96) (add binary64 t x) = add-within binary64 (suc n * 1000) 96 (holds64 _ 96 (omega arith) (lit≤ tt)) (omega arith) (k .size) w in
+    record { size = s; sign = add-sign binary64 (k .sign) g (within-finite s) }
 
 -- a dead one adds nothing
-total-stays : (n : ℕ) {t : Float} → Total n t → Total (suc n) t × T (le t t)
-total-stays n k = (record { size = within-more (omega arith) (k .size); sign = k .sign; held = k .held }, le-self (k .sign))
+total-stays : (n : ℕ) {t : Float} → Total n t → Total (suc n) t
+total-stays n k = record { size = within-more (omega arith) (k .size); sign = k .sign }
 
 module _
     (E : ℕ → Bool) (r load : ℕ → Float) (base : Float) (n : ℕ) (few : n ≤ 512) (B : okBase base ≡ true)
     (R : (k : ℕ) → k < n → okR (r k) ≡ true) (L : (k : ℕ) → k < n → Within 256000000 (load k))
   where
-    one-branch : (k : ℕ) (t : Float) (b : Bool) → k < n → Total k t
-        → Total (suc k) (cond b (add binary64 t (termOf (r k) (load k) base)) t) × T (le t (cond b (add binary64 t (termOf (r k) (load k) base)) t))
+    one-branch : (k : ℕ) (t : Float) (b : Bool) → k < n → Total k t → Total (suc k) (cond b (add binary64 t (termOf (r k) (load k) base)) t)
     one-branch k t true l w =
         total-grows k (omega arith) w (term-within (r k) (load k) base (R k l) (L k l) B 1000 (lit≤ tt) (r-within (R k l))) (term-nonneg (r k) (load k) base (R k l) (L k l) B)
     one-branch k t false l w = total-stays k w
 
     total-holds : (m : ℕ) → m ≤ n → Total m (totalOf E r load base m)
     unfolding totalOf
-    total-holds m l = upTo-keeps Total _ zero64 m total-starts (λ k t h w. one-branch k t (E k) (omega arith) w .0)
-
-    -- a branch more never makes the total less
-    pub total-never-falls : (m : ℕ) → m < n → T (le (totalOf E r load base m) (totalOf E r load base (suc m)))
-    unfolding totalOf upTo
-    total-never-falls m l = one-branch m (totalOf E r load base m) (E m) l (total-holds m (omega arith)) .1
+    total-holds m l = upTo-keeps Total _ zero64 m total-starts (λ k t h w. one-branch k t (E k) (omega arith) w)
 
     total-within : Within (2 ^ 115) (totalOf E r load base n)
     total-within = within-more (omega arith) (total-holds n (omega arith) .size)

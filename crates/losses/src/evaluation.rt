@@ -1,4 +1,5 @@
 // Translated and changed from src/network/reconfiguration.rs of oxigrid. Copyright 2024-2026 COOLJAPAN OU (Team Kitasan), Apache License 2.0.
+// The loss of a state of a feeder: the call, its refusals, and the loads by bus position.
 ghost use mathlib.Core.Path.{_≡_};
 ghost use Rattle.states.specs.Live.{onState};
 ghost use Rattle.network.specs.Records.{recordsOf};

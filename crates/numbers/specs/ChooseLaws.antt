@@ -1,14 +1,17 @@
 -- Laws of choosing: what `those`, `firstOf` and `indexOf` find.
 use mathlib.Core.Path.{_≡_, refl, sym, ap, _∙_}
 use mathlib.Core.Logic.{_⊎_, inl, inr, _≢_}
-use mathlib.Core.Bool.{Bool, true, false, cond}
+use mathlib.Core.Bool.{Bool, true, false, cond, true≢false}
 use mathlib.Core.List.{List, [], _∷_, _++_, List·Memᴰ, List·Memᴰ·head, List·Memᴰ·tail, List·Memᴰ·not-nil, List·Memᴰ·cases-cons, List·Memᴰ·append-cases, List·Memᴰ·eq-of-singleton, Memᴰ·append-left, Memᴰ·append-right}
 use Prim.Native.Nat.{ℕ, zero, suc, _<_}
 use native.Mathlib.Decide.{ℕ-discrete}
 use native.Mathlib.Omega.{arith}
 use lib.Dec.{eqb}
-use lib.ListN.{length, getD}
+use lib.ListN.{length, getD, length-append, List·getD-append}
+use lib.Seq.{getD-at}
 use borrow.Author.Tests.{eq-eqb, ne-eqb}
+use Rattle.numbers.specs.Counts.{count}
+use Rattle.numbers.specs.CountLaws.{counted-before}
 use Rattle.numbers.specs.UpTo.{upTo}
 use Rattle.numbers.specs.Choose.{those, firstOf, indexOf}
 
@@ -17,6 +20,27 @@ module _ (p : ℕ → Bool) where
   pub those-more : (n : ℕ) → those p (suc n) ≡ cond (p n) (those p n ++ (n ∷ [])) (those p n)
   unfolding those upTo
   those-more n = refl
+
+  -- as many as are counted
+  those-long : (n : ℕ) → length (those p n) ≡ count p n
+  unfolding those upTo count
+  those-long zero = refl
+  those-long (suc n) = go (p n) (those-long n)
+    where
+      go : (b : Bool) → length (those p n) ≡ count p n → length (cond b (those p n ++ (n ∷ [])) (those p n)) ≡ cond b (suc (count p n)) (count p n)
+      go true e = simp (length-append, e) (omega arith)
+      go false e = e
+
+  -- each at the count of those before it
+  pub those-at : (n i : ℕ) → i < n → p i ≡ true → getD (those p n) (count p i) 0 ≡ i
+  those-at zero i l t = absurd (omega arith)
+  those-at (suc n) i l t = rw (those-more n) (go (ℕ-discrete i n) (p n) refl (λ k. those-at n i k t))
+    where
+      go : Dec (i ≡ n) → (b : Bool) → p n ≡ b → (i < n → getD (those p n) (count p i) 0 ≡ i) → getD (cond b (those p n ++ (n ∷ [])) (those p n)) (count p i) 0 ≡ i
+      go (yes e) true q ih = rw e (getD-at (those p n) n [] 0 (count p n) (those-long n))
+      go (yes e) false q ih = absurd (true≢false (sym t ∙ ap p e ∙ q))
+      go (no d) true q ih = List·getD-append (those p n) (n ∷ []) 0 (count p i) (rw (those-long n) (counted-before p n i (omega arith) t)) ∙ ih (omega arith)
+      go (no d) false q ih = ih (omega arith)
 
   pub in-those : (n i : ℕ) → i < n → p i ≡ true → List·Memᴰ i (those p n)
   in-those zero i l e = absurd (omega arith)

@@ -31,3 +31,13 @@ count-but p q (suc n) c h = go (ℕ-discrete n c) (p n) refl (q n) refl (count-b
     go (no z) true e false f ih = clash (h n (omega arith) z e) f
     go d false e true f ih = omega (arith, count-no p n e, count-yes q n f)
     go d false e false f ih = omega (arith, count-no p n e, count-no q n f)
+
+-- behind a number that passes one more is counted
+pub counted-before : (p : ℕ → Bool) (n i : ℕ) → i < n → p i ≡ true → count p i < count p n
+counted-before p zero i l t = absurd (omega arith)
+counted-before p (suc n) i l t = go (ℕ-discrete i n) (p n) refl (λ k. counted-before p n i k t)
+  where
+    go : Dec (i ≡ n) → (b : Bool) → p n ≡ b → (i < n → count p i < count p n) → count p i < count p (suc n)
+    go (yes e) b q ih = rw (← e, count-yes p i t) (omega arith)
+    go (no d) true q ih = omega (arith, count-yes p n q, ih (omega arith))
+    go (no d) false q ih = omega (arith, count-no p n q, ih (omega arith))

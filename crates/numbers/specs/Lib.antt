@@ -10,6 +10,8 @@ pub mod Tests
 pub mod Every
 pub mod CountLaws
 pub mod ChooseLaws
+pub mod IfSome
+pub mod FirstLaws
 pub mod Bounds
 pub mod Signs
 pub mod Sums

@@ -1,17 +1,28 @@
 -- A call that is lent a slice, case by case: refused by its tests, without room, or done. What the code writes stands as `written` here.
-use mathlib.Core.Path.{_≡_, refl}
+use mathlib.Core.Path.{_≡_, refl, sym, _∙_}
 use mathlib.Core.Bool.{Bool, true, false, cond}
-use mathlib.Core.List.{List, [], _∷_}
+use mathlib.Core.List.{List, [], _∷_, _++_}
 use Prim.Native.Nat.{ℕ, _≤_, _<_}
 use lib.Dec.{ltb}
-use lib.ListN.{length}
+use lib.ListN.{length, drop}
 use borrow.Author.Tests.{lt-ltb, le-ltb, ltb-false}
 use Rattle.network.specs.Answers.{accepted, refused, _andThen_, _if_, judge, Judgement}
 use Rattle.network.specs.AnswerLaws.{judge-iff, then-iff}
 use Rattle.slices.specs.Written.{written}
 use Rattle.slices.specs.WrittenLaws.{written-room}
-use Rattle.printing.specs.Calls.{checkRoom, answered, called}
+use Rattle.printing.specs.Calls.{checkRoom, Call, answered, called}
 
+-- ---- room in a lent slice
+module _ {needed lent : ℕ} where
+  pub no-room : lent < needed → refused 13 0 ≡ checkRoom needed lent
+  unfolding checkRoom judge
+  no-room h = rw (lt-ltb lent needed h)
+
+  pub room : needed ≤ lent → accepted tt ≡ checkRoom needed lent
+  unfolding checkRoom judge
+  room h = rw (le-ltb lent needed h)
+
+-- ---- the call
 module _ {A : Type 0} {tests : Judgement} (answer : A) (bytes out : List ℕ) where
   pub call-refused : {number place : ℕ} → tests ≡ refused number place
       → record { answer = refused number place; out = out } ≡ called tests answer bytes out
@@ -37,6 +48,13 @@ module _ {A : Type 0} {tests : Judgement} (answer : A) (bytes out : List ℕ) wh
           → answered (judge ((13 if short) ∷ []) 0) answer bytes out ≡ cond short (record { answer = refused 13 0; out = out }) (record { answer = accepted answer; out = written bytes out })
       go true q = unfold judge in refl
       go false q = unfold judge in rw (written-room bytes out (ltb-false (length out) (length bytes) q))
+
+  -- with room: the answer, and the bytes at the front of the slice, which keeps its tail
+  pub call-is : {c : Call A} → tests ≡ accepted tt → length bytes ≤ length out → c ≡ called tests answer bytes out → c ≡ record { answer = accepted answer; out = written bytes out }
+  call-is ok room e = e ∙ sym (call-done ok refl room refl)
+
+  pub in-full : tests ≡ accepted tt → length bytes ≤ length out → called tests answer bytes out ≡ record { answer = accepted answer; out = bytes ++ drop (length bytes) out }
+  in-full ok room = sym (call-done ok refl room (sym (written-room bytes out room)))
 
 -- its tests and the room together are passed
 pub call-accepted : {A : Type 0} (tests : Judgement) (answer : A) (bytes out : List ℕ) → (tests andThen checkRoom (length bytes) (length out)) ≡ accepted tt

@@ -18,7 +18,6 @@ use Rattle.states.specs.Switches.{State, branchOf, GoodState}
 use Rattle.slices.specs.Written.{written}
 use Rattle.printing.specs.CallLaws.{call-passed}
 use Rattle.radiality.specs.Feeder.{radialIn}
-use Rattle.losses.specs.Loss.{lossIn}
 use Rattle.changes.specs.Change.{checkPlan}
 use Rattle.plan.specs.Plan.{plan, planText, planned}
 use Rattle.plan.specs.Claim.{SwitchingPlan}
@@ -27,7 +26,7 @@ use Rattle.plan.specs.Accepted.{plan-accepted}
 use Rattle.plan.specs.Proof.{demand3}
 use Rattle.searches.specs.FromBase.{base-good}
 use Rattle.searches.specs.LiveBranches.{radial-part-same}
-use Rattle.searches.specs.SearchLaws.{SoundBest}
+use Rattle.searches.specs.Results.{SoundBest}
 use Rattle.exchange.specs.Exchange.{exchangeBest}
 use Rattle.exchange.specs.ExchangeLaws.{exchange-from-base, exchange-sound}
 use Rattle.tabu.specs.Tabu.{tabuBest}
@@ -37,9 +36,9 @@ use Rattle.exhaustive.specs.ExhaustiveLaws.{exhaustive-closes, exhaustive-sound
 use Rattle.reconfiguration.specs.Solve.{bestBy, best}
 
 -- ---- of the answer of any search, whichever the head asks for. For `exhaustive_solve` on a network with another method, N is that network with method 02
--- (`Exhaustive.asking`)
+-- (`Exhaustive.asExhaustive`)
 module _ (N : Network) where
-  -- it has one byte 00 or 01 for each switch and the loss of its state, and from a radial base it is radial
+  -- it has one byte 00 or 01 for each switch, and from a radial base it is radial
   pub search-sound : (a : ReconfigAlgorithm) → SoundBest N (bestBy a N)
   unfolding bestBy
   search-sound BranchExchange = exchange-sound N
@@ -86,10 +85,6 @@ module _ (N : Network) where
   -- it has one byte 00 or 01 for each switch
   pub best-good : GoodState N (best N .state)
   best-good = best-sound .good
-
-  -- its loss is that of its state
-  pub best-loss : best N .loss ≡ lossIn N (best N .state)
-  best-loss = best-sound .loses
 
   -- the three laws above, of it
   module _ (ok : checkRecords N ≡ accepted tt) (r : radialIn N (baseState N) ≡ true) where

@@ -1,4 +1,4 @@
--- No float is below itself: a loss that is not another never wins.
+-- No float is below itself: so a state with the best's own loss never wins.
 use mathlib.Core.Path.{_≡_, refl}
 use mathlib.Core.Bool.{true, false}
 use Prim.Native.Nat.{_*_}

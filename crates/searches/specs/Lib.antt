@@ -2,10 +2,9 @@ pub mod Results
 pub mod States
 pub mod SearchValues
 pub mod Given
-pub mod IfSome
-pub mod Lesser
 pub mod Rounds
-pub mod TableSets
+pub mod RoundLaws
+pub mod LesserLaws
 pub mod StateLaws
 pub mod SwitchReads
 pub mod StateRows

@@ -7,6 +7,7 @@ use native.Mathlib.Omega.{arith}
 use lib.Dec.{eqb}
 use lib.ListN.{length, set, List·getD-eq-default}
 use Rattle.numbers.specs.Tests.{clash, not-so}
+use Rattle.numbers.specs.TableLaws.{table-set}
 use Rattle.network.specs.Records.{Network, noSwitch}
 use Rattle.network.specs.Inside.{Inside}
 use Rattle.network.specs.Positions.{on-a-branch}
@@ -14,7 +15,6 @@ use Rattle.states.specs.Live.{live}
 use Rattle.radiality.specs.FeederRows.{liveFlags}
 use Rattle.states.specs.Switches.{State, byte, branchOf, size, toggled, inService}
 use Rattle.states.specs.LiveBytes.{On, live-so, moved-other, opened-dead, closed-live, one-switch}
-use Rattle.searches.specs.TableSets.{table-set}
 
 module _ (N : Network) (inside : Inside N) where
   -- also where no switch is listed

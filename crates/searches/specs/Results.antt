@@ -1,5 +1,6 @@
 -- What a search answers, given what it found.
-use mathlib.Core.Bool.{Bool, cond}
+use mathlib.Core.Path.{_≡_}
+use mathlib.Core.Bool.{Bool, true, cond}
 use mathlib.Core.List.{List}
 use Prim.Native.Nat.{ℕ}
 use lib.Ieee.{Float, binary64, sub, mul, div, lt}
@@ -8,7 +9,7 @@ use Rattle.network.specs.Records.{Network}
 use Rattle.network.specs.Answers.{Answer, accepted, refused}
 use Rattle.network.specs.Check.{checkRecords}
 use Rattle.states.specs.Live.{baseState}
-use Rattle.states.specs.Switches.{State}
+use Rattle.states.specs.Switches.{State, GoodState}
 use Rattle.printing.specs.Calls.{Call, called}
 use Rattle.radiality.specs.Feeder.{radialIn}
 use Rattle.losses.specs.Loss.{lossIn}
@@ -19,9 +20,13 @@ use Rattle.searches.specs.declared.answer.SolveAnswer.the-variants.{Solv
 -- what a search found
 pub record Best : Type 0 where
   pub state : State
-  pub loss : Float
   pub iterations : ℕ
   pub converged : Bool
+
+-- what holds of it, whichever the search: one byte 00 or 01 for each switch, and radial from a radial base
+pub record SoundBest (N : Network) (b : Best) : Type 0 where
+  pub good : GoodState N (b .state)
+  pub radial : radialIn N (baseState N) ≡ true → radialIn N (b .state) ≡ true
 
 -- "(base − best) ÷ base × 100 when base > 1e-12, else 0"
 unfoldable pub reduction : Float → Float → Float
@@ -43,8 +48,8 @@ resultBy search N =
     record {
       radial = radialIn N (b .state);
       base-loss = lossIn N (baseState N);
-      best-loss = b .loss;
-      reduction = reduction (lossIn N (baseState N)) (b .loss);
+      best-loss = lossIn N (b .state);
+      reduction = reduction (lossIn N (baseState N)) (lossIn N (b .state));
       iterations = b .iterations;
       converged = b .converged;
     }

@@ -1,61 +1,15 @@
--- The rounds of a search that may end before the last: what they keep, and where those that are left lead.
-use mathlib.Core.Path.{_≡_, refl, sym, ap, _∙_}
-use mathlib.Core.Bool.{Bool, true, false}
-use Prim.Native.Nat.{ℕ, zero, suc, _-_, _≤_, _<_}
-use native.Mathlib.Omega.{arith}
-use Rattle.numbers.specs.Tests.{clash}
+-- How the searches go on and how they choose: rounds that may end before the last, and the lesser of two losses.
+use mathlib.Core.Bool.{Bool, true, false, cond}
+use mathlib.Core.Option.{Option, none, some}
+use Prim.Native.Nat.{ℕ, zero, suc}
+use lib.Ieee.{Float, lt}
 
 -- "up to max_iterations rounds": n more, none after the end
 unfoldable pub untilEnded : {A : Type 0} → (A → Bool) → (A → A) → ℕ → A → A
 untilEnded ended next zero x = x
 untilEnded ended next (suc n) x = elim (ended x) [ true ↦ x | false ↦ untilEnded ended next n (next x) ]
 
-module _ {A : Type 0} (ended : A → Bool) (next : A → A) where
-  -- what holds of the start and is kept by each round holds at the end
-  pub until-keeps : (Q : A → Type 0) → ((x : A) → ended x ≡ false → Q x → Q (next x)) → (n : ℕ) (x : A) → Q x → Q (untilEnded ended next n x)
-  unfolding untilEnded
-  until-keeps Q step zero x h = h
-  until-keeps Q step (suc n) x h = go (ended x) refl (until-keeps Q step n (next x))
-    where
-      go : (b : Bool) → ended x ≡ b → (Q (next x) → Q (untilEnded ended next n (next x))) → Q (elim b [ true ↦ x | false ↦ untilEnded ended next n (next x) ])
-      go true e ih = h
-      go false e ih = ih (step x e h)
-
-  until-more : (n : ℕ) (x : A) → ended x ≡ false → untilEnded ended next (suc n) x ≡ untilEnded ended next n (next x)
-  unfolding untilEnded
-  until-more n x e = go (ended x) e
-    where
-      go : (b : Bool) → b ≡ false → elim b [ true ↦ x | false ↦ untilEnded ended next n (next x) ] ≡ untilEnded ended next n (next x)
-      go true e = clash {b = true} refl e
-      go false e = refl
-
-  until-ended : (n : ℕ) (x : A) → ended x ≡ true → untilEnded ended next n x ≡ x
-  unfolding untilEnded
-  until-ended zero x e = refl
-  until-ended (suc n) x e = go (ended x) e
-    where
-      go : (b : Bool) → b ≡ true → elim b [ true ↦ x | false ↦ untilEnded ended next n (next x) ] ≡ x
-      go true e = refl
-      go false e = clash {b = false} e refl
-
-  module _ (n : ℕ) (end : A) where
-    -- after k of n rounds those that are left lead to this end
-    pub record Left (k : ℕ) (at : A) : Type 0 where
-      pub within : k ≤ n
-      pub rest : untilEnded ended next (n - k) at ≡ end
-
-    pub left-all : (start : A) → untilEnded ended next n start ≡ end → Left 0 start
-    left-all start e = let z : n - 0 ≡ n = omega arith in record { within = omega arith; rest = ap (λ m. untilEnded ended next m start) z ∙ e }
-
-    module _ (k : ℕ) (at : A) (w : Left k at) where
-      pub left-ended : ended at ≡ true → at ≡ end
-      left-ended e = sym (until-ended (n - k) at e) ∙ w .rest
-
-      pub left-none : n ≤ k → at ≡ end
-      unfolding untilEnded
-      left-none h = let z : n - k ≡ 0 = omega arith in rw z at (w .rest)
-
-      pub left-less : k < n → ended at ≡ false → Left (suc k) (next at)
-      left-less h e =
-          let z : n - k ≡ suc (n - suc k) = omega arith in
-          record { within = omega arith; rest = sym (until-more (n - suc k) at e) ∙ ap (λ m. untilEnded ended next m at) (sym z) ∙ w .rest }
+-- of two things with losses the lesser, the earlier on a tie
+unfoldable pub lesserBy : {A : Type 0} → (A → Float) → Option A → A → Option A
+lesserBy loss none x = some x
+lesserBy loss (some b) x = cond (lt (loss x) (loss b)) (some x) (some b)

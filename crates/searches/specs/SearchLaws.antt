@@ -1,48 +1,34 @@
 -- What the code of a search holds is what the definition says, case by case: it is refused, or it answers with what was found.
 use mathlib.Core.Path.{_≡_, refl, sym, ap, _∙_}
-use mathlib.Core.Bool.{true}
 use mathlib.Core.List.{List}
-use Prim.Native.Nat.{ℕ, _≤_, _<_, min}
+use Prim.Native.Nat.{ℕ, _<_, min}
 use native.Mathlib.Decide.{decLt}
 use native.Mathlib.Omega.{arith}
 use lib.ListN.{length, take}
 use lib.Seq.{take-all}
-use borrow.Author.Tests.{lt-ltb, le-ltb}
 use Rattle.network.specs.declared.error.Verdict.{Verdict}
 use Rattle.network.specs.declared.error.Verdict.the-variants.{Accepted, Refused}
 use Rattle.network.specs.declared.topology.PowerNetwork.{PowerNetwork}
 use Rattle.network.specs.Records.{Network, recordsOf}
-use Rattle.network.specs.Answers.{Answer, accepted, refused, answerOf, _andThen_, judge}
+use Rattle.network.specs.Answers.{Answer, accepted, refused, answerOf, _andThen_}
 use Rattle.network.specs.AnswerLaws.{accepted-so, then-iff}
 use Rattle.network.specs.Check.{checkRecords}
-use Rattle.states.specs.Listed.{switches-listed, few-switches}
-use Rattle.states.specs.Live.{baseState}
-use Rattle.states.specs.Switches.{GoodState}
+use Rattle.states.specs.Listed.{state-accepted, switches-listed, few-switches}
 use Rattle.graph.specs.Rows.{rowRadial}
 use Rattle.printing.specs.Calls.{checkRoom, answered, called}
 use Rattle.printing.specs.CallLaws.{call-accepted}
 use Rattle.slices.specs.Written.{written}
 use Rattle.radiality.specs.Feeder.{radialIn}
 use Rattle.radiality.specs.FeederRows.{liveFlags}
-use Rattle.losses.specs.Loss.{lossIn}
+use Rattle.radiality.specs.FeederRowLaws.{state-flags}
 use Rattle.searches.specs.declared.answer.Found.{Found}
 use Rattle.searches.specs.declared.start.Start.{Start}
-use Rattle.searches.specs.Results.{Best, resultBy, solvedBy}
+use Rattle.searches.specs.Results.{Best, SoundBest, resultBy, solvedBy}
 use Rattle.searches.specs.SearchValues.{startOf, foundOf, answerWith}
 use Rattle.searches.specs.StartLaws.{start-base}
-use Rattle.searches.specs.StateLaws.{state-held, flags-held}
+use Rattle.searches.specs.StateLaws.{state-held}
 use Rattle.searches.specs.StateRows.{flags-radial}
 use Rattle.searches.specs.States.{stateOf}
-
--- ---- room in a lent slice
-module _ {needed lent : ℕ} where
-  pub no-room : lent < needed → refused 13 0 ≡ checkRoom needed lent
-  unfolding checkRoom judge
-  no-room h = rw (lt-ltb lent needed h)
-
-  pub room : needed ≤ lent → accepted tt ≡ checkRoom needed lent
-  unfolding checkRoom judge
-  room h = rw (le-ltb lent needed h)
 
 -- a call that is accepted has a checked network
 pub search-checked : {v : Verdict} (N : Network) (room : Answer (Unit {0})) → v ≡ Accepted → answerOf v ≡ (checkRecords N andThen room) → checkRecords N ≡ accepted tt
@@ -59,12 +45,6 @@ front bytes long count = go (decLt count 512)
 pub front-written : (bytes out : List ℕ) → length bytes ≡ 512 → {m n count : ℕ} → m ≡ min n 512 → n ≡ count
     → {after : List ℕ} → after ≡ written (take m bytes) out → after ≡ written (take count bytes) out
 front-written bytes out long {count = count} e f w = rw (w, e, f, front bytes long count)
-
--- what holds of every search's best: one byte 00 or 01 for each switch, the loss of its state, and radial from a radial base
-pub record SoundBest (N : Network) (b : Best) : Type 0 where
-  pub good : GoodState N (b .state)
-  pub loses : b .loss ≡ lossIn N (b .state)
-  pub radial : radialIn N (baseState N) ≡ true → radialIn N (b .state) ≡ true
 
 module _ (n : PowerNetwork) (search : Network → Best) (sound : (N : Network) → SoundBest N (search N)) (out : List ℕ) where
   abbrev N : Network
@@ -85,7 +65,7 @@ module _ (n : PowerNetwork) (search : Network → Best) (sound : (N : Network) �
     pub search-refused : {number place : ℕ} → v ≡ Refused number place → record { answer = refused number place; out = out } ≡ solvedBy search N out
     search-refused r = ap (λ w. answered (answerOf w) (resultBy search N) (search N .state) out) (sym r) ∙ as-tested
 
-    module _ (r : v ≡ Accepted) (sized : length (n .buses) ≡ 256) {start : Start} (s : start ≡ startOf n) {found : Found} (f : found ≡ foundOf (search N)) where
+    module _ (r : v ≡ Accepted) (sized : length (n .buses) ≡ 256) {start : Start} (s : start ≡ startOf n) {found : Found} (f : found ≡ foundOf N (search N)) where
       ok : checkRecords N ≡ accepted tt
       ok = search-checked N _ r tested
 
@@ -97,7 +77,7 @@ module _ (n : PowerNetwork) (search : Network → Best) (sound : (N : Network) �
       unfolding startOf foundOf
       judged =
           flags-radial n sized ok (search N .state) _ _ (ap (λ x. x .graph) s)
-          (flags-held n (search N .state) long (few-switches n ok) _ (ap (λ x. x .configuration) f) _ refl) _ refl
+          (state-flags N (search N .state) 0 ok (state-accepted N (search N .state) 0 .1 (sound N .good)) _ _ (ap (λ x. x .configuration) f) refl) _ refl
 
       pub search-answered : answerWith n start found out ≡ solvedBy search N out
       unfolding answerWith solvedBy

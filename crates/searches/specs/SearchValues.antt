@@ -5,17 +5,19 @@ use Rattle.network.specs.declared.topology.PowerNetwork.{PowerNetwork}
 use Rattle.network.specs.Answers.{accepted}
 use Rattle.states.specs.Configuration.{configurationOf}
 use Rattle.states.specs.Live.{baseState}
-use Rattle.network.specs.Records.{recordsOf}
+use Rattle.network.specs.Records.{Network, recordsOf}
 use Rattle.graph.specs.Rows.{rowRadial}
 use Rattle.printing.specs.Calls.{Call}
 use Rattle.slices.specs.Written.{written}
 use Rattle.radiality.specs.FeederRows.{feederGraph, liveFlags}
+use Rattle.losses.specs.Loss.{lossIn}
 use Rattle.losses.specs.ListLoss.{listLoss, loadsOf}
 use Rattle.searches.specs.declared.answer.Found.{Found}
 use Rattle.searches.specs.declared.start.Start.{Start}
 use Rattle.searches.specs.Results.{Best, Result, reduction}
 use Rattle.searches.specs.States.{stateOf}
 
+-- where every search starts, by the feeder's rows: of a checked network it is the base with its live branches, its radiality and its loss (StartLaws)
 unfoldable pub startOf : PowerNetwork → Start
 startOf n =
     let base = configurationOf (baseState (recordsOf n)) in
@@ -29,10 +31,12 @@ startOf n =
       loss = listLoss (feederGraph n) (loadsOf n) (n .branches) (n .«base_mva») flags;
     }
 
-unfoldable pub foundOf : Best → Found
-foundOf b = record { configuration = configurationOf (b .state); loss = b .loss; iterations = b .iterations; converged = b .converged }
+-- what a search found, with its loss
+unfoldable pub foundOf : Network → Best → Found
+foundOf N b = record { configuration = configurationOf (b .state); loss = lossIn N (b .state); iterations = b .iterations; converged = b .converged }
 
--- "radial byte of the best state": as the start's rows say of the state that was found
+-- "radial byte of the best state": as the start's rows say of the state that was found. With a checked network's start and what a search found it is that search's call
+-- (SearchLaws.search-answered)
 unfoldable pub answerWith : PowerNetwork → Start → Found → List ℕ → Call Result
 answerWith n start found out =
     record {

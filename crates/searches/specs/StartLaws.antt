@@ -1,19 +1,19 @@
 -- Of a checked network, where a search starts is document 01's base with its live branches, its radiality and its loss.
-use mathlib.Core.Path.{_≡_, refl, ap, _∙_}
+use mathlib.Core.Path.{_≡_, refl, ap}
 use lib.ListN.{length}
 use Rattle.network.specs.declared.topology.PowerNetwork.{PowerNetwork}
 use Rattle.network.specs.Records.{Network, recordsOf}
 use Rattle.network.specs.Answers.{accepted}
 use Rattle.network.specs.Check.{checkRecords}
-use Rattle.states.specs.Listed.{switches-listed, few-switches}
+use Rattle.states.specs.Listed.{state-accepted}
 use Rattle.states.specs.Live.{baseState}
 use Rattle.radiality.specs.Feeder.{radialIn}
 use Rattle.radiality.specs.FeederRows.{liveFlags}
+use Rattle.radiality.specs.FeederRowLaws.{state-flags}
 use Rattle.searches.specs.declared.start.Start.{Start}
 use Rattle.searches.specs.FromBase.{base-good}
 use Rattle.searches.specs.Given.{Given, Base}
 use Rattle.searches.specs.SearchValues.{startOf}
-use Rattle.searches.specs.StateLaws.{flags-held}
 use Rattle.searches.specs.StateRows.{flags-radial, flags-loss}
 
 module _ (n : PowerNetwork) (sized : length (n .buses) ≡ 256) (ok : checkRecords (recordsOf n) ≡ accepted tt) {start : Start} (e : start ≡ startOf n) where
@@ -26,7 +26,7 @@ module _ (n : PowerNetwork) (sized : length (n .buses) ≡ 256) (ok : checkRecor
 
   pub start-live : start .live ≡ liveFlags N (baseState N)
   unfolding startOf
-  start-live = flags-held n (baseState N) (base-good N .long ∙ switches-listed n) (few-switches n ok) _ refl _ (ap (λ s. s .live) e)
+  start-live = state-flags N (baseState N) 0 ok (state-accepted N (baseState N) 0 .1 (base-good N)) _ _ refl (ap (λ s. s .live) e)
 
   pub start-radial : start .radial ≡ radialIn N (baseState N)
   unfolding startOf

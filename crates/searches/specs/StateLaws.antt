@@ -1,44 +1,31 @@
 -- Configurations and the states that they hold: the bytes behind the listed switches do not matter, and a moved byte is a moved byte of the state.
 use mathlib.Core.Path.{_≡_, refl, sym, ap, _∙_}
-use mathlib.Core.Logic.{inl}
-use mathlib.Core.Bool.{Bool, cond, not, _&&_}
+use mathlib.Core.Bool.{cond}
 use mathlib.Core.List.{List}
 use Prim.Native.Nat.{ℕ, _≤_, _<_}
 use native.Mathlib.Omega.{arith}
 use lib.Dec.{eqb}
-use lib.ListN.{length, getD, take, set, length-take}
-use lib.Seq.{take-all, take-set-lt, getD-take, getD-set-same, getD-set-other}
+use lib.ListN.{length, getD, set, length-take}
+use lib.Seq.{take-set-lt, getD-take, getD-set-same, getD-set-other}
 use Rattle.numbers.specs.UpTo.{table}
-use Rattle.numbers.specs.TableLaws.{length-table, as-table, take-table, table-cong}
+use Rattle.numbers.specs.TableLaws.{length-table, as-table, take-table, table-cong, table-set}
 use Rattle.states.specs.declared.configuration.NetworkConfiguration.{NetworkConfiguration}
 use Rattle.network.specs.declared.topology.PowerNetwork.{PowerNetwork}
-use Rattle.network.specs.Records.{noBranch, recordsOf}
+use Rattle.network.specs.Records.{recordsOf}
 use Rattle.states.specs.Configuration.{configurationOf}
-use Rattle.states.specs.Live.{openOn, live}
-use Rattle.states.specs.LiveLaws.{open-take}
+use Rattle.states.specs.Live.{live}
+use Rattle.states.specs.LiveLaws.{live-configuration}
 use Rattle.radiality.specs.FeederRows.{liveFlags}
 use Rattle.states.specs.Switches.{byte, swapped, toggled}
 use Rattle.states.specs.Listed.{switches-listed}
 use Rattle.searches.specs.States.{stateOf}
 use Rattle.searches.specs.Given.{Held}
-use Rattle.searches.specs.TableSets.{table-set}
 
 module _ (n : PowerNetwork) where
   module _ (c : NetworkConfiguration) where
     pub byte-at : (i : ℕ) → i < n .«switch_count» → byte (stateOf n c) i ≡ getD (c .switches) i 0
     unfolding stateOf
     byte-at i h = getD-take (n .«switch_count») (c .switches) i 0 h
-
-    live-listed : (k : ℕ) → live (recordsOf n) (c .switches) k ≡ live (recordsOf n) (stateOf n c) k
-    unfolding live stateOf
-    live-listed k =
-        ap (λ b. getD (recordsOf n .branches) k noBranch .status && not b)
-        (sym (open-take (n .«switch_count») (recordsOf n .switches) (c .switches) k (inl (omega (arith, switches-listed n))))
-        ∙ ap (λ ws. openOn ws (take (n .«switch_count») (c .switches)) k) (take-all (n .«switch_count») (recordsOf n .switches) (omega (arith, switches-listed n))))
-
-    -- what `live_branches` answers are the flags of the state
-    pub flags-listed : table (live (recordsOf n) (c .switches)) 512 ≡ liveFlags (recordsOf n) (stateOf n c)
-    flags-listed = table-cong _ _ 512 (λ k h. live-listed k)
 
     pub held-bytes : Held n c → length (c .switches) ≡ 512
     held-bytes h = ap (λ d. length (d .switches)) h ∙ length-table _ 512
@@ -49,6 +36,13 @@ module _ (n : PowerNetwork) where
         let long = held-bytes h in
         simp length-take (omega arith)
 
+    -- what `live_branches` answers are the flags of the state
+    pub flags-listed : Held n c → n .«switch_count» ≤ 512 → table (live (recordsOf n) (c .switches)) 512 ≡ liveFlags (recordsOf n) (stateOf n c)
+    flags-listed h l =
+        let long = held-long h l in
+        ap (λ d. table (live (recordsOf n) (d .switches)) 512) h
+        ∙ table-cong _ _ 512 (λ k m. live-configuration (recordsOf n) (stateOf n c) k (long ∙ sym (switches-listed n)) (omega arith))
+
   -- a configuration holds its state
   pub state-held : (s : List ℕ) → length s ≡ n .«switch_count» → n .«switch_count» ≤ 512 → stateOf n (configurationOf s) ≡ s
   unfolding stateOf
@@ -56,11 +50,6 @@ module _ (n : PowerNetwork) where
 
   pub held : (s : List ℕ) → length s ≡ n .«switch_count» → n .«switch_count» ≤ 512 → Held n (configurationOf s)
   held s e l = ap configurationOf (sym (state-held s e l))
-
-  -- and its live branches are those of the state
-  pub flags-held : (s : List ℕ) → length s ≡ n .«switch_count» → n .«switch_count» ≤ 512 → (c : NetworkConfiguration) → c ≡ configurationOf s → (flags : List Bool)
-      → flags ≡ table (live (recordsOf n) (c .switches)) 512 → flags ≡ liveFlags (recordsOf n) s
-  flags-held s e l c h flags q = q ∙ flags-listed c ∙ ap (liveFlags (recordsOf n)) (ap (stateOf n) h ∙ state-held s e l)
 
 -- one byte moved
 set-held : (s : List ℕ) (i b : ℕ) → i < length s → length s ≤ 512 → set (configurationOf s .switches) i b ≡ configurationOf (set s i b) .switches

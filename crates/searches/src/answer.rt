@@ -1,4 +1,5 @@
 // Translated and changed from src/network/reconfiguration.rs of oxigrid. Copyright 2024-2026 COOLJAPAN OU (Team Kitasan), Apache License 2.0.
+// What a search tests first, and how it answers what it found.
 ghost use mathlib.Core.Path.{_≡_};
 ghost use lib.ListN.{take};
 ghost use Rattle.network.specs.Answers.{answerOf, _andThen_};
@@ -79,7 +80,8 @@ fn write_state(best: NetworkConfiguration, switch_count: u16, out: &mut [u8])
     write_bytes(out, &state[0..count]);
 }
 
-// What was found is answered: its state, a byte for each switch at the front of the slice, and the result beside it.
+// What was found is answered: its state, a byte for each switch at the front of the slice, and the result beside it. After `check_search`, with the start of the same
+// network, that is the search's call (specs/SearchLaws, search-answered).
 pub fn answer_with(network: PowerNetwork, start: Start, found: Found, out: &mut [u8]) -> SolveAnswer
     ensures { λ r. ⌜ record { answer = solveAnswerOf r; out = now (out .exit) } ≡ answerWith network start found (now (out .entry)) ⌝ }
 {

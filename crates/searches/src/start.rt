@@ -1,4 +1,5 @@
 // Translated and changed from src/network/reconfiguration.rs of oxigrid. Copyright 2024-2026 COOLJAPAN OU (Team Kitasan), Apache License 2.0.
+// Where every search starts.
 ghost use mathlib.Core.Path.{_≡_};
 ghost use Rattle.searches.specs.SearchValues.{startOf};
 use bfs::radial::is_radial;
@@ -22,7 +23,7 @@ pub struct Start {
     pub loss: f64,
 }
 
-// Where every search of this network starts; made once a call.
+// Where every search of this network starts; made once a call. Of a checked network that is document 01's base with its live branches, radiality and loss (specs/StartLaws).
 pub fn start_of(network: PowerNetwork) -> Start
     ensures { λ r. ⌜ r ≡ startOf network ⌝ }
 {

@@ -19,6 +19,7 @@ use Rattle.network.specs.declared.topology.PowerNetwork.{PowerNetwork}
 use Rattle.network.specs.Records.{Network, noBranch, noSwitch, listed, recordsOf}
 use Rattle.states.specs.Live.{stateByte, openOn, live, baseState}
 use Rattle.states.specs.Configuration.{configurationOf}
+use Rattle.states.specs.Switches.{byte, isTie}
 
 -- ---- one switch more
 open-more : (ws : List Switch) (bs : List ℕ) (w : Switch) (b k : ℕ) → length ws ≡ length bs
@@ -99,10 +100,14 @@ pub live-configuration : (N : Network) (s : List ℕ) (k : ℕ) → length s ≡
 live-configuration N s k e h = rw (array-padded 512 0 s h) (live-padded N 512 s k e)
 
 -- ---- the base
+pub base-byte : (N : Network) (i : ℕ) → byte (baseState N) i ≡ stateByte (isTie N i)
+unfolding baseState
+base-byte N i = List·getD-map (λ w. stateByte (w .«normally_open»)) (N .switches) i noSwitch
+
 pub base-at : (n : PowerNetwork) (i : ℕ) → i < n .«switch_count» → getD (baseState (recordsOf n)) i 0 ≡ stateByte (getD (n .switches) i noSwitch .«normally_open»)
-unfolding baseState recordsOf
+unfolding recordsOf
 base-at n i h =
-    List·getD-map (λ w. stateByte (w .«normally_open»)) (table (λ j. getD (n .switches) j noSwitch) (n .«switch_count»)) i noSwitch
+    base-byte (recordsOf n) i
     ∙ ap (λ w. stateByte (w .«normally_open»)) (getD-table (λ j. getD (n .switches) j noSwitch) (n .«switch_count») i noSwitch h)
 
 pub base-beyond : (n : PowerNetwork) (i : ℕ) → n .«switch_count» ≤ i → getD (baseState (recordsOf n)) i 0 ≡ 0

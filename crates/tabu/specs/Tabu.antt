@@ -12,9 +12,8 @@ use Rattle.states.specs.Live.{baseState}
 use Rattle.states.specs.Switches.{State, operable, size, switch, toggled}
 use Rattle.radiality.specs.Feeder.{radialIn}
 use Rattle.losses.specs.Loss.{lossIn}
-use Rattle.searches.specs.Lesser.{lesserBy}
 use Rattle.searches.specs.Results.{Best}
-use Rattle.searches.specs.Rounds.{untilEnded}
+use Rattle.searches.specs.Rounds.{untilEnded, lesserBy}
 
 -- a move that can be made: the state after it, its loss, and the id of the switch that it moves
 pub record Move : Type 0 where
@@ -85,4 +84,4 @@ tabu N = untilEnded (λ x. x .ended) (next N) (N .iterations) (tabuStart N)
 unfoldable pub tabuBest : Network → Best
 tabuBest N =
     let x = tabu N in
-    record { state = x .best; loss = x .best-loss; iterations = N .iterations; converged = true }
+    record { state = x .best; iterations = N .iterations; converged = true }

@@ -13,11 +13,11 @@ use Rattle.states.specs.Switches.{State, operable, size, toggled}
 use Rattle.radiality.specs.Feeder.{radialIn}
 use Rattle.losses.specs.Loss.{lossIn}
 use Rattle.tabu.specs.Tabu.{Move, Tabu, moveOf, allowed, bestMove, afterMove, next, tabuStart, tabu, tabuBest}
-use Rattle.searches.specs.IfSome.{IfSome, cond-holds}
+use Rattle.numbers.specs.IfSome.{IfSome, cond-holds}
 use Rattle.searches.specs.FromBase.{FromBase, from-base, toggled-from-base}
-use Rattle.searches.specs.Lesser.{lesser-holds}
-use Rattle.searches.specs.Rounds.{until-keeps}
-use Rattle.searches.specs.SearchLaws.{SoundBest}
+use Rattle.searches.specs.LesserLaws.{lesser-holds}
+use Rattle.searches.specs.RoundLaws.{until-keeps}
+use Rattle.searches.specs.Results.{SoundBest}
 
 -- t is s with one operable switch moved, and it is radial
 pub record Toggle (N : Network) (s t : State) : Type 0 where
@@ -69,7 +69,8 @@ module _ (N : Network) where
     tabu-keeps : P (baseState N) → P (tabu N .best)
     tabu-keeps h = rounds-keep Both (λ x e h. both-kept x h (bestMove N x) (bestMove-moves x)) (h, h) .1
 
-  tabu-loss : tabu N .best-loss ≡ lossIn N (tabu N .best)
+  -- the best loss is that of the best state
+  pub tabu-loss : tabu N .best-loss ≡ lossIn N (tabu N .best)
   unfolding afterMove
   tabu-loss = rounds-keep (λ x. x .best-loss ≡ lossIn N (x .best)) (λ x e h. one x h (bestMove N x) (bestMove-moves x)) refl
     where
@@ -89,6 +90,5 @@ module _ (N : Network) where
   unfolding tabuBest
   tabu-sound = record {
     good = tabu-from-base .good;
-    loses = tabu-loss;
     radial = tabu-keeps (λ s. radialIn N s ≡ true) (λ s t h w. w .radial);
   }

@@ -52,7 +52,7 @@ module _ (t : TabuList) (h : HeldList t) where
   unfolding tabuListOf
   ids-long = ap (λ u. length (u .ids)) (h .0) ∙ length-table _ 7
 
-  pub ids-counted : length (idsOf t) ≡ t .count
+  ids-counted : length (idsOf t) ≡ t .count
   unfolding idsOf
   ids-counted = length-take (t .count) (t .ids) ∙ omega (arith, ids-long, h .1)
 

@@ -29,12 +29,13 @@ use Rattle.states.specs.Switches.{State, branchOf, operable, size, switch, togg
 use Rattle.tabu.specs.declared.tabu.Candidate.{Candidate}
 use Rattle.tabu.specs.declared.tabu.TabuSearch.{TabuSearch}
 use Rattle.searches.specs.States.{stateOf}
+use Rattle.searches.specs.Given.{Held}
 use Rattle.states.specs.Listed.{switches-listed, few-switches}
 use Rattle.searches.specs.StateLaws.{byte-at, flags-listed, state-held, held, toggled-held}
 use Rattle.searches.specs.SwitchReads.{SwitchAt, own-switch, own-status}
 use Rattle.searches.specs.LiveBranches.{same-radial, same-loss}
 use Rattle.searches.specs.LiveFlags.{flags-toggled}
-use Rattle.searches.specs.Lesser.{lesserBy}
+use Rattle.searches.specs.Rounds.{lesserBy}
 use Rattle.tabu.specs.Toggles.{toggled-unserved, toggled-radial}
 use Rattle.tabu.specs.Tabu.{Move, Tabu, moveOf, allowed, lesser, seeing}
 use Rattle.tabu.specs.TabuValues.{tabuListOf, idsOf, HeldList, candidateOf, toggledIn, tabuOf, Stands}
@@ -115,8 +116,11 @@ module _ (n : PowerNetwork) (y : TabuSearch) (x : Tabu) (w : Stands n y x) where
     state-is : stateOf n (y .configuration) ≡ x .state
     state-is = rw configuration-is (state-held n (x .state) long few)
 
+    configuration-held : Held n (y .configuration)
+    configuration-held = rw configuration-is (held n (x .state) long few)
+
     toggled-is : toggledIn (y .configuration) i ≡ configurationOf t
-    toggled-is = toggled-held n (y .configuration) i (at .below) (rw configuration-is (held n (x .state) long few)) few ∙ ap (λ s. configurationOf (toggled s i)) state-is
+    toggled-is = toggled-held n (y .configuration) i (at .below) configuration-held few ∙ ap (λ s. configurationOf (toggled s i)) state-is
 
     own : switch N i ≡ sw
     own = own-switch n ok i sw served at
@@ -138,27 +142,27 @@ module _ (n : PowerNetwork) (y : TabuSearch) (x : Tabu) (w : Stands n y x) where
           let locked : operable N i ≡ false = ap (λ v. v .«can_operate») own ∙ f in
           rw locked q
 
-      pub see-loops : radialIn N t ≡ false → Best best
+      pub see-not-radial : radialIn N t ≡ false → Best best
       unfolding allowed
-      see-loops f = rw (f, and-false) q
+      see-not-radial f = rw (f, and-false) q
 
       -- from a radial state
-      pub see-unmoved : y .radial ≡ true → (sw .«can_operate» && not served) ≡ false → Best best
-      see-unmoved r f = go (sw .«can_operate») refl f
+      pub see-not-unserved : y .radial ≡ true → (sw .«can_operate» && not served) ≡ false → Best best
+      see-not-unserved r f = go (sw .«can_operate») refl f
         where
           kept : served ≡ true → Best best
-          kept e = see-loops (toggled-radial N inside (x .state) (w .from-base .good) i listed-switch (sym radial-is ∙ r) ∙ ap not (status-is ∙ e))
+          kept e = see-not-radial (toggled-radial N inside (x .state) (w .from-base .good) i listed-switch (sym radial-is ∙ r) ∙ ap not (status-is ∙ e))
 
           go : (can : Bool) → sw .«can_operate» ≡ can → (can && not served) ≡ false → Best best
           go true o f = kept (not-false served f)
           go false o f = see-locked o
 
       -- from another
-      pub see-unconnected : y .radial ≡ false → (sw .«can_operate» && served) ≡ false → Best best
-      see-unconnected r f = go (sw .«can_operate») refl f
+      pub see-not-served : y .radial ≡ false → (sw .«can_operate» && served) ≡ false → Best best
+      see-not-served r f = go (sw .«can_operate») refl f
         where
           go : (can : Bool) → sw .«can_operate» ≡ can → (can && served) ≡ false → Best best
-          go true o f = see-loops (sym (same-radial N (x .state) t (unserved f)) ∙ sym radial-is ∙ r)
+          go true o f = see-not-radial (sym (same-radial N (x .state) t (unserved f)) ∙ sym radial-is ∙ r)
           go false o f = see-locked o
 
       -- ---- the toggle is a candidate
@@ -178,20 +182,20 @@ module _ (n : PowerNetwork) (y : TabuSearch) (x : Tabu) (w : Stands n y x) where
             rw (can, v, ← barred-ids, ← best-is) (h (y .configuration) b (moveOf N x i) q held)
 
         -- from a radial state, on an out-of-service branch
-        pub see-kept : y .radial ≡ true → (sw .«can_operate» && not served) ≡ true → After (y .loss) → Best r
+        pub see-unserved : y .radial ≡ true → (sw .«can_operate» && not served) ≡ true → After (y .loss) → Best r
         unfolding tabuOf
-        see-kept v f =
+        see-unserved v f =
             let p = both (sw .«can_operate») (not served) f in
             let same = unserved (not-true served (p .1)) in
             see-move (p .0) (y .loss) (sym (same-radial N (x .state) t same) ∙ sym radial-is ∙ v) (ap (λ z. z .loss) (w .held-by) ∙ same-loss N (x .state) t same)
 
         -- from another, where it is radial
-        pub see-walked : (sw .«can_operate» && served) ≡ true → radialIn N t ≡ true → (loss : Float) → loss ≡ lossIn N t → After loss → Best r
-        see-walked f v loss d = see-move (both (sw .«can_operate») served f .0) loss v d
+        pub see-served : (sw .«can_operate» && served) ≡ true → radialIn N t ≡ true → (loss : Float) → loss ≡ lossIn N t → After loss → Best r
+        see-served f v loss d = see-move (both (sw .«can_operate») served f .0) loss v d
 
-    -- the live branches after the toggle of a connected switch
+    -- the live branches after the toggle of a switch on a branch in service
     pub toggled-flags : (sw .«can_operate» && served) ≡ true → (flags : List Bool) → flags ≡ table (live N (y .configuration .switches)) 512 → (on : ℕ) → on ≡ sw .«branch_idx»
         → set flags on (eqb (getD (y .configuration .switches) i 0) 1) ≡ liveFlags N t
     toggled-flags f flags e on p =
-        rw (e, flags-listed n (y .configuration), ← byte-at n (y .configuration) i (at .below), state-is, p, ← own)
+        rw (e, flags-listed n (y .configuration) configuration-held few, ← byte-at n (y .configuration) i (at .below), state-is, p, ← own)
         (flags-toggled N inside (x .state) (w .from-base .good .long) i listed-switch (status-is ∙ both (sw .«can_operate») served f .1))

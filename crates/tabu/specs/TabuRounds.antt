@@ -1,5 +1,5 @@
 -- The rounds of the tabu search: where the code stands, the rounds that are left lead to the definition's answer.
-use mathlib.Core.Path.{_≡_, refl, sym, ap, _∙_}
+use mathlib.Core.Path.{_≡_, refl, ap, _∙_}
 use mathlib.Core.Bool.{Bool, true, false, cond}
 use mathlib.Core.List.{List, [], _∷_, _++_}
 use mathlib.Core.Option.{Option, none, some}
@@ -21,8 +21,8 @@ use Rattle.tabu.specs.declared.tabu.Candidate.{Candidate}
 use Rattle.tabu.specs.declared.tabu.TabuSearch.{TabuSearch}
 use Rattle.searches.specs.Given.{Base}
 use Rattle.searches.specs.FromBase.{FromBase, from-base, toggled-from-base}
-use Rattle.searches.specs.IfSome.{IfSome}
-use Rattle.searches.specs.Rounds.{Left, left-all, left-ended, left-none, left-less}
+use Rattle.numbers.specs.IfSome.{IfSome}
+use Rattle.searches.specs.RoundLaws.{Left, left-all, held-ended, held-none, held-less}
 use Rattle.tabu.specs.Tabu.{Move, Tabu, bestMove, lastSeven, afterMove, next, tabuStart, tabu}
 use Rattle.tabu.specs.TabuLaws.{MoveFrom, bestMove-moves}
 use Rattle.tabu.specs.TabuValues.{tabuListOf, idsOf, candidateOf, tabuOf, Stands}
@@ -93,6 +93,10 @@ pub base-held : (n : PowerNetwork) (c : NetworkConfiguration) (radial : Bool) (l
 unfolding tabuOf
 base-held n c radial loss list b r l = rw (r, l, b .0, b .1)
 
+ended-held : (N : Network) (x : Tabu) → tabuOf N x .ended ≡ x .ended
+unfolding tabuOf
+ended-held N x = refl
+
 -- ---- after k rounds the code's y is where the search stands, and those that are left lead to the definition's answer
 pub record Standing (n : PowerNetwork) (k : ℕ) (y : TabuSearch) : Type 0 where
   pub at : Tabu
@@ -110,18 +114,11 @@ module _ (n : PowerNetwork) (y : TabuSearch) where
       }
 
   module _ (k : ℕ) (w : Standing n k y) where
-    at-end : w .at ≡ tabu (recordsOf n) → y ≡ tabuOf (recordsOf n) (tabu (recordsOf n))
-    at-end e = w .stands .held-by ∙ ap (tabuOf (recordsOf n)) e
-
-    same-end : w .at .ended ≡ y .ended
-    unfolding tabuOf
-    same-end = sym (ap (λ z. z .ended) (w .stands .held-by))
-
     pub standing-ended : y .ended ≡ true → y ≡ tabuOf (recordsOf n) (tabu (recordsOf n))
-    standing-ended e = at-end (left-ended _ _ _ _ k (w .at) (w .left) (same-end ∙ e))
+    standing-ended e = held-ended _ _ _ _ k (w .at) (w .left) (tabuOf (recordsOf n)) (λ z. z .ended) (ended-held (recordsOf n)) y (w .stands .held-by) e
 
     pub standing-done : (k < n .«max_iterations» → ⊥) → y ≡ tabuOf (recordsOf n) (tabu (recordsOf n))
-    standing-done d = at-end (left-none _ _ _ _ k (w .at) (w .left) (omega arith))
+    standing-done d = held-none _ _ _ _ k (w .at) (w .left) (tabuOf (recordsOf n)) (λ z. z .ended) (ended-held (recordsOf n)) y (w .stands .held-by) (omega arith)
 
     pub standing-next : k < n .«max_iterations» → y .ended ≡ false → (step : Candidate) → ((x : Tabu) → Stands n y x → step ≡ candidateOf (y .configuration) (bestMove (recordsOf n) x)) → (r : TabuSearch)
         → ((N : Network) (x : Tabu) (found : Option Move) → y ≡ tabuOf N x → IfSome (MoveFrom N (x .state)) found → step ≡ candidateOf (y .configuration) found → r ≡ tabuOf N (afterMove x found))
@@ -133,5 +130,5 @@ module _ (n : PowerNetwork) (y : TabuSearch) where
         record {
           at = next N x;
           stands = record { held-by = h N x (bestMove N x) (w .stands .held-by) (bestMove-moves N x) (s x (w .stands)); from-base = kept .0; short = kept .1 };
-          left = rw (add-one k) (left-less _ _ _ _ k x (w .left) more (same-end ∙ e));
+          left = rw (add-one k) (held-less _ _ _ _ k x (w .left) (tabuOf N) (λ z. z .ended) (ended-held N) y (w .stands .held-by) more e);
         }

@@ -1,11 +1,10 @@
--- The tabu search's answer is fixed after its first round: from then on the state is radial, a move leaves its live branches and so its loss, and that is not below
--- the best ever. From a radial base it is fixed from the start: the base.
+-- From a radial base the tabu search answers the base: a move leaves the live branches and so the loss, and that is not below the best ever. A fact for the reader: no proof uses
+-- it.
 use mathlib.Core.Path.{_≡_, refl, sym, ap, _∙_}
 use mathlib.Core.Logic.{_⊎_, inl, inr}
 use mathlib.Core.Bool.{Bool, true, false, cond}
 use mathlib.Core.Option.{Option, none, some}
-use Prim.Native.Nat.{ℕ, zero, suc, _<_}
-use native.Mathlib.Omega.{arith}
+use Prim.Native.Nat.{ℕ}
 use lib.Ieee.{lt}
 use Rattle.numbers.specs.Tests.{clash}
 use Rattle.network.specs.Records.{Network}
@@ -15,15 +14,16 @@ use Rattle.states.specs.Switches.{toggled}
 use Rattle.radiality.specs.Feeder.{radialIn}
 use Rattle.losses.specs.Loss.{lossIn}
 use Rattle.tabu.specs.Tabu.{Move, Tabu, bestMove, afterMove, next, tabuStart, tabu}
-use Rattle.searches.specs.IfSome.{IfSome}
+use Rattle.numbers.specs.IfSome.{IfSome}
 use Rattle.searches.specs.Floats.{lt-self}
 use Rattle.searches.specs.LiveBranches.{same-loss}
-use Rattle.searches.specs.Rounds.{untilEnded, until-keeps}
+use Rattle.searches.specs.Rounds.{untilEnded}
+use Rattle.searches.specs.RoundLaws.{until-keeps}
 use Rattle.tabu.specs.Toggles.{toggled-same}
 use Rattle.tabu.specs.TabuLaws.{Toggle, MoveFrom, bestMove-moves}
 
 -- the same answer so far
-abbrev pub SameBest : Tabu → Tabu → Type 0
+abbrev SameBest : Tabu → Tabu → Type 0
 SameBest x y = (x .best ≡ y .best) × (x .best-loss ≡ y .best-loss)
 
 module _ (N : Network) where
@@ -65,16 +65,7 @@ module _ (N : Network) where
             let q = same-after y r n (bestMove N y) (bestMove-moves N y) in
             ((q .0 ∙ b .0, q .1 ∙ b .1), settles y (bestMove N y) (bestMove-moves N y))
 
-    -- rounds after the first leave the answer as it is
-    pub tabu-one-round : 0 < N .iterations → SameBest (tabu N) (next N (tabuStart N))
-    unfolding tabu untilEnded
-    tabu-one-round l = go (N .iterations) l
-      where
-        go : (n : ℕ) → 0 < n → SameBest (untilEnded (λ y. y .ended) (next N) n (tabuStart N)) (next N (tabuStart N))
-        go zero l = absurd (omega arith)
-        go (suc n) l = stays-settled n (next N (tabuStart N)) (settles (tabuStart N) (bestMove N (tabuStart N)) (bestMove-moves N (tabuStart N)))
-
-    -- from a radial base every round does
+    -- from a radial base every round leaves the answer as it is
     pub tabu-of-radial : radialIn N (baseState N) ≡ true → SameBest (tabu N) (tabuStart N)
     unfolding tabu
     tabu-of-radial r = stays-settled (N .iterations) (tabuStart N) (inr (r, lt-self (lossIn N (baseState N))))

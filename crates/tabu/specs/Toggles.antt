@@ -40,7 +40,7 @@ module _ (N : Network) (inside : Inside N) (s : State) where
     own = record { listed = l; here = refl }
 
     -- a switch on a branch in service makes it live or dead
-    pub toggled-other : inService N (branchOf N i) ≡ true → live N s (branchOf N i) ≢ live N (toggled s i) (branchOf N i)
+    toggled-other : inService N (branchOf N i) ≡ true → live N s (branchOf N i) ≢ live N (toggled s i) (branchOf N i)
     unfolding toggled
     toggled-other served = go (eqb (byte s i) 1) refl
       where

@@ -2,7 +2,7 @@
 // Document 01's tabu search.
 ghost use mathlib.Core.Path.{_≡_};
 ghost use mathlib.Core.Bool.{true, false, cond, not, _&&_, _||_};
-ghost use mathlib.Core.Option.{Option, some};
+ghost use mathlib.Core.Option.{Option, none, some};
 ghost use Prim.Native.Nat.{_<_};
 ghost use lib.Dec.{eqb};
 ghost use lib.Ieee.{lt};
@@ -16,7 +16,7 @@ ghost use Rattle.radiality.specs.Feeder.{radialIn};
 ghost use Rattle.searches.specs.Results.{solvedBy, solveAnswerOf};
 ghost use Rattle.searches.specs.SearchValues.{startOf, foundOf};
 ghost use Rattle.searches.specs.Given.{Given, Base};
-ghost use Rattle.searches.specs.IfSome.{IfSome};
+ghost use Rattle.numbers.specs.IfSome.{IfSome};
 ghost use Rattle.tabu.specs.Tabu.{Move, Tabu, lesser, bestMove, afterMove, tabuStart, tabu, tabuBest};
 ghost use Rattle.tabu.specs.TabuValues.{HeldList, idsOf, candidateOf, toggledIn, tabuOf, Stands};
 ghost use Rattle.tabu.specs.TabuLaws.{MoveFrom};
@@ -129,31 +129,38 @@ fn see_toggle(search: TabuSearch, best: Candidate, i: usize, id: u16, loss: f64)
     see_candidate(best, candidate, search.barred, search.best_loss)
 }
 
+// No move: the state before, with nothing moved.
+fn no_candidate(configuration: NetworkConfiguration) -> Candidate
+    ensures { λ r. ⌜ r ≡ candidateOf configuration none ⌝ }
+{
+    Candidate {
+        found: false,
+        configuration,
+        loss: 0.0,
+        moved: 0,
+    }
+}
+
 // Is this an operable switch on an out-of-service branch?
-fn is_idle(switch: Switch, in_service: bool) -> bool
+fn is_unserved(switch: Switch, in_service: bool) -> bool
     ensures { λ r. ⌜ r ≡ (switch .«can_operate» && not «in_service») ⌝ }
 {
     switch.can_operate && !in_service
 }
 
 // A round from a radial state. Only a switch on an out-of-service branch leaves it radial, and the loss as it is.
-fn best_kept(network: PowerNetwork, search: TabuSearch) -> Candidate
+fn best_from_radial(network: PowerNetwork, search: TabuSearch) -> Candidate
     requires { ⌜ (checkRecords (recordsOf network) ≡ accepted tt) × HeldList (search .barred) ⌝ }
     ensures { λ r. ⌜ ((x : Tabu) → Stands network search x → search .radial ≡ true → r ≡ candidateOf (search .configuration) (bestMove (recordsOf network) x)) ⌝ }
 {
     let count = wide16(network.switch_count);
     let configuration = search.configuration;
-    let mut best = Candidate {
-        found: false,
-        configuration,
-        loss: 0.0,
-        moved: 0,
-    };
+    let mut best = no_candidate(configuration);
     let mut i = 0usize;
     while i < count {
         let switch = network.switches[i];
         let on = wide16(switch.branch_idx);
-        if is_idle(switch, network.branches[on].status) {
+        if is_unserved(switch, network.branches[on].status) {
             best = see_toggle(search, best, i, switch.id, search.loss);
         }
         i += 1;
@@ -162,7 +169,7 @@ fn best_kept(network: PowerNetwork, search: TabuSearch) -> Candidate
 }
 
 // Is this an operable switch on a branch in service?
-fn is_connected(switch: Switch, in_service: bool) -> bool
+fn is_served(switch: Switch, in_service: bool) -> bool
     ensures { λ r. ⌜ r ≡ (switch .«can_operate» && «in_service») ⌝ }
 {
     switch.can_operate && in_service
@@ -179,7 +186,7 @@ fn toggled_live(live: [bool; 512], on: usize, state: u8) -> [bool; 512]
 }
 
 // A round from a state that is not radial. Only a switch on a branch in service can make it so.
-fn best_walked(
+fn best_from_other(
     network: PowerNetwork,
     graph: Graph,
     loads: [Power; 256],
@@ -193,17 +200,12 @@ fn best_walked(
     let branches = network.branches;
     let base_mva = network.base_mva;
     let count = wide16(network.switch_count);
-    let mut best = Candidate {
-        found: false,
-        configuration,
-        loss: 0.0,
-        moved: 0,
-    };
+    let mut best = no_candidate(configuration);
     let mut i = 0usize;
     while i < count {
         let switch = network.switches[i];
         let on = wide16(switch.branch_idx);
-        if is_connected(switch, network.branches[on].status) {
+        if is_served(switch, network.branches[on].status) {
             let toggled = toggled_live(live, on, configuration.switches[i]);
             if is_radial(graph, toggled) {
                 let loss = compute_losses_estimate(graph, loads, branches, base_mva, toggled);
@@ -281,9 +283,9 @@ fn tabu_rounds(
             return search;
         }
         if search.radial {
-            search = after_move(search, best_kept(network, search));
+            search = after_move(search, best_from_radial(network, search));
         } else {
-            search = after_move(search, best_walked(network, graph, loads, search));
+            search = after_move(search, best_from_other(network, graph, loads, search));
         }
         round += 1;
     }
@@ -293,7 +295,7 @@ fn tabu_rounds(
 // What the tabu search finds: it reports max_iterations and converged.
 fn search(network: PowerNetwork, start: Start) -> Found
     requires { ⌜ (checkRecords (recordsOf network) ≡ accepted tt) × (start ≡ startOf network) ⌝ }
-    ensures { λ r. ⌜ r ≡ foundOf (tabuBest (recordsOf network)) ⌝ }
+    ensures { λ r. ⌜ r ≡ foundOf (recordsOf network) (tabuBest (recordsOf network)) ⌝ }
 {
     let graph = start.graph;
     let loads = start.loads;

@@ -22,7 +22,6 @@ use Rattle.losses.specs.Accepted.{loss-finite}
 use Rattle.losses.specs.Loss.{lossIn}
 use Rattle.printing.specs.Calls.{checkRoom, Call, answered, called}
 use Rattle.plan.specs.Plan.{planned}
-use Rattle.reconfiguration.specs.AnswersHavePlans.{best-loss}
 use Rattle.searches.specs.Results.{Result, resultBy, solvedBy}
 use Rattle.reconfiguration.specs.Solve.{best, result, solved}
 use Rattle.controller.specs.Calls.{numbered, onRecords, textRadiality, textLoss, planOn, textPlan}
@@ -79,8 +78,7 @@ pub search-no-nan : (N : Network) (out : List ℕ) (x : Answer Result) → x ≡
 unfolding solved solvedBy called result resultBy
 search-no-nan N out x e =
     let room = checkRoom (length (best N .state)) (length out) in
-    let bits : checkRecords N ≡ accepted tt → T (not (isNan (best N .loss))) =
-    λ ok. subst (λ y. T (not (isNan y))) (sym (best-loss N)) (loss-finite N ok (best N .state) .2) in
+    let bits : checkRecords N ≡ accepted tt → T (not (isNan (lossIn N (best N .state)))) = λ ok. loss-finite N ok (best N .state) .2 in
     subst (λ y. NoNan (lossOf y)) (sym e)
     (bits-if-accepted (checkRecords N andThen room) (result N) (best N .state) out (λ ok. bits (then-iff (checkRecords N) room .0 ok .0)))
 

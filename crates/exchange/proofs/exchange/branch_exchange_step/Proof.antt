@@ -2,7 +2,7 @@
 -- the best before.
 use mathlib.Core.Path.{_≡_, refl, sym, ap, _∙_}
 use mathlib.Core.Logic.{⊎-elim}
-use mathlib.Core.Option.{none}
+use mathlib.Core.Option.{none, some}
 use Prim.Native.Nat.{_≤_, _<_, _-_}
 use native.Mathlib.Omega.{arith}
 use lib.ListN.{length, getD}
@@ -94,7 +94,10 @@ here c =
 
 -- the live branches of the round's state
 flags : (c : tie.After-live-branches Inv-loop μ-loop) → let args = c .before .args in c .live-branches .result ≡ liveFlags (recordsOf (args .t1)) (stateOf (args .t1) (args .configuration))
-flags c = let args = c .before .args in c .live-branches .ensures ∙ flags-listed (args .t1) (args .configuration)
+flags c =
+    let start = c .before in
+    let n = start .args .t1 in
+    c .live-branches .ensures ∙ flags-listed n (start .args .configuration) (start .pre .2) (few-switches n (start .pre .0 .0))
 
 try-tie-requires : tie.Need-try-tie-requires Inv-loop μ-loop
 try-tie-requires c κs =
@@ -104,20 +107,21 @@ try-tie-requires c κs =
     (ap length (start .pre .1) ∙ sections-long (recordsOf n), held-bytes n (start .args .configuration) (start .pre .2), omega (arith, read .wide162 .ensures .0, within read))
 
 -- the section of its trial
-tried : (c : tie.After-wide163 Inv-loop μ-loop)
-    → let loop = c .before .before .before .before .before .before .before .before .before in
+tried : (c : tie.After-try-tie Inv-loop μ-loop)
+    → let loop = c .before .before .before .before .before .before .before .before in
     let args = loop .before .before .before .before .before .args in
-    Tried (args .t1) (args .configuration) (loop .loop .i) (c .wide163 .result)
+    Tried (args .t1) (args .configuration) (loop .loop .i) (c .try-tie .result)
 tried c =
-    let call = c .before in
-    let read = call .before .before .before .before .before in
+    let read = c .before .before .before .before .before in
     let loop = read .before .before .before in
     let made = loop .before .before .before .before in
     let start = made .before in
     let n = start .args .t1 in
     let sized = length-of (bus.the-type .to) (n .buses) (start .good .0 .1 .1 .0 .1 .0 .1) in
-    tie-tried n (start .pre .0 .0) (start .args .configuration) (start .pre .2) (loop .loop .i) _ _ (here read) _ (flags made) sized _ (start .pre .0 .1) _ (start .pre .1) _
-    (c .wide163 .ensures .0 ∙ call .try-tie .ensures)
+    tie-tried n (start .pre .0 .0) (start .args .configuration) (start .pre .2) (loop .loop .i) _ _ (here read) _ (flags made) sized _ (start .pre .0 .1) _ (start .pre .1) _ (c .try-tie .ensures)
+
+enum-known-found : tie.Need-enum-known-found Inv-loop μ-loop
+enum-known-found c = search needs
 
 wide16-requires-3 : tie.Need-wide16-requires-3 Inv-loop μ-loop
 wide16-requires-3 c κs = search needs
@@ -125,8 +129,22 @@ wide16-requires-3 c κs = search needs
 mul-wide16 : tie.Need-mul-wide16 Inv-loop μ-loop
 mul-wide16 c = search needs
 
+-- it is listed, and so it has a byte
+below : (c : tie.After-wide163 Inv-loop μ-loop)
+    → let start = c .before .before .before .before .before .before .before .before .before .before .before .before .before .before .before .before .before in
+    c .wide163 .result < start .args .t1 .«switch_count»
+below c =
+    let matched = c .before .before in
+    let call = matched .before .before in
+    omega (arith, c .wide163 .ensures .0, tried call .below (matched .found .given .1))
+
+byte : (c : tie.After-wide163 Inv-loop μ-loop) → c .wide163 .result < 512
+byte c =
+    let start = c .before .before .before .before .before .before .before .before .before .before .before .before .before .before .before .before .before in
+    omega (arith, below c, few-switches (start .args .t1) (start .pre .0 .0))
+
 element-copy-out-wide16 : tie.Need-element-copy-out-wide16 Inv-loop μ-loop
-element-copy-out-wide16 c = c .if2 .taken
+element-copy-out-wide16 c = byte c
 
 wide16-requires-4 : tie.Need-wide16-requires-4 Inv-loop μ-loop
 wide16-requires-4 c κs = search needs
@@ -134,42 +152,43 @@ wide16-requires-4 c κs = search needs
 swapped-live-requires : tie.Need-swapped-live-requires Inv-loop μ-loop
 swapped-live-requires c κs =
     let found = c .before in
-    let call = found .before in
-    let read = call .before .before .before .before .before .before in
+    let read = found .before .before .before .before .before .before .before .before .before in
     let start = read .before .before .before .before .before .before .before .before in
-    (within read, omega (arith, c .wide164 .ensures .0, on-branch (start .args .t1) (start .pre .0 .0) (call .wide163 .result) (tried call .below (found .if2 .taken)) _ refl))
+    (within read, omega (arith, c .wide164 .ensures .0, on-branch (start .args .t1) (start .pre .0 .0) (found .wide163 .result) (below found) _ refl))
 
 compute-losses-estimate-requires : tie.Need-compute-losses-estimate-requires Inv-loop μ-loop
 compute-losses-estimate-requires c κs = search needs
 
 -- the loss of its trial
 lost : (c : tie.After-compute-losses-estimate Inv-loop μ-loop)
-    → let call = c .before .before .before .before in
-    let loop = call .before .before .before .before .before .before .before .before .before in
+    → let found = c .before .before .before in
+    let loop = found .before .before .before .before .before .before .before .before .before .before .before .before in
     let args = loop .before .before .before .before .before .args in
-    c .compute-losses-estimate .result ≡ lossIn (recordsOf (args .t1)) (swapped (stateOf (args .t1) (args .configuration)) (loop .loop .i) (call .wide163 .result))
+    c .compute-losses-estimate .result ≡ lossIn (recordsOf (args .t1)) (swapped (stateOf (args .t1) (args .configuration)) (loop .loop .i) (found .wide163 .result))
 lost c =
     let moved = c .before in
     let opened = moved .before in
     let found = opened .before in
-    let call = found .before in
-    let read = call .before .before .before .before .before .before in
+    let read = found .before .before .before .before .before .before .before .before .before in
     let loop = read .before .before .before in
     let made = loop .before .before .before .before in
     let start = made .before in
     let n = start .args .t1 in
     let given = start .pre .0 in
     let sized = length-of (bus.the-type .to) (n .buses) (start .good .0 .1 .1 .0 .1 .0 .1) in
-    let live = tried-flags n (given .0) (start .args .configuration) (start .pre .2) (loop .loop .i) _ _ (here read) _ (flags made) (call .wide163 .result) (tried call .below (found .if2 .taken)) _ _
+    let live = tried-flags n (given .0) (start .args .configuration) (start .pre .2) (loop .loop .i) _ _ (here read) _ (flags made) (found .wide163 .result) (below found) _ _
     (read .wide162 .ensures .0) (opened .wide164 .ensures .0) in
-    flags-loss n sized (given .0) (swapped (stateOf n (start .args .configuration)) (loop .loop .i) (call .wide163 .result)) _ _ (given .1) (moved .swapped-live .ensures ∙ live) _ _ (given .2)
+    flags-loss n sized (given .0) (swapped (stateOf n (start .args .configuration)) (loop .loop .i) (found .wide163 .result)) _ _ (given .1) (moved .swapped-live .ensures ∙ live) _ _ (given .2)
     (c .compute-losses-estimate .ensures .0)
 
 better-of-requires : tie.Need-better-of-requires Inv-loop μ-loop
 better-of-requires c κs =
     let found = c .before .before .before in
-    let goes = found .before .before .before .before .before .before .before .before .before in
-    (inside goes, found .if2 .taken)
+    let goes = found .before .before .before .before .before .before .before .before .before .before .before in
+    (inside goes, byte found)
+
+enum-told : tie.Need-enum-told Inv-loop μ-loop
+enum-told c = search needs
 
 add-i : tie.Need-add-i Inv-loop μ-loop
 add-i c = search needs
@@ -198,21 +217,16 @@ loop-again c =
       omega arith,
       ⊎-elim
           (λ w.
-          let call : tie.After-wide163 Inv-loop μ-loop = record {
-            before = record { before = record { before = record { before = record { before = asked; if1 = w .0 }; sections = w .1 }; state2 = w .2 }; try-tie = w .3 };
-            wide163 = w .4;
-          } in
-          let t = tried call in
-          let loses = lost (record { before = record { before = record { before = record { before = call; if2 = w .5 }; wide164 = w .6 }; swapped-live = w .7 }; compute-losses-estimate = w .8 }) in
-          let swaps = swapped-held n held i (w .4 .result) (listed goes) (t .below (w .5 .taken)) (start .pre .2) (few-switches n ok) in
-          w .10 ∙ w .9 .ensures ∙ see-tried N held s current so-far _ best i (seen ∙ w .0 .taken) (swapped s i (w .4 .result)) (t .found (w .5 .taken)) _ loses _ swaps ∙ more)
+          let call : tie.After-try-tie Inv-loop μ-loop = record { before = record { before = record { before = record { before = asked; if1 = w .0 }; sections = w .1 }; state2 = w .2 }; try-tie = w .3 } in
+          let found : tie.After-wide163 Inv-loop μ-loop = record { before = record { before = record { before = record { before = call; match = w .4 }; found = w .5 }; known-told = w .6 }; wide163 = w .7 } in
+          let loses = lost (record { before = record { before = record { before = found; wide164 = w .8 }; swapped-live = w .9 }; compute-losses-estimate = w .10 }) in
+          let swaps = swapped-held n held i (w .7 .result) (listed goes) (below found) (start .pre .2) (few-switches n ok) in
+          let so = tried call .found (w .5 .given .1) ∙ ap (λ section. some (swapped s i section)) (sym (w .7 .ensures .0)) in
+          w .12 ∙ w .11 .ensures ∙ see-tried N held s current so-far _ best i (seen ∙ w .0 .taken) (swapped s i (w .7 .result)) so _ loses _ swaps ∙ more)
           (⊎-elim
           (λ w.
-          let call : tie.After-wide163 Inv-loop μ-loop = record {
-            before = record { before = record { before = record { before = record { before = asked; if1 = w .0 }; sections = w .1 }; state2 = w .2 }; try-tie = w .3 };
-            wide163 = w .4;
-          } in
-          w .6 ∙ see-none N held s current so-far _ best i (seen ∙ w .0 .taken) (tried call .absent (λ h. omega (arith, w .5 .left))) ∙ more)
+          let call : tie.After-try-tie Inv-loop μ-loop = record { before = record { before = record { before = record { before = asked; if1 = w .0 }; sections = w .1 }; state2 = w .2 }; try-tie = w .3 } in
+          w .6 ∙ see-none N held s current so-far _ best i (seen ∙ w .0 .taken) (tried call .absent (w .5 .given .1)) ∙ more)
           (λ w. w .1 ∙ see-unseen N held s current so-far _ best i (seen ∙ w .0 .left) ∙ more))
           (c .if1 .came),
     )
@@ -243,6 +257,7 @@ branch-exchange-step-spec =
     array-read-is-seen
     is-seen-requires
     try-tie-requires
+    enum-known-found
     wide16-requires-3
     mul-wide16
     element-copy-out-wide16
@@ -250,6 +265,7 @@ branch-exchange-step-spec =
     swapped-live-requires
     compute-losses-estimate-requires
     better-of-requires
+    enum-told
     add-i
     loop-less
     loop-again

@@ -7,8 +7,8 @@ use lib.ListN.{length, take, drop, length-take}
 use borrow.Author.Needs.{needs}
 use Rattle.numbers.specs.Choose.{firstSome}
 use Rattle.network.specs.ReadLaws.{length-of}
-use Rattle.exchange.specs.Firsts.{first-none}
-use Rattle.exchange.specs.ExchangeTrials.{swap-small, along-next, along-found}
+use Rattle.numbers.specs.FirstLaws.{first-none}
+use Rattle.exchange.specs.ExchangeTrials.{along-next, along-found}
 use Rattle.exchange.specs.ExchangeValues.{sectionAt, rowSwap}
 use Rattle.exchange.proofs.exchange.first_swap.Statement.{statement}
 use Rattle.exchange.proofs.exchange.first_swap.Tie as tie
@@ -40,14 +40,21 @@ element-copy-out-swap-with c = search needs
 swap-with-requires : tie.Need-swap-with-requires Inv-loop μ-loop
 swap-with-requires c κs = search needs
 
+enum-known-section : tie.Need-enum-known-section Inv-loop μ-loop
+enum-known-section c = search needs
+
 returns : tie.Need-returns Inv-loop μ-loop
 returns c =
-    let call = c .before in
+    let matched = c .before in
+    let call = matched .before .before in
     let loop = call .before .before .before in
     let start = loop .before .before in
     let path = start .args .t5 in
-    along-found (rowSwap (start .args .graph) (start .args .sections .now) (start .args .state .now) (start .args .live)) (swap-small _ _ _ _) (path .branch) (path .count) (loop .loop .i) _
-    (call .swap-with .ensures) (omega arith) (room start) (c .if1 .taken) (loop .loop .inv .1)
+    along-found (rowSwap (start .args .graph) (start .args .sections .now) (start .args .state .now) (start .args .live)) (path .branch) (path .count) (loop .loop .i) _
+    (call .swap-with .ensures) (omega arith) (room start) (matched .section .given .1) (loop .loop .inv .1)
+
+enum-told : tie.Need-enum-told Inv-loop μ-loop
+enum-told c = search needs
 
 add-i : tie.Need-add-i Inv-loop μ-loop
 add-i c = search needs
@@ -57,13 +64,13 @@ loop-less c = search needs
 
 loop-again : tie.Need-loop-again Inv-loop μ-loop
 loop-again c =
-    let call = c .before in
+    let call = c .before .before in
     let loop = call .before .before .before in
     let start = loop .before .before in
     let path = start .args .t5 in (
       omega arith,
-      along-next (rowSwap (start .args .graph) (start .args .sections .now) (start .args .state .now) (start .args .live)) (swap-small _ _ _ _) (path .branch) (path .count) (loop .loop .i) _
-          (call .swap-with .ensures) (omega arith) (room start) (λ h. omega arith) (loop .loop .inv .1),
+      along-next (rowSwap (start .args .graph) (start .args .sections .now) (start .args .state .now) (start .args .live)) (path .branch) (path .count) (loop .loop .i) _
+          (call .swap-with .ensures) (omega arith) (room start) (c .enum-told .given .1) (loop .loop .inv .1),
     )
 
 returns-2 : tie.Need-returns-2 Inv-loop μ-loop
@@ -84,7 +91,9 @@ first-swap-spec =
     mul-swap-with
     element-copy-out-swap-with
     swap-with-requires
+    enum-known-section
     returns
+    enum-told
     add-i
     loop-less
     loop-again

@@ -1,10 +1,11 @@
--- `search` meets its contract: the rounds go from the base, and what is found is read off them.
+-- `search` meets its contract: the rounds go from the base, and what is found is read off them, with the loss of its state.
 use Rattle.network.specs.ReadLaws.{length-of}
 use Rattle.network.specs.Records.{recordsOf}
 use Rattle.network.proofs.bus.Bus.{the-type}
 use Rattle.searches.specs.SearchValues.{foundOf}
 use Rattle.searches.specs.StartLaws.{start-given, start-base}
 use Rattle.exchange.specs.Exchange.{exchangeBest}
+use Rattle.exchange.specs.ExchangeLaws.{exchange-loss}
 use Rattle.exchange.specs.ExchangeValues.{exchangeOf}
 use Rattle.exchange.proofs.exchange.search.Statement.{statement}
 use Rattle.exchange.proofs.exchange.search.Tie as tie
@@ -18,7 +19,7 @@ branch-exchange-rounds-requires c κs =
 
 returns : tie.Need-returns
 unfolding exchangeBest foundOf exchangeOf recordsOf
-returns c = rw (c .before .before .before .branch-exchange-rounds .ensures)
+returns c = rw (c .before .before .before .branch-exchange-rounds .ensures, exchange-loss)
 
 pub search-spec : {M : Type 1} → statement M
 search-spec = tie.close (tie.spec branch-exchange-rounds-requires returns)

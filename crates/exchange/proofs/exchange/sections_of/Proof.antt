@@ -1,4 +1,4 @@
--- `sections_of` meets its contract: the sections among the first i switches are listed; the step is `section-listed` or `section-skipped`.
+-- `sections_of` meets its contract: the sections among the first i switches are listed; the step is `section-listed` or `other-skipped`.
 use mathlib.Core.Path.{_≡_, sym, ap, _∙_}
 use mathlib.Core.Logic.{⊎-elim}
 use mathlib.Core.Bool.{not, _&&_}
@@ -12,7 +12,7 @@ use Rattle.network.specs.Records.{noSwitch, recordsOf}
 use Rattle.states.specs.Switches.{branchOf, operable, size, switch, isTie}
 use Rattle.states.specs.Listed.{few-switches, switches-listed}
 use Rattle.searches.specs.SwitchReads.{on-branch, switch-is}
-use Rattle.exchange.specs.ExchangeSwaps.{sectionsAmong, sections-none, sections-all, section-skipped, section-listed}
+use Rattle.exchange.specs.ExchangeSwaps.{sectionsAmong, sections-none, sections-all, other-skipped, section-listed}
 use Rattle.exchange.proofs.exchange.sections_of.Statement.{statement}
 use Rattle.exchange.proofs.exchange.sections_of.Tie as tie
 
@@ -87,7 +87,7 @@ loop-again c =
       omega arith,
       ⊎-elim
           (λ w. w .1 ∙ rw (loop .loop .inv .1, on) (section-listed N (check-inside N .0 (start .pre)) i listed (section ∙ w .0 .taken)))
-          (λ w. w .1 ∙ loop .loop .inv .1 ∙ section-skipped N i (section ∙ w .0 .left))
+          (λ w. w .1 ∙ loop .loop .inv .1 ∙ other-skipped N i (section ∙ w .0 .left))
           (c .if1 .came),
     )
 

@@ -6,7 +6,6 @@ use native.Mathlib.Omega.{arith}
 use borrow.Author.Needs.{needs}
 use lib.Pow.{pow-pos}
 use Rattle.numbers.specs.UpTo.{upTo, upTo-more}
-use Rattle.network.specs.Limits.{ties}
 use Rattle.network.specs.InsideLaws.{check-inside}
 use Rattle.network.specs.ReadLaws.{length-of}
 use Rattle.network.specs.Records.{recordsOf}
@@ -14,9 +13,8 @@ use Rattle.network.proofs.bus.Bus.{the-type}
 use Rattle.radiality.specs.Feeder.{radialIn}
 use Rattle.radiality.specs.FeederRows.{liveFlags}
 use Rattle.searches.specs.StateRows.{flags-radial}
-use Rattle.exhaustive.specs.Exhaustive.{masked, noMask, tryMask, exhaustive}
-use Rattle.exhaustive.specs.ExhaustiveMasks.{ten-ties}
-use Rattle.exhaustive.specs.ExhaustiveTies.{ties-on, masked-flags}
+use Rattle.exhaustive.specs.Exhaustive.{tieCount, masked, noMask, tryMask, exhaustive}
+use Rattle.exhaustive.specs.ExhaustiveTies.{ten-ties, ties-on, masked-flags}
 use Rattle.exhaustive.specs.ExhaustiveTrials.{mask-passed, radial-room}
 use Rattle.exhaustive.specs.ExhaustiveValues.{tiesOf, closedBy, exhaustiveOf}
 use Rattle.exhaustive.proofs.exhaustive.exhaustive_masks.Statement.{statement}
@@ -29,14 +27,14 @@ Inv-loop network graph loads base-live base-radial base-loss ties masks search�
 abbrev μ-loop : tie.MeasureT-loop
 μ-loop network graph loads base-live base-radial base-loss ties masks search₀ mask₀ search mask = masks - mask
 
-few : (c : tie.Start Inv-loop μ-loop) → ties (recordsOf (c .args .network) .switches) ≤ 10
+few : (c : tie.Start Inv-loop μ-loop) → tieCount (recordsOf (c .args .network)) ≤ 10
 few c = ten-ties (c .args .network) (c .pre .0 .0) (c .pre .4)
 
 find-ties-requires : tie.Need-find-ties-requires Inv-loop μ-loop
 find-ties-requires c κs = (c .pre .0 .0, few c)
 
 -- so many ties were found
-counted : (c : tie.After-find-ties Inv-loop μ-loop) → c .find-ties .result .count ≡ ties (recordsOf (c .before .args .network) .switches)
+counted : (c : tie.After-find-ties Inv-loop μ-loop) → c .find-ties .result .count ≡ tieCount (recordsOf (c .before .args .network))
 unfolding tiesOf
 counted c = ap (λ t. t .count) (c .find-ties .ensures)
 
@@ -58,7 +56,7 @@ masked-live-requires c κs =
     let found = c .before .before .before .before in
     let start = found .before in
     let N = recordsOf (start .args .network) in
-    (omega (arith, counted found, few start), rw (found .find-ties .ensures) (ties-on N (check-inside N .0 (start .pre .0 .0)) (ties (N .switches))))
+    (omega (arith, counted found, few start), rw (found .find-ties .ensures) (ties-on N (check-inside N .0 (start .pre .0 .0)) (tieCount N)))
 
 -- the flags are those of the mask's live branches
 flags : (c : tie.After-masked-live Inv-loop μ-loop)
@@ -72,7 +70,7 @@ flags c =
     let N = recordsOf (start .args .network) in
     c .masked-live .ensures
     ∙ ap (λ t. closedBy t (loop .loop .mask) (start .args .base-live)) (found .find-ties .ensures)
-    ∙ ap (closedBy (tiesOf N (ties (N .switches))) (loop .loop .mask)) (start .pre .2)
+    ∙ ap (closedBy (tiesOf N (tieCount N)) (loop .loop .mask)) (start .pre .2)
     ∙ masked-flags N (check-inside N .0 (start .pre .0 .0)) (few start) (loop .loop .mask)
 
 is-radial-requires : tie.Need-is-radial-requires Inv-loop μ-loop

@@ -12,7 +12,7 @@ use Rattle.network.proofs.branch.Branch.{the-type}
 use Rattle.states.specs.Listed.{few-switches, switches-listed}
 use Rattle.states.specs.Switches.{size, isTie}
 use Rattle.exhaustive.specs.ExhaustiveValues.{tiesOf}
-use Rattle.exhaustive.specs.ExhaustiveTies.{all-ties, tie-room, tie-listed, section-skipped}
+use Rattle.exhaustive.specs.ExhaustiveTies.{tie-room, tie-listed, section-skipped}
 use Rattle.searches.specs.SwitchReads.{SwitchAt, on-branch, switch-read, own-switch, own-status}
 use Rattle.exhaustive.proofs.exhaustive.find_ties.Statement.{statement}
 use Rattle.exhaustive.proofs.exhaustive.find_ties.Tie as tie
@@ -114,7 +114,7 @@ returns c =
     let n = loop .before .before .before .args .t1 in
     let N = recordsOf n in
     let all : loop .loop .i ≡ size N = omega (arith, switches-listed n) in
-    loop .loop .inv .1 ∙ ap (λ m. tiesOf N (count (isTie N) m)) all ∙ ap (tiesOf N) (all-ties N)
+    loop .loop .inv .1 ∙ ap (λ m. tiesOf N (count (isTie N) m)) all
 
 pub find-ties-spec : {M : Type 1} → statement M
 find-ties-spec =

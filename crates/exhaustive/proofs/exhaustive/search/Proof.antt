@@ -1,9 +1,10 @@
--- `search` meets its contract: the masks go from the base, and what is found is read off them.
+-- `search` meets its contract: the masks go from the base, and what is found is read off them, with the loss of its state.
 use Rattle.network.specs.ReadLaws.{length-of}
 use Rattle.network.proofs.bus.Bus.{the-type}
 use Rattle.searches.specs.SearchValues.{foundOf}
 use Rattle.searches.specs.StartLaws.{start-given, start-base, start-live, start-radial}
 use Rattle.exhaustive.specs.Exhaustive.{exhaustiveBest}
+use Rattle.exhaustive.specs.ExhaustiveLaws.{exhaustive-closes}
 use Rattle.exhaustive.specs.ExhaustiveValues.{exhaustiveOf}
 use Rattle.exhaustive.proofs.exhaustive.search.Statement.{statement}
 use Rattle.exhaustive.proofs.exhaustive.search.Tie as tie
@@ -19,7 +20,7 @@ exhaustive-masks-requires c κs =
 
 returns : tie.Need-returns
 unfolding exhaustiveBest foundOf exhaustiveOf
-returns c = rw (c .before .exhaustive-masks .ensures)
+returns c = rw (c .before .exhaustive-masks .ensures, exhaustive-closes _ .loses)
 
 pub search-spec : {M : Type 1} → statement M
 search-spec = tie.close (tie.spec exhaustive-masks-requires returns)

@@ -2,7 +2,7 @@
 use mathlib.Core.Path.{_∙_}
 use borrow.Author.Needs.{needs}
 use Rattle.reconfiguration.specs.Solve.{bestBy}
-use Rattle.reconfiguration.specs.SolveLaws.{by-method, by-asking}
+use Rattle.reconfiguration.specs.SolveLaws.{by-method, by-exhaustive}
 use Rattle.reconfiguration.proofs.solve.solve.Statement.{statement}
 use Rattle.reconfiguration.proofs.solve.solve.Tie as tie
 
@@ -46,10 +46,9 @@ same-length-3 : tie.Need-same-length-3
 same-length-3 c = search needs
 
 returns-3 : tie.Need-returns-3
-unfolding bestBy
 returns-3 c =
     let found = c .before .before in
-    found .exhaustive-solve .ensures ∙ by-asking _ _ (found .before .before .enum-told3 .given .1)
+    found .exhaustive-solve .ensures ∙ by-exhaustive _ _ (found .before .before .enum-told3 .given .1)
 
 pub solve-spec : {M : Type 1} → statement M
 solve-spec =

@@ -2,7 +2,7 @@
 use mathlib.Core.Path.{_∙_}
 use borrow.Author.Needs.{needs}
 use Rattle.network.specs.AnswerLaws.{refused-first, accepted-then}
-use Rattle.searches.specs.SearchLaws.{no-room, room}
+use Rattle.printing.specs.CallLaws.{no-room, room}
 use Rattle.searches.proofs.answer.check_search.Statement.{statement}
 use Rattle.searches.proofs.answer.check_search.Tie as tie
 

@@ -1,10 +1,11 @@
--- `search` meets its contract: the rounds go from the base, and what is found is read off them.
+-- `search` meets its contract: the rounds go from the base, and what is found is read off them, with the loss of its state.
 use Rattle.network.specs.ReadLaws.{length-of}
 use Rattle.network.specs.Records.{recordsOf}
 use Rattle.network.proofs.bus.Bus.{the-type}
 use Rattle.searches.specs.SearchValues.{foundOf}
 use Rattle.searches.specs.StartLaws.{start-given, start-base, start-radial}
 use Rattle.tabu.specs.Tabu.{tabuBest}
+use Rattle.tabu.specs.TabuLaws.{tabu-loss}
 use Rattle.tabu.specs.TabuValues.{tabuOf}
 use Rattle.tabu.proofs.tabu.search.Statement.{statement}
 use Rattle.tabu.proofs.tabu.search.Tie as tie
@@ -20,7 +21,7 @@ tabu-rounds-requires c κs =
 
 returns : tie.Need-returns
 unfolding tabuBest foundOf tabuOf recordsOf
-returns c = rw (c .before .tabu-rounds .ensures)
+returns c = rw (c .before .tabu-rounds .ensures, tabu-loss)
 
 pub search-spec : {M : Type 1} → statement M
 search-spec = tie.close (tie.spec tabu-rounds-requires returns)

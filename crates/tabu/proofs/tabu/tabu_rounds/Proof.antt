@@ -26,8 +26,8 @@ returns c =
     let at = c .before .before .before in
     standing-ended _ _ (at .loop .round) (at .loop .inv) (c .if2 .taken)
 
-best-kept-requires : tie.Need-best-kept-requires Inv-loop μ-loop
-best-kept-requires c κs =
+best-from-radial-requires : tie.Need-best-from-radial-requires Inv-loop μ-loop
+best-from-radial-requires c κs =
     let at = c .before .before .before .before in
     (at .before .before .pre .0 .0, barred-held _ _ _ (at .loop .inv .stands))
 
@@ -36,8 +36,8 @@ after-move-requires c κs =
     let at = c .before .before .before .before .before in
     barred-held _ _ _ (at .loop .inv .stands)
 
-best-walked-requires : tie.Need-best-walked-requires Inv-loop μ-loop
-best-walked-requires c κs =
+best-from-other-requires : tie.Need-best-from-other-requires Inv-loop μ-loop
+best-from-other-requires c κs =
     let at = c .before .before .before .before in
     (at .before .before .pre .0, barred-held _ _ _ (at .loop .inv .stands))
 
@@ -79,9 +79,9 @@ tabu-rounds-spec =
     at-base-requires
     loop-holds
     returns
-    best-kept-requires
+    best-from-radial-requires
     after-move-requires
-    best-walked-requires
+    best-from-other-requires
     after-move-requires-2
     add-round
     loop-less

@@ -1,4 +1,4 @@
--- `solve_asking` meets its contract: it is refused, or answers with what the exhaustive search finds.
+-- `solve_as_exhaustive` meets its contract: it is refused, or answers with what the exhaustive search finds.
 use mathlib.Core.Path.{_∙_}
 use borrow.Author.Needs.{needs}
 use Rattle.network.specs.ReadLaws.{length-of}
@@ -6,8 +6,8 @@ use Rattle.network.proofs.bus.Bus.{the-type}
 use Rattle.searches.specs.SearchLaws.{search-refused, search-checked, search-answered}
 use Rattle.exhaustive.specs.Exhaustive.{exhaustiveBest}
 use Rattle.exhaustive.specs.ExhaustiveLaws.{exhaustive-sound}
-use Rattle.exhaustive.proofs.exhaustive.solve_asking.Statement.{statement}
-use Rattle.exhaustive.proofs.exhaustive.solve_asking.Tie as tie
+use Rattle.exhaustive.proofs.exhaustive.solve_as_exhaustive.Statement.{statement}
+use Rattle.exhaustive.proofs.exhaustive.solve_as_exhaustive.Tie as tie
 
 check-search-requires : tie.Need-check-search-requires
 check-search-requires c κs = search needs
@@ -49,8 +49,8 @@ returns-2 c =
     ∙ search-answered _ exhaustiveBest exhaustive-sound _ _ (tested .check-search .ensures) (told .enum-told .given .1)
     (length-of (the-type .to) (args .args .network .buses) (args .good .0 .1 .1 .0 .1 .0 .1)) (start .start-of .ensures) (found .search .ensures)
 
-pub solve-asking-spec : {M : Type 1} → statement M
-solve-asking-spec =
+pub solve-as-exhaustive-spec : {M : Type 1} → statement M
+solve-as-exhaustive-spec =
     tie.close
     (tie.spec
     check-search-requires

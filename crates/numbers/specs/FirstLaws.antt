@@ -8,9 +8,9 @@ use native.Mathlib.Numerals.{add-one}
 use native.Mathlib.Omega.{arith}
 use lib.ListN.{length, getD, drop, drop-of-length-le}
 use lib.Seq.{drop-cons}
 use Rattle.numbers.specs.UpTo.{upTo, upTo-more}
 use Rattle.numbers.specs.Choose.{least, firstSome, _orElse_}
-use Rattle.searches.specs.IfSome.{IfSome}
+use Rattle.numbers.specs.IfSome.{IfSome}
 
 -- ---- the least number that passes a test, by rising position
 module _ (p : ℕ → Bool) where

@@ -1,4 +1,4 @@
--- `best_walked` meets its contract: the best is that of the first i switches.
+-- `best_from_other` meets its contract: the best is that of the first i switches.
 use mathlib.Core.Path.{_≡_, refl, sym, ap, _∙_}
 use mathlib.Core.Logic.{⊎-elim}
 use mathlib.Core.Bool.{false}
@@ -17,10 +17,10 @@ use Rattle.searches.specs.StateRows.{flags-radial, flags-loss}
 use Rattle.states.specs.Switches.{size, toggled}
 use Rattle.searches.specs.SwitchReads.{SwitchAt, on-branch, switch-read}
 use Rattle.tabu.specs.Tabu.{Tabu, seeing, bestMove}
-use Rattle.tabu.specs.TabuMoves.{seen-more, see-loops, see-unconnected, see-walked, toggled-flags}
+use Rattle.tabu.specs.TabuMoves.{seen-more, see-not-radial, see-not-served, see-served, toggled-flags}
 use Rattle.tabu.specs.TabuValues.{candidateOf, Stands}
-use Rattle.tabu.proofs.tabu.best_walked.Statement.{statement}
-use Rattle.tabu.proofs.tabu.best_walked.Tie as tie
+use Rattle.tabu.proofs.tabu.best_from_other.Statement.{statement}
+use Rattle.tabu.proofs.tabu.best_from_other.Tie as tie
 
 abbrev Inv-loop : tie.InvT-loop
 Inv-loop graph loads search network configuration live branches base-mva count best₀ i₀ best i =
@@ -35,20 +35,23 @@ live-branches-requires c κs = search needs
 wide16-requires : tie.Need-wide16-requires Inv-loop μ-loop
 wide16-requires c κs = search needs
 
+no-candidate-requires : tie.Need-no-candidate-requires Inv-loop μ-loop
+no-candidate-requires c κs = search needs
+
 loop-holds : tie.Need-loop-holds Inv-loop μ-loop
-unfolding upTo candidateOf
-loop-holds c = (omega arith, λ x s r. refl)
+unfolding upTo
+loop-holds c = (omega arith, λ x s r. c .no-candidate .ensures)
 
 mul-switch : tie.Need-mul-switch Inv-loop μ-loop
 mul-switch c = search needs
 
 -- switch i is listed, and so it has a byte
-listed : (c : tie.In-loop Inv-loop μ-loop) → c .before .loop .i < c .before .before .before .before .before .before .args .t1 .«switch_count»
-listed c = omega (arith, c .loop-test .taken, c .before .before .wide16 .ensures .0)
+listed : (c : tie.In-loop Inv-loop μ-loop) → c .before .loop .i < c .before .before .before .before .before .before .before .args .t1 .«switch_count»
+listed c = omega (arith, c .loop-test .taken, c .before .before .before .wide16 .ensures .0)
 
 inside : (c : tie.In-loop Inv-loop μ-loop) → c .before .loop .i < 512
 inside c =
-    let start = c .before .before .before .before .before .before in
+    let start = c .before .before .before .before .before .before .before in
     omega (arith, listed c, few-switches (start .args .t1) (start .pre .0 .0))
 
 element-copy-out-switch : tie.Need-element-copy-out-switch Inv-loop μ-loop
@@ -57,21 +60,21 @@ element-copy-out-switch c = inside c
 wide16-requires-2 : tie.Need-wide16-requires-2 Inv-loop μ-loop
 wide16-requires-2 c κs = search needs
 
-mul-is-connected : tie.Need-mul-is-connected Inv-loop μ-loop
-mul-is-connected c = search needs
+mul-is-served : tie.Need-mul-is-served Inv-loop μ-loop
+mul-is-served c = search needs
 
 -- its branch has a flag
 within : (c : tie.After-wide162 Inv-loop μ-loop) → c .wide162 .result < 512
 within c =
     let goes = c .before .before in
-    let start = goes .before .before .before .before .before .before in
+    let start = goes .before .before .before .before .before .before .before in
     omega (arith, c .wide162 .ensures .0, on-branch (start .args .t1) (start .pre .0 .0) (goes .before .loop .i) (listed goes) _ refl)
 
-element-copy-out-is-connected : tie.Need-element-copy-out-is-connected Inv-loop μ-loop
-element-copy-out-is-connected c = within c
+element-copy-out-is-served : tie.Need-element-copy-out-is-served Inv-loop μ-loop
+element-copy-out-is-served c = within c
 
-is-connected-requires : tie.Need-is-connected-requires Inv-loop μ-loop
-is-connected-requires c κs = search needs
+is-served-requires : tie.Need-is-served-requires Inv-loop μ-loop
+is-served-requires c κs = search needs
 
 element-copy-out-toggled-live : tie.Need-element-copy-out-toggled-live Inv-loop μ-loop
 element-copy-out-toggled-live c = inside (c .before .before .before .before)
@@ -88,7 +91,7 @@ compute-losses-estimate-requires c κs = search needs
 see-toggle-requires : tie.Need-see-toggle-requires Inv-loop μ-loop
 see-toggle-requires c κs =
     let goes = c .before .before .before .before .before .before .before .before .before in
-    (goes .before .before .before .before .before .before .pre .1, inside goes)
+    (goes .before .before .before .before .before .before .before .pre .1, inside goes)
 
 add-i : tie.Need-add-i Inv-loop μ-loop
 add-i c = search needs
@@ -99,11 +102,11 @@ loop-less c = search needs
 -- switch i, and the status of its branch
 here : (c : tie.After-wide162 Inv-loop μ-loop)
     → let loop = c .before .before .before in
-    let n = loop .before .before .before .before .before .args .t1 in
+    let n = loop .before .before .before .before .before .before .args .t1 in
     SwitchAt n (loop .loop .i) (getD (n .switches) (loop .loop .i) noSwitch) (getD (n .branches) (c .wide162 .result) pastBranch .status)
 here c =
     let goes = c .before .before in
-    let start = goes .before .before .before .before .before .before in
+    let start = goes .before .before .before .before .before .before .before in
     let n = start .args .t1 in
     switch-read n (start .pre .0 .0) (goes .before .loop .i) (listed goes) _ refl (length-of (branch.the-type .to) (n .branches) (start .good .0 .1 .1 .1 .0 .1 .0 .1)) _ (c .wide162 .ensures .0)
 
@@ -115,14 +118,14 @@ loop-again c =
     let asked = c .before in
     let read = asked .before in
     let loop = read .before .before .before in
-    let made = loop .before .before .before in
+    let made = loop .before .before .before .before in
     let start = made .before .before in
     let n = start .args .t1 in
     let y = start .args .search in
     let given = start .pre .0 in
     let i = loop .loop .i in
     let at = here read in
-    let connected = sym (asked .is-connected .ensures) in (
+    let served = sym (asked .is-served .ensures) in (
       omega arith,
       λ x s r.
           let so-far = loop .loop .inv .1 x s r in
@@ -130,18 +133,18 @@ loop-again c =
           seen-more _ _ _ _ _
           (⊎-elim
           (λ w.
-          let can = connected ∙ w .0 .taken in
+          let can = served ∙ w .0 .taken in
           let flags = w .2 .ensures ∙ toggled-flags n y x s (given .0) i _ _ at can _ (made .live-branches .ensures) _ (read .wide162 .ensures .0) in
           let radial = flags-radial n (sized start) (given .0) t _ _ (given .1) flags _ (w .3 .ensures) in
           let loss = flags-loss n (sized start) (given .0) t _ _ (given .1) flags _ _ (given .2) (w .5 .ensures .0) in
-          w .7 ∙ see-walked n y x s (given .0) i _ _ at _ _ so-far _ can (sym radial ∙ w .4 .taken) _ loss (w .6 .ensures))
+          w .7 ∙ see-served n y x s (given .0) i _ _ at _ _ so-far _ can (sym radial ∙ w .4 .taken) _ loss (w .6 .ensures))
           (⊎-elim
           (λ w.
-          let can = connected ∙ w .0 .taken in
+          let can = served ∙ w .0 .taken in
           let flags = w .2 .ensures ∙ toggled-flags n y x s (given .0) i _ _ at can _ (made .live-branches .ensures) _ (read .wide162 .ensures .0) in
           let radial = flags-radial n (sized start) (given .0) t _ _ (given .1) flags _ (w .3 .ensures) in
-          w .5 ∙ see-loops n y x s (given .0) i _ _ at _ _ so-far (sym radial ∙ w .4 .left))
-          (λ w. w .1 ∙ see-unconnected n y x s (given .0) i _ _ at _ _ so-far r (connected ∙ w .0 .left)))
+          w .5 ∙ see-not-radial n y x s (given .0) i _ _ at _ _ so-far (sym radial ∙ w .4 .left))
+          (λ w. w .1 ∙ see-not-served n y x s (given .0) i _ _ at _ _ so-far r (served ∙ w .0 .left)))
           (c .if1 .came)),
     )
 
@@ -149,26 +152,27 @@ returns : tie.Need-returns Inv-loop μ-loop
 unfolding bestMove
 returns c =
     let loop = c .before in
-    let start = loop .before .before .before .before .before in
+    let start = loop .before .before .before .before .before .before in
     let n = start .args .t1 in
     let all : loop .loop .i ≡ size (recordsOf n) = omega (arith, switches-listed n) in
     λ x s r. loop .loop .inv .1 x s r ∙ ap (λ m. candidateOf (start .args .search .configuration) (upTo (seeing (recordsOf n) x) none m)) all
 
-pub best-walked-spec : {M : Type 1} → statement M
-best-walked-spec =
+pub best-from-other-spec : {M : Type 1} → statement M
+best-from-other-spec =
     tie.close
     (tie.spec
     Inv-loop
     μ-loop
     live-branches-requires
     wide16-requires
+    no-candidate-requires
     loop-holds
     mul-switch
     element-copy-out-switch
     wide16-requires-2
-    mul-is-connected
-    element-copy-out-is-connected
-    is-connected-requires
+    mul-is-served
+    element-copy-out-is-served
+    is-served-requires
     element-copy-out-toggled-live
     toggled-live-requires
     is-radial-requires
