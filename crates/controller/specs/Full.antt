@@ -1,5 +1,5 @@
--- Demand 1's first sentence for the calls that take a text and states: a text of records inside the limits, with states of one byte 00 or 01 for each switch and room in the lent
--- slice, is answered in full. The calls on records, and the one that takes a text alone, are in `answers.specs.Full`.
+-- Demand 1's first sentence for the calls that take a text and states: a text of records inside the limits, with states of one byte 00 or 01 for each switch and room
+-- in the lent slice, is answered in full. The calls on records, and the one that takes a text alone, are in `answers.specs.Full`.
 use mathlib.Core.Path.{_≡_}
 use mathlib.Core.Bool.{true}
 use mathlib.Core.List.{List, _++_}

@@ -20,9 +20,9 @@ use Rattle.losses.specs.Loss.{walkLoad, downstream, termOf, totalOf, loss, loss
 use Rattle.plan.specs.Plan.{closings, opening, exchanged, pairsFrom, pairs, switchOn, plan, planText}
 use Rattle.plan.specs.Claim.{SwitchingPlan}
 use Rattle.states.specs.Switches.{swapped}
-use Rattle.exchange.specs.Exchange.{loopOf, sectionOf, swapWith, trial, improves, kept, roundOf, afterRound, exchange, exchangeBest}
+use Rattle.exchange.specs.Exchange.{loopOf, sectionOf, swapWith, trial, improves, improved, roundOf, afterRound, exchange, exchangeBest}
 use Rattle.searches.specs.Results.{reduction, resultBy}
-use Rattle.searches.specs.Rounds.{untilEnded}
+use Rattle.searches.specs.Rounds.{untilEnded, lastSome}
 use Rattle.reconfiguration.specs.Solve.{bestBy, best, result}
 use Rattle.reconfiguration.specs.AnswersHavePlans.{solve-has-plan}
 use Rattle.operations.specs.Operations.{operationTo, operations, operationsText}
@@ -33,7 +33,7 @@ triangle-printed : printed triangleText
     ++ (line 8 0x82000A00
     ++ (line 8 0x82000B01
     ++ line 10 0x83000B000A))
-unfolding printed networkText moveLines planLines operationLines resultText result resultBy reduction best bestBy exchangeBest exchange untilEnded afterRound roundOf kept improves trial swapWith sectionOf loopOf swapped operations operationTo operationsText plan planText pairs pairsFrom closings opening exchanged switchOn endsPath lossIn loss totalOf termOf downstream walkLoad radialIn feeder position radial bfsPath back across byOf walk walkBy turn enterAll enter reached neighbours far baseState live openOn those least firstSome firstOf indexOf _orElse_ count upTo table answerText operationText pairText frameText writeFields digits digit flatMap ofBits toBits add sub mul div lt le neg
+unfolding printed networkText moveLines planLines operationLines resultText result resultBy reduction best bestBy exchangeBest exchange untilEnded lastSome afterRound roundOf improved improves trial swapWith sectionOf loopOf swapped operations operationTo operationsText plan planText pairs pairsFrom closings opening exchanged switchOn endsPath lossIn loss totalOf termOf downstream walkLoad radialIn feeder position radial bfsPath back across byOf walk walkBy turn enterAll enter reached neighbours far baseState live openOn those least firstSome firstOf indexOf _orElse_ count upTo table answerText operationText pairText frameText writeFields digits digit flatMap ofBits toBits add sub mul div lt le neg
 triangle-printed = rw triangle-read
 
 -- "A refusal prints one line": `0G` is 1 at line 1

@@ -19,8 +19,8 @@ use Rattle.graph.specs.Walk.{far, neighbours, reached, enter, enterAll, turn, w
 use Rattle.graph.specs.Radial.{radial}
 use Rattle.radiality.specs.Feeder.{feeder, position, endsPath, radialIn}
 use Rattle.losses.specs.Loss.{walkLoad, downstream, termOf, totalOf, loss, lossIn}
-use Rattle.searches.specs.Rounds.{untilEnded, lesserBy}
-use Rattle.exchange.specs.Exchange.{loopOf, sectionOf, swapWith, trial, improves, kept, roundOf, afterRound, exchange, exchangeBest}
+use Rattle.searches.specs.Rounds.{untilEnded, lesserBy, lastSome}
+use Rattle.exchange.specs.Exchange.{loopOf, sectionOf, swapWith, trial, improves, improved, roundOf, afterRound, exchange, exchangeBest}
 use Rattle.tabu.specs.Tabu.{allowed, bestMove, lastSeven, afterMove, tabu, tabuBest}
 use Rattle.exhaustive.specs.Exhaustive.{masked, tryMask, exhaustive, leastOrBase, exhaustiveBest}
 use Rattle.reconfiguration.specs.Solve.{bestBy, best}
@@ -87,7 +87,7 @@ marked =
 
 -- document 01: "One proved table holds the marked (*) cases under one theorem"
 marked-cases : map reckoned marked ≡ map said marked
-unfolding best bestBy exchangeBest tabuBest exhaustiveBest exchange untilEnded afterRound roundOf kept improves trial swapWith sectionOf loopOf swapped tabu bestMove afterMove lastSeven lesserBy allowed among toggled exhaustive tryMask leastOrBase masked ties lossIn loss totalOf termOf downstream walkLoad radialIn endsPath feeder position radial bfsPath back across byOf walk walkBy turn enterAll enter reached neighbours far baseState live openOn those least firstSome firstOf indexOf _orElse_ count upTo table ofBits add sub mul div lt le
+unfolding best bestBy exchangeBest tabuBest exhaustiveBest exchange untilEnded lastSome afterRound roundOf improved improves trial swapWith sectionOf loopOf swapped tabu bestMove afterMove lastSeven lesserBy allowed among toggled exhaustive tryMask leastOrBase masked ties lossIn loss totalOf termOf downstream walkLoad radialIn endsPath feeder position radial bfsPath back across byOf walk walkBy turn enterAll enter reached neighbours far baseState live openOn those least firstSome firstOf indexOf _orElse_ count upTo table ofBits add sub mul div lt le
 marked-cases = refl
 
 -- Five buses in a row, 1 MW at each but the first, and three ties. In the first round, with 9.75 at its start, tie 5 improves to 8.75 and tie 6 to 9.5; tie 7's first
@@ -111,5 +111,5 @@ rounds =
     ∷ []
 
 round-cases : map reckoned rounds ≡ map said rounds
-unfolding best bestBy exchangeBest tabuBest exhaustiveBest exchange untilEnded afterRound roundOf kept improves trial swapWith sectionOf loopOf swapped tabu bestMove afterMove lastSeven lesserBy allowed among toggled exhaustive tryMask leastOrBase masked ties lossIn loss totalOf termOf downstream walkLoad radialIn endsPath feeder position radial bfsPath back across byOf walk walkBy turn enterAll enter reached neighbours far baseState live openOn those least firstSome firstOf indexOf _orElse_ count upTo table ofBits add sub mul div lt le
+unfolding best bestBy exchangeBest tabuBest exhaustiveBest exchange untilEnded lastSome afterRound roundOf improved improves trial swapWith sectionOf loopOf swapped tabu bestMove afterMove lastSeven lesserBy allowed among toggled exhaustive tryMask leastOrBase masked ties lossIn loss totalOf termOf downstream walkLoad radialIn endsPath feeder position radial bfsPath back across byOf walk walkBy turn enterAll enter reached neighbours far baseState live openOn those least firstSome firstOf indexOf _orElse_ count upTo table ofBits add sub mul div lt le
 round-cases = refl

@@ -6,7 +6,6 @@ use Prim.Native.Nat.{ℕ, suc}
 use lib.Dec.{eqb, ltb}
 use lib.Ieee.{Float, binary64, sub, lt}
 use Rattle.numbers.specs.Constants.{billionth}
-use Rattle.numbers.specs.UpTo.{upTo}
 use Rattle.numbers.specs.Choose.{least, firstSome}
 use Rattle.network.specs.Records.{Network}
 use Rattle.states.specs.Live.{live, baseState}
@@ -14,7 +13,7 @@ use Rattle.states.specs.Switches.{State, byte, branchOf, operable, size, isTie,
 use Rattle.radiality.specs.Feeder.{endsPath, radialIn}
 use Rattle.losses.specs.Loss.{lossIn}
 use Rattle.searches.specs.Results.{Best}
-use Rattle.searches.specs.Rounds.{untilEnded}
+use Rattle.searches.specs.Rounds.{untilEnded, lastSome}
 
 -- "the normally open, operable, still open switches"
 abbrev pub seen : Network → State → ℕ → Bool
@@ -41,18 +40,18 @@ trial N s tie = firstSome (λ k. swapWith N s tie (sectionOf N k)) (loopOf N s t
 unfoldable pub improves : Network → Float → State → Bool
 improves N current t = lt (lossIn N t) (sub binary64 current billionth)
 
--- a trial that improves takes the place of the one before: "The last improving tie wins the round"
-unfoldable pub kept : Network → Float → Option State → Option State → Option State
-kept N current best none = best
-kept N current best (some t) = cond (improves N current t) (some t) best
+-- a trial, if it improves
+unfoldable pub improved : Network → Float → Option State → Option State
+improved N current none = none
+improved N current (some t) = cond (improves N current t) (some t) none
 
--- a switch more in a round, with the state as the round found it
-abbrev pub seeing : Network → State → Float → Option State → ℕ → Option State
-seeing N s current best i = cond (seen N s i) (kept N current best (trial N s i)) best
+-- what the round finds at switch i, with the state as the round found it: the trial of a tie that it sees, if it improves
+abbrev pub improving : Network → State → Float → ℕ → Option State
+improving N s current i = cond (seen N s i) (improved N current (trial N s i)) none
 
--- a round "sees the normally open, operable, still open switches in list order"
+-- a round "sees the normally open, operable, still open switches in list order"; "The last improving tie wins the round"
 unfoldable pub roundOf : Network → State → Float → Option State
-roundOf N s current = upTo (seeing N s current) none (size N)
+roundOf N s current = lastSome (improving N s current) (size N)
 
 -- where the exchange stands after some rounds
 pub record Exchange : Type 0 where

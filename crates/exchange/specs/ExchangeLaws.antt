@@ -7,15 +7,15 @@ use lib.Dec.{eqb}
 use lib.Ieee.{Float}
 use borrow.Author.Tests.{not-true}
 use Rattle.numbers.specs.Tests.{both}
-use Rattle.numbers.specs.UpTo.{upTo-keeps}
 use Rattle.network.specs.Records.{Network}
 use Rattle.states.specs.Live.{baseState}
 use Rattle.states.specs.Switches.{State, byte, branchOf, operable, size, isTie, swapped}
 use Rattle.radiality.specs.Feeder.{radialIn}
 use Rattle.losses.specs.Loss.{lossIn}
-use Rattle.exchange.specs.Exchange.{seen, loopOf, sectionOf, swapWith, trial, improves, kept, roundOf, Exchange, afterRound, next, exchangeStart, exchange, exchangeBest}
+use Rattle.exchange.specs.Exchange.{seen, loopOf, sectionOf, swapWith, trial, improves, improved, improving, roundOf, Exchange, afterRound, next, exchangeStart, exchange, exchangeBest}
 use Rattle.numbers.specs.IfSome.{IfSome, cond-holds, firstSome-holds, least-passes}
 use Rattle.searches.specs.FromBase.{FromBase, from-base, swapped-from-base}
+use Rattle.searches.specs.LastLaws.{last-holds}
 use Rattle.searches.specs.RoundLaws.{until-keeps}
 use Rattle.searches.specs.Results.{SoundBest}
 
@@ -62,12 +62,12 @@ module _ (N : Network) where
 
     -- what a round finds is a swap
     pub round-swaps : (current : Float) → IfSome (Swap N s) (roundOf N s current)
-    unfolding roundOf kept
-    round-swaps current = upTo-keeps (λ m. IfSome (Swap N s)) _ none (size N) tt (λ i best l h. cond-holds (Swap N s) (seen N s i) _ best (λ e. one best (trial N s i) h (trial-swaps i l e)) h)
+    unfolding roundOf improved
+    round-swaps current = last-holds (improving N s current) (Swap N s) (size N) (λ i l. cond-holds (Swap N s) (seen N s i) _ none (λ e. one (trial N s i) (trial-swaps i l e)) tt)
       where
-        one : (best found : Option State) → IfSome (Swap N s) best → IfSome (Swap N s) found → IfSome (Swap N s) (kept N current best found)
-        one best none h w = h
-        one best (some t) h w = cond-holds (Swap N s) (improves N current t) (some t) best (λ e. w) h
+        one : (found : Option State) → IfSome (Swap N s) found → IfSome (Swap N s) (improved N current found)
+        one none w = tt
+        one (some t) w = cond-holds (Swap N s) (improves N current t) (some t) none (λ e. w) tt
 
   -- what holds of the base and is kept by each round holds at the end
   pub rounds-keep : (Q : Exchange → Type 0) → ((x : Exchange) → x .ended ≡ false → Q x → Q (next N x)) → Q (exchangeStart N) → Q (exchange N)

@@ -38,7 +38,7 @@ use Rattle.searches.specs.Given.{Held}
 use Rattle.states.specs.Listed.{switches-listed, switch-at}
 use Rattle.searches.specs.StateLaws.{byte-at}
 use Rattle.searches.specs.SwitchReads.{SwitchAt, own-switch, own-status}
-use Rattle.exchange.specs.Exchange.{seen, loopOf, sectionOf, swapWith, trial, improves, kept, seeing}
+use Rattle.exchange.specs.Exchange.{seen, loopOf, sectionOf, swapWith, trial, improves, improved, improving}
 use Rattle.numbers.specs.IfSome.{IfSome, firstSome-holds}
 use Rattle.exchange.specs.ExchangeValues.{sectionAt, sectionIn, sectionsOf, rowSwap, rowTrial, swapAt, trialOf}
 use Rattle.exchange.specs.ExchangeSwaps.{swapped-flags, swap-by-row, row-below}
@@ -213,19 +213,20 @@ seen-read n ok c i sw served at b e =
     ∙ sym e
 
 module _ (N : Network) (c : NetworkConfiguration) (s : State) (current : Float) (b : Option State) (best : Trial) (q : best ≡ trialOf N c b) (i : ℕ) where
-  pub see-unseen : seen N s i ≡ false → best ≡ trialOf N c (seeing N s current b i)
+  pub see-unseen : seen N s i ≡ false → best ≡ trialOf N c (improving N s current i orElse b)
+  unfolding _orElse_
   see-unseen f = rw f q
 
   module _ (t : seen N s i ≡ true) where
-    pub see-none : trial N s i ≡ none → best ≡ trialOf N c (seeing N s current b i)
-    unfolding kept
+    pub see-none : trial N s i ≡ none → best ≡ trialOf N c (improving N s current i orElse b)
+    unfolding improved _orElse_
     see-none e = rw (t, e) q
 
     pub see-tried : (u : State) → trial N s i ≡ some u → (loss : Float) → loss ≡ lossIn N u → (d : NetworkConfiguration) → d ≡ configurationOf u
-        → cond (lt loss (sub binary64 current billionth)) (record { found = true; configuration = d; loss = loss }) best ≡ trialOf N c (seeing N s current b i)
-    unfolding kept improves trialOf
+        → cond (lt loss (sub binary64 current billionth)) (record { found = true; configuration = d; loss = loss }) best ≡ trialOf N c (improving N s current i orElse b)
+    unfolding improved improves trialOf _orElse_
     see-tried u e loss l d p = rw (t, e, l, p) (go (lt (lossIn N u) (sub binary64 current billionth)))
       where
-        go : (better : Bool) → cond better (record { found = true; configuration = configurationOf u; loss = lossIn N u }) best ≡ trialOf N c (cond better (some u) b)
+        go : (better : Bool) → cond better (record { found = true; configuration = configurationOf u; loss = lossIn N u }) best ≡ trialOf N c (cond better (some u) none orElse b)
         go true = refl
         go false = q

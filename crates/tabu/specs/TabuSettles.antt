@@ -1,5 +1,5 @@
--- From a radial base the tabu search answers the base: a move leaves the live branches and so the loss, and that is not below the best ever. A fact for the reader: no proof uses
--- it.
+-- From a radial base the tabu search answers the base: a move leaves the live branches and so the loss, and that is not below the best ever.
+-- `tabu-of-radial` is a fact for the reader: no proof uses it.
 use mathlib.Core.Path.{_≡_, refl, sym, ap, _∙_}
 use mathlib.Core.Logic.{_⊎_, inl, inr}
 use mathlib.Core.Bool.{Bool, true, false, cond}

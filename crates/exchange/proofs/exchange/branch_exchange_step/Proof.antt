@@ -2,12 +2,12 @@
 -- the best before.
 use mathlib.Core.Path.{_≡_, refl, sym, ap, _∙_}
 use mathlib.Core.Logic.{⊎-elim}
-use mathlib.Core.Option.{none, some}
+use mathlib.Core.Option.{some}
 use Prim.Native.Nat.{_≤_, _<_, _-_}
 use native.Mathlib.Omega.{arith}
 use lib.ListN.{length, getD}
 use borrow.Author.Needs.{needs}
-use Rattle.numbers.specs.UpTo.{upTo, upTo-more}
+use Rattle.numbers.specs.UpTo.{upTo}
 use Rattle.network.specs.ReadLaws.{pastBranch, length-of}
 use Rattle.network.specs.Records.{noSwitch, recordsOf}
 use Rattle.network.proofs.branch.Branch as branch
@@ -20,7 +20,9 @@ use Rattle.searches.specs.StateLaws.{flags-listed, held-bytes, swapped-held}
 use Rattle.searches.specs.StateRows.{flags-loss}
 use Rattle.states.specs.Switches.{size, swapped}
 use Rattle.searches.specs.SwitchReads.{SwitchAt, on-branch, switch-read}
-use Rattle.exchange.specs.Exchange.{seeing, roundOf}
+use Rattle.searches.specs.LastLaws.{last-more}
+use Rattle.searches.specs.Rounds.{lastSome}
+use Rattle.exchange.specs.Exchange.{improving, roundOf}
 use Rattle.exchange.specs.ExchangeSwaps.{sections-long}
 use Rattle.exchange.specs.ExchangeTrials.{Tried, tie-tried, tried-flags, seen-read, see-unseen, see-none, see-tried}
 use Rattle.exchange.specs.ExchangeValues.{trialOf}
@@ -29,7 +31,7 @@ use Rattle.exchange.proofs.exchange.branch_exchange_step.Tie as tie
 
 abbrev Inv-loop : tie.InvT-loop
 Inv-loop graph loads configuration current network sections live state branches base-mva count best₀ i₀ best i =
-    (i ≤ count) × (best ≡ trialOf (recordsOf network) configuration (upTo (seeing (recordsOf network) (stateOf network configuration) current) none i))
+    (i ≤ count) × (best ≡ trialOf (recordsOf network) configuration (lastSome (improving (recordsOf network) (stateOf network configuration) current) i))
 
 abbrev μ-loop : tie.MeasureT-loop
 μ-loop graph loads configuration current network sections live state branches base-mva count best₀ i₀ best i = count - i
@@ -41,7 +43,7 @@ wide16-requires : tie.Need-wide16-requires Inv-loop μ-loop
 wide16-requires c κs = search needs
 
 loop-holds : tie.Need-loop-holds Inv-loop μ-loop
-unfolding upTo trialOf
+unfolding lastSome upTo trialOf
 loop-holds c = (omega arith, refl)
 
 mul-switch : tie.Need-mul-switch Inv-loop μ-loop
@@ -210,10 +212,10 @@ loop-again c =
     let s = stateOf n held in
     let current = start .args .current in
     let i = loop .loop .i in
-    let so-far = upTo (seeing N s current) none i in
+    let so-far = lastSome (improving N s current) i in
     let best = loop .loop .inv .1 in
     let seen = seen-read n ok held i _ _ (here read) _ (asked .is-seen .ensures) in
-    let more = ap (trialOf N held) (sym (upTo-more (seeing N s current) none i)) in (
+    let more = ap (trialOf N held) (sym (last-more (improving N s current) i)) in (
       omega arith,
       ⊎-elim
           (λ w.
@@ -238,7 +240,7 @@ returns c =
     let args = loop .before .before .before .before .before .args in
     let N = recordsOf (args .t1) in
     let all : loop .loop .i ≡ size N = omega (arith, switches-listed (args .t1)) in
-    loop .loop .inv .1 ∙ ap (λ m. trialOf N (args .configuration) (upTo (seeing N (stateOf (args .t1) (args .configuration)) (args .current)) none m)) all
+    loop .loop .inv .1 ∙ ap (λ m. trialOf N (args .configuration) (lastSome (improving N (stateOf (args .t1) (args .configuration)) (args .current)) m)) all
 
 pub branch-exchange-step-spec : {M : Type 1} → statement M
 branch-exchange-step-spec =
