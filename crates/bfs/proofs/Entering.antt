@@ -2,34 +2,22 @@
 use mathlib.Core.Path.{_≡_, refl, sym, ap, _∙_}
 use mathlib.Core.Bool.{Bool, true, false, cond, _||_, or-true}
 use mathlib.Core.List.{List, [], _∷_, _++_, map, map-append}
-use Prim.Native.Nat.{ℕ, suc, _+_, _-_, _<_, _≤_}
+use Prim.Native.Nat.{ℕ, suc, _+_, _<_, _≤_}
 use native.Mathlib.Decide.{ℕ-discrete}
 use native.Mathlib.Omega.{arith}
 use lib.Dec.{eqb}
-use lib.ListN.{length, getD, set, replicate, length-append, length-set, length-map, List·getD-append, List·getD-map}
-use lib.Seq.{getD-set-same, getD-set-other, set-append-seam, append-snoc}
+use lib.ListN.{length, getD, set, length-append, length-set, length-map, List·getD-map}
+use lib.Seq.{getD-set-same, getD-set-other}
 use Rattle.numbers.specs.Counts.{count, count-le, count-drop}
+use Rattle.numbers.specs.Arrays.{padded-more, getD-padded}
 use Rattle.graph.specs.Walk.{Visit, startAt, reached, enter}
 use Rattle.graph.specs.Visits.{reached-last, reached-before}
 use Rattle.graph.specs.Rows.{flag, filled}
 use Rattle.graph.specs.Walking.{Walking, enterLive}
 
--- an entry behind a list that fills an array
-pub filled-more : (l : List ℕ) (x i : ℕ) → i ≡ length l → i < 256 → set (filled l) i x ≡ filled (l ++ (x ∷ []))
-unfolding filled
-filled-more l x i e h =
-    let d : 256 - length l ≡ suc (256 - (length l + 1)) = omega arith in
-    rw (d, length-append, e, set-append-seam l 0 (replicate (256 - (length l + 1)) 0) x) (sym (append-snoc l x _))
-
--- an entry of the list
-pub filled-first : (l : List ℕ) (i : ℕ) → i < length l → getD (filled l) i 0 ≡ getD l i 0
-unfolding filled
-filled-first l i h = List·getD-append l _ 0 i h
-
 -- a visit's entry in an array
-pub filled-read : (f : Visit → ℕ) (o : List Visit) (i : ℕ) → f (startAt 0) ≡ 0 → i < length o → getD (filled (map f o)) i 0 ≡ f (getD o i (startAt 0))
-filled-read f o i z l =
-    filled-first (map f o) i (rw length-map l) ∙ ap (λ (d : ℕ). getD (map f o) i d) (sym z) ∙ List·getD-map f o i (startAt 0)
+pub filled-read : (f : Visit → ℕ) (o : List Visit) (i : ℕ) → f (startAt 0) ≡ 0 → getD (filled (map f o)) i 0 ≡ f (getD o i (startAt 0))
+filled-read f o i z = getD-padded 256 0 (map f o) i ∙ ap (λ (d : ℕ). getD (map f o) i d) (sym z) ∙ List·getD-map f o i (startAt 0)
 
 -- a walk in the arrays
 module _ {barred : ℕ} {o : List Visit} {seen : List Bool} {bus by : List ℕ} {n : ℕ} (w : Walking barred o seen bus by n) where
@@ -59,7 +47,7 @@ module _ {barred : ℕ} {o : List Visit} {seen : List Bool} {bus by : List ℕ} 
         }
       where
         column : (f : Visit → ℕ) (v : Visit) → set (filled (map f o)) n (f v) ≡ filled (map f o ++ (f v ∷ []))
-        column f v = filled-more (map f o) (f v) n (w .counted ∙ sym (length-map o f)) one-fits
+        column f v = padded-more 256 0 (map f o) (f v) n (w .counted ∙ sym (length-map o f)) one-fits
 
         mark : (y : ℕ) → y < 256 → (v : Visit) → v .bus ≡ x → Dec (y ≡ x) → getD (set seen x true) y false ≡ (eqb y barred || reached y (o ++ (v ∷ [])))
         mark y h v e (yes q) =

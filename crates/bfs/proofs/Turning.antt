@@ -13,7 +13,8 @@ use Rattle.numbers.specs.UpTo.{upTo, upTo-more, upTo-idle}
 use Rattle.graph.specs.declared.walks.Walk.{Walk}
 use Rattle.graph.specs.Walk.{Visit, startAt, reached, enterAll, turn, walkBy}
 use Rattle.numbers.specs.Counts.{count, count-drop}
-use Rattle.graph.specs.Rows.{flag, filled, walked}
+use Rattle.numbers.specs.Arrays.{padded}
+use Rattle.graph.specs.Rows.{flag, walked}
 use Rattle.graph.specs.Walking.{Walking}
 use Rattle.bfs.proofs.Entering.{few, one-more, filled-read}
 
@@ -30,7 +31,7 @@ module _ (clear : List Bool) (long : length clear ≡ 256) (off : (x : ℕ) → 
 
   -- the barred bus is marked, and none is reached
   none-walking : Walking barred [] bars (replicate 256 0) (replicate 256 0) 0
-  unfolding filled reached
+  unfolding padded reached
   none-walking =
       record {
         counted = refl;
@@ -50,7 +51,7 @@ module _ (clear : List Bool) (long : length clear ≡ 256) (off : (x : ℕ) → 
 
   -- the start is marked and reached, also where it is the barred bus
   start-walking : (start : ℕ) → start < 256 → Walking barred (startAt start ∷ []) (set bars start true) (set (replicate 256 0) 0 start) (replicate 256 0) 1
-  unfolding filled reached
+  unfolding padded reached
   start-walking start h = go (ℕ-discrete start barred)
     where
       twice : (t : Bool) → (t || false) ≡ (t || (t || false))
@@ -94,17 +95,15 @@ module _ (neighbours : ℕ → List Visit) (start barred : ℕ) where
     pub turned-few : n ≤ 256
     turned-few = few (t .walking)
 
-    bus-read : h < n → getD bus h 0 ≡ getD (visits h) h (startAt 0) .bus
-    bus-read l =
-        let w = t .walking in
-        rw (w .buses) (filled-read (λ v. v .bus) (visits h) h refl (omega (arith, w .counted)))
+    bus-read : getD bus h 0 ≡ getD (visits h) h (startAt 0) .bus
+    bus-read = rw (t .walking .buses) (filled-read (λ v. v .bus) (visits h) h refl)
 
     pub one-turned : {seen′ : List Bool} {bus′ by′ : List ℕ} {n′ : ℕ} (at u : ℕ) → at ≡ h → u ≡ getD bus at 0 → h < n
         → (Walking barred (visits h) seen bus by n → Walking barred (enterAll barred (visits h) (neighbours u)) seen′ bus′ by′ n′)
         → Turning seen′ bus′ by′ n′ (h + 1)
     unfolding turn
     one-turned at u p q l step =
-        let b : u ≡ getD (visits h) h (startAt 0) .bus = q ∙ rw p (bus-read l) in
+        let b : u ≡ getD (visits h) h (startAt 0) .bus = q ∙ rw p bus-read in
         let m : h < length (visits h) = omega (arith, t .walking .counted) in
         record {
           walking = rw (upTo-more (turn neighbours barred) (startAt start ∷ []) h, lt-ltb h (length (visits h)) m, ← b)

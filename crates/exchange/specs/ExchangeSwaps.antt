@@ -24,13 +24,13 @@ use Rattle.network.specs.Positions.{one-on-branch}
 use Rattle.graph.specs.declared.rows.Graph.{Graph}
 use Rattle.radiality.specs.Feeder.{radialIn}
 use Rattle.radiality.specs.FeederRows.{feederGraph, liveFlags}
+use Rattle.radiality.specs.FeederRowLaws.{flags-radial}
 use Rattle.graph.specs.Rows.{rowRadial}
 use Rattle.states.specs.Switches.{State, byte, branchOf, operable, size, isTie, swapped, inService}
 use Rattle.searches.specs.States.{stateOf}
 use Rattle.searches.specs.Given.{Held}
 use Rattle.states.specs.Listed.{switches-listed, few-switches}
 use Rattle.searches.specs.StateLaws.{byte-at, held-long}
-use Rattle.searches.specs.StateRows.{flags-radial}
 use Rattle.searches.specs.LiveFlags.{on-flagged, flags-opened, flags-closed}
 use Rattle.exchange.specs.Exchange.{sectionOf, swapWith}
 use Rattle.numbers.specs.IfSome.{IfSome, cond-holds, least-passes}

@@ -3,14 +3,15 @@ use mathlib.Core.Path.{_≡_, refl, sym, ap, _∙_, fun-ext}
 use mathlib.Core.Bool.{Bool, true, false, cond, _&&_}
 use mathlib.Core.List.{List, [], _∷_}
 use mathlib.Core.Option.{Option, none, some}
-use Prim.Native.Nat.{ℕ, _+_, _-_, _≤_, _<_}
+use Prim.Native.Nat.{ℕ, _+_, _≤_, _<_}
 use native.Mathlib.Decide.{decLt}
 use native.Mathlib.Omega.{arith}
 use lib.Dec.{eqb, ltb}
 use lib.Ieee.{Float, binary64, sub, lt}
-use lib.ListN.{length, getD, take, drop, set, replicate, length-take, List·getD-eq-default}
-use lib.Seq.{getD-take, take-append-seam}
+use lib.ListN.{length, getD, take, drop, set, length-take, List·getD-eq-default}
+use lib.Seq.{getD-take}
 use borrow.Author.Tests.{lt-ltb, le-ltb, ltb-true, eq-eqb, ne-eqb}
+use Rattle.numbers.specs.Arrays.{padded-front}
 use Rattle.numbers.specs.Constants.{billionth}
 use Rattle.numbers.specs.Choose.{firstSome, _orElse_}
 use Rattle.states.specs.declared.configuration.NetworkConfiguration.{NetworkConfiguration}
@@ -24,7 +25,7 @@ use Rattle.network.specs.InsideLaws.{check-inside}
 use Rattle.network.specs.Positions.{on-a-branch}
 use Rattle.graph.specs.declared.rows.Graph.{Graph}
 use Rattle.graph.specs.declared.walks.Path.{Path}
-use Rattle.graph.specs.Rows.{filled, pathOf, rowEndsPath, rowRadial}
+use Rattle.graph.specs.Rows.{pathOf, rowEndsPath, rowRadial}
 use Rattle.radiality.specs.Feeder.{feeder}
 use Rattle.radiality.specs.FeederRows.{feederGraph, liveFlags}
 use Rattle.radiality.specs.FeederRowLaws.{live-row-ends-path}
@@ -130,8 +131,8 @@ module _ (f : ℕ → Option ℕ) (array : List ℕ) (count i : ℕ) (section : 
 
 -- ---- a path as the code holds it
 pub path-list : (l : List ℕ) (p : Path) → p ≡ pathOf l → take (p .count) (p .branch) ≡ l
-unfolding pathOf filled
-path-list l p e = rw e (take-append-seam l (replicate (256 - length l) 0))
+unfolding pathOf
+path-list l p e = rw e (padded-front 256 0 l)
 
 -- ---- the trial of a tie by the rows
 first-swapped : (s : State) (tie : ℕ) (f : ℕ → Option ℕ) (l : List ℕ) → firstSome (λ k. swapAt s tie (f k)) l ≡ swapAt s tie (firstSome f l)

@@ -4,13 +4,14 @@ use mathlib.Core.List.{List}
 use Prim.Native.Nat.{ℕ, _≤_}
 use native.Mathlib.Omega.{arith}
 use lib.ListN.{length, length-append, length-map, length-replicate}
+use Rattle.numbers.specs.Arrays.{padded}
 use Rattle.graph.specs.declared.walks.Path.{Path}
 use Rattle.graph.specs.declared.walks.Walk.{Walk}
 use Rattle.graph.specs.Walk.{Visit}
 use Rattle.graph.specs.Rows.{filled, walked, pathOf}
 
 filled-few : (l : List ℕ) → length (filled l) ≡ 256 → length l ≤ 256
-unfolding filled
+unfolding padded
 filled-few l e = omega (arith, simp (length-append, length-replicate) at e)
 
 pub walked-few : (w : Walk) (o : List Visit) → w ≡ walked o → length (w .bus) ≡ 256 → w .count ≤ 256

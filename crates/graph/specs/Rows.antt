@@ -2,12 +2,13 @@
 -- RowsNeighbours and RowsWalk show that these are document 01's.
 -- Half-branch 2k is branch k at its from bus, half-branch 2k + 1 is branch k at its to bus. 1024 is none.
 use mathlib.Core.Bool.{Bool, true, false, cond}
-use mathlib.Core.List.{List, [], _∷_, _++_, map}
+use mathlib.Core.List.{List, [], _∷_, map}
 use Prim.Native.Nat.{ℕ, zero, suc, _+_, _*_, _-_, _/_, _%_}
 use lib.Dec.{eqb, ltb}
 use lib.ListN.{length, getD, set, replicate}
 use Rattle.numbers.specs.UpTo.{upTo, table}
 use Rattle.numbers.specs.Counts.{count}
+use Rattle.numbers.specs.Arrays.{padded}
 use Rattle.graph.specs.declared.rows.Graph.{Graph}
 use Rattle.graph.specs.declared.walks.Walk.{Walk}
 use Rattle.graph.specs.declared.walks.Path.{Path}
@@ -24,8 +25,8 @@ abbrev pub netOf : ℕ → ℕ → List ℕ → List ℕ → Net
 netOf n m from to = record { buses = n; branches = m; from = λ k. getD from k 0; to = λ k. getD to k 0 }
 
 -- an array of 256 that begins with the list and is 0 behind it
-unfoldable pub filled : List ℕ → List ℕ
-filled l = l ++ replicate (256 - length l) 0
+abbrev pub filled : List ℕ → List ℕ
+filled l = padded 256 0 l
 
 -- the answer that holds these visits
 unfoldable pub walked : List Visit → Walk

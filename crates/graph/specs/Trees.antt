@@ -59,7 +59,7 @@ module _ {N : Net} {S : Branches} (t : Tree N S) {e f : ℕ} (new : ¬ S e) {l :
       go (no n) = absurd (tree-forest t f (on-chain (p .0) m) (r, chain-more old (chain-without c n)))
 
 -- no tree is a part of another: branches that connect all buses are all the branches of a set without a loop that has them
-pub part-is-whole : {N : Net} {S R : Branches} → Connected N S → ¬ Loop N R → S ⊆ R
+part-is-whole : {N : Net} {S R : Branches} → Connected N S → ¬ Loop N R → S ⊆ R
     → ((k : ℕ) → R k → (N .from k < N .buses) × (N .to k < N .buses)) → ((k : ℕ) → Dec (S k)) → R ⊆ S
 unfolding Connected
 part-is-whole {N} {S} {R} h n w ends dec k r = go (dec k)

@@ -1,16 +1,15 @@
 -- Buses listed one by one, and entered from their list: from the stores of the code to the lists.
-use mathlib.Core.Path.{_≡_, refl, sym, ap, _∙_}
+use mathlib.Core.Path.{_≡_, refl, sym, _∙_}
 use mathlib.Core.Bool.{Bool, true, false, cond}
 use mathlib.Core.List.{List, [], _∷_, _++_, append-nil, append-assoc}
 use Prim.Native.Nat.{ℕ, zero, suc, _+_, _-_, _/_, _<_, _≤_, min}
-use native.Mathlib.Decide.{ℕ-discrete}
 use native.Mathlib.Omega.{arith}
 use borrow.Author.Tests.{le-ltb}
 use lib.Dec.{ltb}
-use lib.ListN.{length, getD, set, replicate, length-append, length-set}
-use lib.Seq.{getD-set-same, getD-set-other, getD-append-seam}
+use lib.ListN.{getD, set, replicate, length-append}
 use Rattle.numbers.specs.UpTo.{upTo, table}
-use Rattle.numbers.specs.TableLaws.{length-table, getD-table, table-more, as-table, table-cong, replicate-table, filled, filled-more}
+use Rattle.numbers.specs.Arrays.{beside, array-more}
+use Rattle.numbers.specs.TableLaws.{table-more, table-cong, replicate-table, filled, filled-more}
 use Rattle.graph.specs.declared.rows.Graph.{Graph}
 use Rattle.graph.specs.Walk.{Visit, enter, enterAll}
 use Rattle.graph.specs.Visits.{visit, busesOf}
@@ -18,17 +17,10 @@ use Rattle.graph.specs.Rows.{rowFrom, leads, rowLeads}
 use Rattle.bfs.proofs.Along.{along, Along, one-along}
 use Rattle.bfs.proofs.Along as Along
 use Rattle.lists.specs.declared.lists.LiveLists.{LiveLists}
-use Rattle.lists.specs.Lists.{listsTo, arrayOf, listStart, listsOf, liveLists, listFrom, listed, listLive, Listing, Reaching}
+use Rattle.lists.specs.Lists.{listsTo, listStart, listsOf, liveLists, listFrom, listed, listLive, Listing, Reaching}
 use Rattle.lists.specs.ListLaws.{lists-more}
 
 -- ---- one bus
--- an entry behind the list does not change those before it
-before : (l : List ℕ) (x i : ℕ) → (i ≡ length l → ⊥) → getD l i 0 ≡ getD (l ++ (x ∷ [])) i 0
-before [] x zero d = absurd (d refl)
-before [] x (suc i) d = refl
-before (y ∷ l) x zero d = refl
-before (y ∷ l) x (suc i) d = before l x i (λ e. d (ap suc e))
-
 module _ (live : Bool) (x : ℕ) {near : List ℕ} {end : ℕ} where
   pub dead-stays : live ≡ false → (l : List ℕ) → Listing l near end → Listing (listLive live l x) near end
   unfolding listLive
@@ -41,7 +33,7 @@ module _ (live : Bool) (x : ℕ) {near : List ℕ} {end : ℕ} where
       rw e
       record {
         ends = rw length-append (omega (arith, w .ends));
-        entries = w .entries ∙ table-cong _ _ 1024 (λ i k. before l x i (omega (arith, w .ends)));
+        entries = w .entries ∙ table-cong _ _ 1024 (λ i k. beside 0 l x i (omega (arith, w .ends)));
       }
 
   pub one-listed : (at : ℕ) → at ≡ end → live ≡ true → end < 1024 → (l : List ℕ) → Listing l near end → Listing (listLive live l x) (set near at x) (end + 1)
@@ -50,15 +42,8 @@ module _ (live : Bool) (x : ℕ) {near : List ℕ} {end : ℕ} where
       rw (e, a)
       record {
         ends = rw length-append (omega (arith, w .ends));
-        entries = rw (w .entries) (as-table _ 1024 0 (set (arrayOf l) end x) (length-set (arrayOf l) end x ∙ length-table _ 1024) (λ i k. entry i k (ℕ-discrete i end)));
+        entries = rw (w .entries) (array-more 1024 0 l x end (omega (arith, w .ends)) h);
       }
-    where
-      entry : (i : ℕ) → i < 1024 → Dec (i ≡ end) → getD (set (arrayOf l) end x) i 0 ≡ getD (l ++ (x ∷ [])) i 0
-      entry i k (yes q) =
-          let long : end < length (arrayOf l) = rw (length-table (λ i. getD l i 0) 1024) h in
-          let last : end ≡ length l = omega (arith, w .ends) in
-          rw q (getD-set-same (arrayOf l) end x 0 long ∙ rw last (sym (getD-append-seam l x [] 0)))
-      entry i k (no d) = getD-set-other (arrayOf l) end i x 0 d ∙ getD-table _ 1024 i 0 k ∙ before l x i (λ q. d (q ∙ omega (arith, w .ends)))
 
 -- ---- a row
 module _ (far : List ℕ) (live : List Bool) where

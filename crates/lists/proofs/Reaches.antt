@@ -77,7 +77,7 @@ module _ (next : ℕ → List Visit) (start barred : ℕ) where
         let o = walkBy next start barred in
         let w = all-reached b in
         let end : h ≡ length o = omega (arith, w .0) in
-        e ∙ rw end (upTo-cong _ _ zero64 (length o) (λ s i l. rw (w .1, filled-read (λ v. v .bus) o i refl l)))
+        e ∙ rw end (upTo-cong _ _ zero64 (length o) (λ s i l. rw (w .1, filled-read (λ v. v .bus) o i refl)))
 
 -- ---- a turn leaves the buses before it where they are
 module _ (barred : ℕ) where
@@ -108,7 +108,7 @@ module _ (barred : ℕ) where
       let longer : length o ≤ length (enterAll barred o vs) = e .0 in (
         omega arith,
         λ i l.
-            rw (w .walking .buses, w′ .walking .buses, filled-read (λ v. v .bus) (enterAll barred o vs) i refl (omega arith), filled-read (λ v. v .bus) o i refl (omega arith), e .1 i (omega arith)),
+            rw (w .walking .buses, w′ .walking .buses, filled-read (λ v. v .bus) (enterAll barred o vs) i refl, filled-read (λ v. v .bus) o i refl, e .1 i (omega arith)),
       )
 
 pub load-more : (mw : List Float) (bus bus′ : List ℕ) (h u : ℕ) (t : Float) → t ≡ arrayLoad mw bus h → u ≡ getD bus h 0 → ((i : ℕ) → i < h + 1 → getD bus′ i 0 ≡ getD bus i 0)

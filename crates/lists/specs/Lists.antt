@@ -9,6 +9,7 @@ use lib.ListN.{length, getD}
 use Rattle.numbers.specs.Constants.{zero64}
 use Rattle.numbers.specs.UpTo.{upTo, table}
 use Rattle.numbers.specs.TableLaws as tables
+use Rattle.numbers.specs.Arrays.{arrayOf}
 use Rattle.graph.specs.declared.rows.Graph.{Graph}
 use Rattle.graph.specs.Walk.{Visit, startAt}
 use Rattle.graph.specs.Walking.{Walking}
@@ -20,17 +21,13 @@ use Rattle.lists.specs.declared.lists.LiveLists.{LiveLists}
 unfoldable pub listsTo : (ℕ → List ℕ) → ℕ → List ℕ
 listsTo near n = upTo (λ l u. l ++ near u) [] n
 
--- an array of 1,024 that begins with the list, as far as it has room, and is 0 behind it
-abbrev pub arrayOf : List ℕ → List ℕ
-arrayOf l = table (λ i. getD l i 0) 1024
-
 -- where the list of bus u begins; 1,024 where there is no room for it
 unfoldable pub listStart : (ℕ → List ℕ) → ℕ → ℕ
 listStart near u = min (length (listsTo near u)) 1024
 
 -- the lists of n buses, as far as 1,024 entries have room for them. The list of bus u ends where that of bus u + 1 begins
 unfoldable pub listsOf : (ℕ → List ℕ) → ℕ → LiveLists
-listsOf near n = record { at = tables.filled (listStart near) 0 257 (n + 1); near = arrayOf (listsTo near n) }
+listsOf near n = record { at = tables.filled (listStart near) 0 257 (n + 1); near = arrayOf 1024 0 (listsTo near n) }
 
 -- the lists of a graph's buses, read off its rows
 unfoldable pub liveLists : Graph → List Bool → LiveLists
@@ -59,7 +56,7 @@ listLive live l x = cond live (l ++ (x ∷ [])) l
 -- what the array holds in the middle of the listing
 pub record Listing (l near : List ℕ) (end : ℕ) : Type 0 where
   pub ends : end ≡ min (length l) 1024
-  pub entries : near ≡ arrayOf l
+  pub entries : near ≡ arrayOf 1024 0 l
 
 -- what the arrays hold in the middle of a walk: no array has the branches
 pub record Reaching (barred : ℕ) (o : List Visit) (seen : List Bool) (bus : List ℕ) (n : ℕ) : Type 0 where

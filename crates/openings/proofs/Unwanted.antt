@@ -5,11 +5,12 @@ use mathlib.Core.List.{List, _∷_}
 use Prim.Native.Nat.{ℕ, _+_, _≤_, _<_}
 use native.Mathlib.Numerals.{add-one}
 use native.Mathlib.Omega.{arith}
-use lib.ListN.{length, getD, drop, drop-of-length-le, List·getD-append}
+use lib.ListN.{length, getD, drop, drop-of-length-le}
 use lib.Seq.{drop-cons}
+use Rattle.numbers.specs.Arrays.{getD-padded}
 use Rattle.numbers.specs.Choose.{firstOf}
 use Rattle.graph.specs.declared.walks.Path.{Path}
-use Rattle.graph.specs.Rows.{flag, filled, pathOf}
+use Rattle.graph.specs.Rows.{flag, pathOf}
 use Rattle.openings.specs.Opening.{firstUnwanted}
 
 module _ (path : Path) (wanted : List Bool) where
@@ -27,10 +28,10 @@ module _ (path : Path) (wanted : List Bool) where
 
     module _ (h : i < path .count) (at : ℕ) (here : at ≡ i) (b : Bool) (f : b ≡ flag wanted (getD (path .branch) at 0)) where
       next-branch : (l : List ℕ) → path ≡ pathOf l → drop i l ≡ getD (path .branch) at 0 ∷ drop (i + 1) l
-      unfolding pathOf filled
+      unfolding pathOf
       next-branch l e =
           let k : i < length l = omega (arith, ap (λ (p : Path). p .count) e) in
-          let r : getD (path .branch) i 0 ≡ getD l i 0 = ap (λ (p : Path). getD (p .branch) i 0) e ∙ List·getD-append l _ 0 i k in
+          let r : getD (path .branch) i 0 ≡ getD l i 0 = ap (λ (p : Path). getD (p .branch) i 0) e ∙ getD-padded 256 0 l i in
           rw (here, drop-cons l i 0 k, add-one, r)
 
       pub one-wanted : b ≡ true → Wanted (i + 1)

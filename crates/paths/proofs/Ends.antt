@@ -6,11 +6,12 @@ use Prim.Native.Nat.{ℕ, zero, suc, _+_, _*_, _≤_}
 use native.Mathlib.Omega.{arith}
 use lib.ListN.{length, getD, replicate, List·getD-eq-default}
 use borrow.Author.Tests.{eq-eqb}
+use Rattle.numbers.specs.Arrays.{padded}
 use Rattle.graph.specs.declared.walks.Path.{Path}
 use Rattle.graph.specs.declared.rows.Graph.{Graph}
 use Rattle.graph.specs.Graph.{Net}
 use Rattle.graph.specs.Walk.{Visit, walkBy, reached, back}
-use Rattle.graph.specs.Rows.{filled, pathOf, rowNeighbours, rowNet, rowPath, rowEndsPath}
+use Rattle.graph.specs.Rows.{pathOf, rowNeighbours, rowNet, rowPath, rowEndsPath}
 
 back-own : (N : Net) (o : List Visit) (a n : ℕ) → back N o a n a ≡ []
 unfolding back
@@ -29,7 +30,7 @@ path-own graph live a =
 
 pub ends-beyond : (graph : Graph) (live : List Bool) (k : ℕ) → length (graph .far) ≡ 1024 → 512 ≤ k
     → _≡_ {A = Path} (record { count = 0; branch = replicate 256 0 }) (pathOf (rowEndsPath graph live k))
-unfolding pathOf filled
+unfolding pathOf padded
 ends-beyond graph live k e h =
     let from : getD (graph .far) (2 * k + 1) 0 ≡ 0 = List·getD-eq-default (graph .far) 0 {n = 2 * k + 1} (omega (arith, e)) in
     let to : getD (graph .far) (2 * k) 0 ≡ 0 = List·getD-eq-default (graph .far) 0 {n = 2 * k} (omega (arith, e)) in

@@ -9,13 +9,13 @@ use lib.Dec.{eqb}
 use lib.ListN.{length, getD, set, drop, replicate, length-append, length-drop, length-reverse, List·getD-eq-default}
 use lib.Seq.{drop-cons, drop-length, append-snoc}
 use borrow.Author.Tests.{eq-eqb, ne-eqb}
+use Rattle.numbers.specs.Arrays.{padded, padded-more, getD-padded}
 use Rattle.graph.specs.declared.rows.Graph.{Graph}
 use Rattle.graph.specs.declared.walks.Path.{Path}
 use Rattle.graph.specs.Graph.{Net}
 use Rattle.graph.specs.Walk.{Visit, reached, walkBy, byOf, across, back}
 use Rattle.graph.specs.Rows.{filled, rowNeighbours, farNet, rowNet, acrossFar, rowPath, pathOf}
 use Rattle.graph.specs.Walking.{WayOf}
-use Rattle.bfs.proofs.Entering.{filled-more, filled-first}
 
 -- the other end
 module _ (far : List ℕ) (k u : ℕ) where
@@ -53,7 +53,7 @@ module _ (far by : List ℕ) (start b : ℕ) where
     pub led : (n m : ℕ) (o : List Visit) → ((x : ℕ) → x < 256 → getD by x 0 ≡ byOf x o) → Led (farNet n m far) o branch at i
 
   pub none-led : Leading (replicate 256 0) b 0
-  unfolding filled
+  unfolding padded
   none-led = record { within = omega arith; led = λ n m o w. record { so-far = []; stored = refl; counted = refl; rest = refl } }
 
   module _ {branch : List ℕ} {at i : ℕ} (l : Leading branch at i) where
@@ -71,7 +71,7 @@ module _ (far by : List ℕ) (start b : ℕ) where
               let c = d .counted in
               record {
                 so-far = d .so-far ++ (byOf at o ∷ []);
-                stored = rw (d .stored, q, k) (filled-more (d .so-far) (byOf at o) i c h);
+                stored = rw (d .stored, q, k) (padded-more 256 0 (d .so-far) (byOf at o) i c h);
                 counted = rw length-append (omega arith);
                 rest = append-snoc (d .so-far) (byOf at o) _ ∙ rw (e, k) r;
               };
@@ -103,7 +103,7 @@ module _ (list : Path) where
     pub so-far : (l : List ℕ) → list ≡ pathOf l → branch ≡ filled (reverse (drop (length l - i) l))
 
   pub none-turned : Turned (replicate 256 0) 0
-  unfolding filled
+  unfolding padded
   none-turned = record { within = omega arith; so-far = λ l e. rw (sub-zero, drop-length) }
 
   module _ {branch : List ℕ} (i : ℕ) (t : Turned branch i) where
@@ -119,8 +119,8 @@ module _ (list : Path) where
               let s : suc at ≡ length l - i = omega arith in
               let d = drop (length l - i) l in
               let m : length (reverse d) ≡ i = length-reverse d ∙ length-drop (length l - i) l ∙ omega arith in
-              let x : getD (list .branch) at 0 ≡ getD l at 0 = ap (λ (x : Path). getD (x .branch) at 0) e ∙ filled-first l at k in
-              rw (← j, drop-cons l at 0 k, s, reverse-cons, x, t .so-far l e, p) (filled-more (reverse d) (getD l at 0) i (sym m) (omega arith));
+              let x : getD (list .branch) at 0 ≡ getD l at 0 = ap (λ (x : Path). getD (x .branch) at 0) e ∙ getD-padded 256 0 l at in
+              rw (← j, drop-cons l at 0 k, s, reverse-cons, x, t .so-far l e, p) (padded-more 256 0 (reverse d) (getD l at 0) i (sym m) (omega arith));
         }
 
     pub all-turned : list .count ≤ i → (l : List ℕ) → list ≡ pathOf l → _≡_ {A = Path} (record { count = list .count; branch = branch }) (pathOf (reverse l))
@@ -142,7 +142,7 @@ module _ (g : Graph) (live : List Bool) (a b at : ℕ) (same : at ≡ b) (small 
       rw h e
 
   pub path-none : getD reach at false ≡ false → _≡_ {A = Path} (record { count = 0; branch = replicate 256 0 }) (pathOf (rowPath g live a b))
-  unfolding rowPath pathOf filled
+  unfolding rowPath pathOf padded
   path-none t =
       let h : reached b (walkBy (rowNeighbours g live) a a) ≡ false = rw (← same) (sym (w .reaches at small) ∙ t) in
       rw h

@@ -67,8 +67,8 @@ module _ (walk : Walk) where
               let k : at < length o = omega arith in
               let s : suc at ≡ length o - i = omega arith in
               let v = getD o at (startAt 0) in
-              let b : x ≡ v .bus = q ∙ ap (λ (w : Walk). getD (w .bus) at 0) e ∙ filled-read (λ v. v .bus) o at refl k in
-              let f : getD (walk .by) at 0 ≡ v .by = ap (λ (w : Walk). getD (w .by) at 0) e ∙ filled-read (λ v. v .by) o at refl k in
+              let b : x ≡ v .bus = q ∙ ap (λ (w : Walk). getD (w .bus) at 0) e ∙ filled-read (λ v. v .bus) o at refl in
+              let f : getD (walk .by) at 0 ≡ v .by = ap (λ (w : Walk). getD (w .by) at 0) e ∙ filled-read (λ v. v .by) o at refl in
               rw (← j, drop-cons o at (startAt 0) k, s, b, f) (one-way v (drop (length o - i) o) reach by (n .flags) (n .entries) (rw b at small) (n .last o e));
         }
 

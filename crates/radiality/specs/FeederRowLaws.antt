@@ -178,7 +178,7 @@ module _ (n : PowerNetwork) (sized : length (n .buses) ≡ 256) where
       live-flags : flag (liveFlags (recordsOf n) s) ≡ live (recordsOf n) s
       live-flags = flags-live (recordsOf n) s (inside .counts .1)
 
-      pub live-row-radial : rowRadial (feederGraph n) (liveFlags (recordsOf n) s) ≡ radialIn (recordsOf n) s
+      live-row-radial : rowRadial (feederGraph n) (liveFlags (recordsOf n) s) ≡ radialIn (recordsOf n) s
       unfolding radialIn
       live-row-radial = feeder-row-radial _ live-short ∙ ap (radial (feeder (recordsOf n))) live-flags
 

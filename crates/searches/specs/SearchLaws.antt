@@ -20,14 +20,13 @@ use Rattle.printing.specs.CallLaws.{call-accepted}
 use Rattle.slices.specs.Written.{written}
 use Rattle.radiality.specs.Feeder.{radialIn}
 use Rattle.radiality.specs.FeederRows.{liveFlags}
-use Rattle.radiality.specs.FeederRowLaws.{state-flags}
+use Rattle.radiality.specs.FeederRowLaws.{state-flags, flags-radial}
 use Rattle.searches.specs.declared.answer.Found.{Found}
 use Rattle.searches.specs.declared.start.Start.{Start}
 use Rattle.searches.specs.Results.{Best, SoundBest, resultBy, solvedBy}
 use Rattle.searches.specs.SearchValues.{startOf, foundOf, answerWith}
 use Rattle.searches.specs.StartLaws.{start-base}
 use Rattle.searches.specs.StateLaws.{state-held}
-use Rattle.searches.specs.StateRows.{flags-radial}
 use Rattle.searches.specs.States.{stateOf}
 
 -- a call that is accepted has a checked network

@@ -9,12 +9,12 @@ use Rattle.states.specs.Listed.{state-accepted}
 use Rattle.states.specs.Live.{baseState}
 use Rattle.radiality.specs.Feeder.{radialIn}
 use Rattle.radiality.specs.FeederRows.{liveFlags}
-use Rattle.radiality.specs.FeederRowLaws.{state-flags}
+use Rattle.radiality.specs.FeederRowLaws.{state-flags, flags-radial}
 use Rattle.searches.specs.declared.start.Start.{Start}
 use Rattle.searches.specs.FromBase.{base-good}
 use Rattle.searches.specs.Given.{Given, Base}
 use Rattle.searches.specs.SearchValues.{startOf}
-use Rattle.searches.specs.StateRows.{flags-radial, flags-loss}
+use Rattle.searches.specs.StateRows.{flags-loss}
 
 module _ (n : PowerNetwork) (sized : length (n .buses) ≡ 256) (ok : checkRecords (recordsOf n) ≡ accepted tt) {start : Start} (e : start ≡ startOf n) where
   abbrev N : Network

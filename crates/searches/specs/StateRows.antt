@@ -1,4 +1,4 @@
--- Radiality and loss of a state, by the rows of its feeder and the flags of its live branches.
+-- The loss of a state, by the rows of its feeder and the flags of its live branches.
 use mathlib.Core.Path.{_≡_, _∙_}
 use mathlib.Core.Bool.{Bool}
 use mathlib.Core.List.{List}
@@ -10,10 +10,8 @@ use Rattle.network.specs.Records.{recordsOf}
 use Rattle.network.specs.Answers.{accepted}
 use Rattle.network.specs.Check.{checkRecords}
 use Rattle.graph.specs.declared.rows.Graph.{Graph}
-use Rattle.radiality.specs.Feeder.{radialIn}
-use Rattle.graph.specs.Rows.{rowRadial}
 use Rattle.radiality.specs.FeederRows.{feederGraph, liveFlags}
-use Rattle.radiality.specs.FeederRowLaws.{live-row-radial}
+pub use Rattle.radiality.specs.FeederRowLaws.{flags-radial}
 use Rattle.losses.specs.Loss.{lossIn}
 use Rattle.losses.specs.ListLoss.{listLoss, loadsOf}
 use Rattle.losses.specs.FeederLoss.{feeder-loss}
@@ -21,8 +19,5 @@ use Rattle.states.specs.Switches.{State}
 
 module _ (n : PowerNetwork) (sized : length (n .buses) ≡ 256) (ok : checkRecords (recordsOf n) ≡ accepted tt) (s : State) (g : Graph) (flags : List Bool) (a : g ≡ feederGraph n)
     (b : flags ≡ liveFlags (recordsOf n) s) where
-  pub flags-radial : (r : Bool) → r ≡ rowRadial g flags → r ≡ radialIn (recordsOf n) s
-  flags-radial r e = e ∙ rw (a, b) (live-row-radial n sized ok s)
-
   pub flags-loss : (loads : List Power) (r : Float) → loads ≡ loadsOf n → r ≡ listLoss g loads (n .branches) (n .«base_mva») flags → r ≡ lossIn (recordsOf n) s
   flags-loss loads r l e = e ∙ feeder-loss n sized ok s g loads flags a l b

@@ -1,17 +1,18 @@
 -- The barred ids as the code holds them, an array of 7 with a count: an id is looked for by rising position, and one more is stored behind the others, for which the
 -- earliest leaves a full list.
-use mathlib.Core.Path.{_≡_, refl, sym, ap, _∙_}
+use mathlib.Core.Path.{_≡_, sym, ap, _∙_}
 use mathlib.Core.Logic.{_≢_}
 use mathlib.Core.Bool.{true, false}
 use mathlib.Core.List.{List, [], _∷_, _++_}
-use Prim.Native.Nat.{ℕ, zero, suc, _+_, _-_, _≤_, _<_}
-use native.Mathlib.Decide.{ℕ-discrete, decLt}
+use Prim.Native.Nat.{ℕ, _+_, _-_, _≤_, _<_}
+use native.Mathlib.Decide.{decLt}
 use native.Mathlib.Numerals.{add-one}
 use native.Mathlib.Omega.{arith}
-use lib.ListN.{length, getD, drop, set, length-append, length-take, length-drop, length-set, drop-of-length-le, List·getD-eq-default}
-use lib.Seq.{drop-cons, drop-append-le, getD-at, getD-drop, getD-set-same, getD-set-other}
+use lib.ListN.{length, getD, drop, set, length-append, length-take, length-drop, drop-of-length-le, List·getD-eq-default}
+use lib.Seq.{drop-cons, drop-append-le, getD-drop}
 use borrow.Author.Tests.{eq-eqb, ne-eqb}
-use Rattle.numbers.specs.TableLaws.{length-table, getD-table, as-table, take-table, table-cong, filled, filled-all}
+use Rattle.numbers.specs.Arrays.{arrayOf, array-more, array-front}
+use Rattle.numbers.specs.TableLaws.{length-table, getD-table, table-cong, filled, filled-all}
 use Rattle.network.specs.Faults.{among}
 use Rattle.tabu.specs.declared.tabu_list.TabuList.{TabuList}
 use Rattle.tabu.specs.Tabu.{lastSeven}
@@ -21,7 +22,7 @@ use Rattle.tabu.specs.TabuValues.{tabuListOf, idsOf, HeldList}
 module _ (l : List ℕ) (short : length l ≤ 7) where
   pub ids-held : idsOf (tabuListOf l) ≡ l
   unfolding idsOf tabuListOf
-  ids-held = take-table (λ i. getD l i 0) 7 (length l) short ∙ sym (as-table (λ i. getD l i 0) (length l) 0 l refl (λ i h. refl))
+  ids-held = array-front 7 0 l short
 
   pub list-held : HeldList (tabuListOf l)
   list-held = (ap tabuListOf (sym ids-held), unfold tabuListOf in short)
@@ -39,13 +40,6 @@ module _ (x : ℕ) (l : List ℕ) (i : ℕ) where
   among-past : length l ≤ i → among x (drop i l) ≡ false
   unfolding among
   among-past h = rw (drop-of-length-le l {i = i} h)
-
--- the id behind a list is at its end only
-beside : (l : List ℕ) (a j : ℕ) → j ≢ length l → getD (l ++ (a ∷ [])) j 0 ≡ getD l j 0
-beside [] a zero n = absurd (n refl)
-beside [] a (suc j) n = refl
-beside (b ∷ l) a zero n = refl
-beside (b ∷ l) a (suc j) n = beside l a j (λ e. n (ap suc e))
 
 module _ (t : TabuList) (h : HeldList t) where
   ids-long : length (t .ids) ≡ 7
@@ -79,17 +73,13 @@ module _ (t : TabuList) (h : HeldList t) where
   -- ---- an id is stored behind the others
   pub pushed-back : (id : ℕ) → t .count < 7 → record { ids = set (t .ids) (t .count) id; count = t .count + 1 } ≡ tabuListOf (idsOf t ++ (id ∷ []))
   unfolding tabuListOf
-  pushed-back id l = rw (as-table (λ j. getD (idsOf t ++ (id ∷ [])) j 0) 7 0 (set (t .ids) (t .count) id) (length-set (t .ids) (t .count) id ∙ ids-long) (λ j k. go j k (ℕ-discrete j (t .count))), counted)
+  pushed-back id l = rw (stored, counted)
     where
+      stored : set (t .ids) (t .count) id ≡ arrayOf 7 0 (idsOf t ++ (id ∷ []))
+      stored = ap (λ u. set (u .ids) (t .count) id) (h .0) ∙ array-more 7 0 (idsOf t) id (t .count) (sym ids-counted) l
+
       counted : t .count + 1 ≡ length (idsOf t ++ (id ∷ []))
       counted = sym (length-append (idsOf t) (id ∷ []) ∙ ap (λ n. n + 1) ids-counted)
-
-      go : (j : ℕ) → j < 7 → Dec (j ≡ t .count) → getD (set (t .ids) (t .count) id) j 0 ≡ getD (idsOf t ++ (id ∷ [])) j 0
-      go j k (yes e) =
-          ap (λ m. getD (set (t .ids) (t .count) id) m 0) e
-          ∙ getD-set-same (t .ids) (t .count) id 0 (omega (arith, ids-long))
-          ∙ sym (ap (λ m. getD (idsOf t ++ (id ∷ [])) m 0) e ∙ getD-at (idsOf t) id [] 0 (t .count) ids-counted)
-      go j k (no n) = getD-set-other (t .ids) (t .count) j id 0 n ∙ ids-read j ∙ sym (beside (idsOf t) id j (λ e. n (e ∙ ids-counted)))
 
   -- ---- the earliest id leaves
   pub popped-front : record { ids = filled (λ j. getD (t .ids) (j + 1) 0) 0 7 6; count = t .count - 1 } ≡ tabuListOf (drop 1 (idsOf t))

@@ -4,9 +4,9 @@ use mathlib.Core.Bool.{true, false}
 use mathlib.Core.List.{List}
 use mathlib.Core.Option.{Option, none, some}
 use Prim.Native.Nat.{ℕ, _≤_}
-use lib.ListN.{length, getD, take}
+use lib.ListN.{length, take}
 use Rattle.numbers.specs.Constants.{zero64}
-use Rattle.numbers.specs.UpTo.{table}
+use Rattle.numbers.specs.Arrays.{arrayOf}
 use Rattle.states.specs.declared.configuration.NetworkConfiguration.{NetworkConfiguration}
 use Rattle.network.specs.declared.topology.PowerNetwork.{PowerNetwork}
 use Rattle.states.specs.Configuration.{configurationOf}
@@ -23,7 +23,7 @@ use Rattle.searches.specs.FromBase.{FromBase}
 -- ---- the barred ids
 -- the ids, and 0 behind them
 unfoldable pub tabuListOf : List ℕ → TabuList
-tabuListOf l = record { ids = table (λ i. getD l i 0) 7; count = length l }
+tabuListOf l = record { ids = arrayOf 7 0 l; count = length l }
 
 -- the ids that a list holds
 unfoldable pub idsOf : TabuList → List ℕ

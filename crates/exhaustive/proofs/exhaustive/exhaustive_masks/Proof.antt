@@ -12,7 +12,7 @@ use Rattle.network.specs.Records.{recordsOf}
 use Rattle.network.proofs.bus.Bus.{the-type}
 use Rattle.radiality.specs.Feeder.{radialIn}
 use Rattle.radiality.specs.FeederRows.{liveFlags}
-use Rattle.searches.specs.StateRows.{flags-radial}
+use Rattle.radiality.specs.FeederRowLaws.{flags-radial}
 use Rattle.exhaustive.specs.Exhaustive.{tieCount, masked, noMask, tryMask, exhaustive}
 use Rattle.exhaustive.specs.ExhaustiveTies.{ten-ties, ties-on, masked-flags}
 use Rattle.exhaustive.specs.ExhaustiveTrials.{mask-passed, radial-room}
