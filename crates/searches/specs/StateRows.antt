@@ -11,7 +11,6 @@ use Rattle.network.specs.Answers.{accepted}
 use Rattle.network.specs.Check.{checkRecords}
 use Rattle.graph.specs.declared.rows.Graph.{Graph}
 use Rattle.radiality.specs.FeederRows.{feederGraph, liveFlags}
-pub use Rattle.radiality.specs.FeederRowLaws.{flags-radial}
 use Rattle.losses.specs.Loss.{lossIn}
 use Rattle.losses.specs.ListLoss.{listLoss, loadsOf}
 use Rattle.losses.specs.FeederLoss.{feeder-loss}

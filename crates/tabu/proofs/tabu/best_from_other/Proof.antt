@@ -13,7 +13,8 @@ use Rattle.network.specs.Records.{noSwitch, recordsOf}
 use Rattle.network.proofs.branch.Branch as branch
 use Rattle.network.proofs.bus.Bus as bus
 use Rattle.states.specs.Listed.{few-switches, switches-listed}
-use Rattle.searches.specs.StateRows.{flags-radial, flags-loss}
+use Rattle.radiality.specs.FeederRowLaws.{flags-radial}
+use Rattle.searches.specs.StateRows.{flags-loss}
 use Rattle.states.specs.Switches.{size, toggled}
 use Rattle.searches.specs.SwitchReads.{SwitchAt, on-branch, switch-read}
 use Rattle.tabu.specs.Tabu.{Tabu, seeing, bestMove}
