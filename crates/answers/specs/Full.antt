@@ -51,8 +51,8 @@ module _ (N : Network) (inside : Inside N) where
   pub loss-in-full : (s : State) → GoodState N s → onState N s (lossIn N s) ≡ accepted (lossIn N s)
   loss-in-full s good = answered s good (lossIn N s)
 
-  -- `branch_exchange_solve`, `tabu_search` and `exhaustive_solve`, whichever search the head asks for: a byte for each switch. Where it asks for another, N of the last is
-  -- the network that asks for method 02
+  -- `branch_exchange_solve`, `tabu_search` and `exhaustive_solve`, whichever search the head asks for: a byte for each switch. For `exhaustive_solve` on another head, N
+  -- is `asExhaustive` of it
   pub searched-in-full : (a : ReconfigAlgorithm) (out : List ℕ) → length (N .switches) ≤ length out
       → solvedBy (bestBy a) N out ≡ record { answer = accepted (resultBy (bestBy a) N); out = bestBy a N .state ++ drop (length (N .switches)) out }
   unfolding solvedBy

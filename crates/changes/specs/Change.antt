@@ -8,7 +8,7 @@ use Rattle.numbers.specs.Choose.{those}
 use Rattle.network.specs.declared.topology.PowerNetwork.{PowerNetwork}
 use Rattle.network.specs.Records.{Network, noSwitch, recordsOf}
 use Rattle.states.specs.Switches.{State, byte, branchOf, operable}
-use Rattle.network.specs.Answers.{Answer, accepted, refused, answerOf, _andThen_, _if_, judge}
+use Rattle.network.specs.Answers.{accepted, refused, answerOf, _andThen_, _if_, judge, Judgement}
 use Rattle.network.specs.Check.{checkRecords}
 use Rattle.states.specs.Live.{live, checkState}
 use Rattle.states.specs.Configuration.{configurationOf}
@@ -18,7 +18,7 @@ use Rattle.radiality.specs.FeederRows.{feederGraph, liveFlags}
 use Rattle.changes.specs.declared.change.Change.{Change}
 
 -- ---- refusals 11 and 12
-unfoldable pub checkRadial : Network → State → ℕ → Answer (Unit {0})
+unfoldable pub checkRadial : Network → State → ℕ → Judgement
 checkRadial N s place = judge ((11 if not (radialIn N s)) ∷ []) place
 
 -- branch k is flagged in E and not in F
@@ -38,15 +38,15 @@ unfoldable pub lockedDifferences : Network → State → State → List ℕ
 lockedDifferences N present wanted = those (lockedDifference N present wanted) (length (N .switches))
 
 -- refusal 12: "first such id in list order"
-abbrev pub refuseLocked : Network → List ℕ → Answer (Unit {0})
+abbrev pub refuseLocked : Network → List ℕ → Judgement
 refuseLocked N [] = accepted tt
 refuseLocked N (i ∷ l) = refused 12 (getD (N .switches) i noSwitch .id)
 
-unfoldable pub checkLocked : Network → State → State → Answer (Unit {0})
+unfoldable pub checkLocked : Network → State → State → Judgement
 checkLocked N present wanted = refuseLocked N (lockedDifferences N present wanted)
 
 -- "Calls test the network, then 10 (present first), 11 (likewise), 12"
-unfoldable pub checkPlan : Network → State → State → Answer (Unit {0})
+unfoldable pub checkPlan : Network → State → State → Judgement
 checkPlan N present wanted =
     checkRecords N
     andThen checkState N present 0
@@ -62,7 +62,7 @@ flagsIn n s = liveFlags (recordsOf n) (configurationOf s .switches)
 
 -- the answer of the tests, and what they were made with: the graph, and the live branches of the two states
 pub record Judged : Type 0 where
-  pub answer : Answer (Unit {0})
+  pub answer : Judgement
   pub graph : Graph
   pub present-live : List Bool
   pub wanted-live : List Bool

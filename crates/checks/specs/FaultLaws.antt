@@ -10,7 +10,7 @@ use lib.Seq.{take-length}
 use borrow.Author.Tests.{lt-ltb, le-ltb, le-leb, leb-false, ltb-true, ltb-false}
 use Rattle.numbers.specs.UpTo.{table}
 use Rattle.numbers.specs.TableLaws.{length-table, table-more, take-table, map-snoc, map-table}
-use Rattle.numbers.specs.Choose.{indexOf}
+use Rattle.numbers.specs.Choose.{indexOf, among}
 use Rattle.network.specs.declared.bus.Bus.{Bus}
 use Rattle.network.specs.declared.branch.Branch.{Branch}
 use Rattle.network.specs.declared.switch.Switch.{Switch}
@@ -22,7 +22,7 @@ use Rattle.network.specs.AnswerLaws.{judge-iff, accepted-so}
 use Rattle.ids.specs.Ids.{rows, idRows, positionOf}
 use Rattle.ids.specs.IdLaws.{position-found}
 use Rattle.network.specs.Limits.{Head, busId, switchId, on, ties}
-use Rattle.network.specs.Faults.{among, busRow, branchRow, switchRow, busFaults, branchFaults, switchFaults}
+use Rattle.network.specs.Faults.{busRow, branchRow, switchRow, busFaults, branchFaults, switchFaults}
 use Rattle.checks.specs.Flags.{flags, flag-at, set-flag}
 
 -- an id stands before position i where its first position is below i

@@ -8,7 +8,7 @@ use lib.ListN.{getD, set, replicate, length-replicate, getD-replicate}
 use borrow.Author.Tests.{eq-eqb, ne-eqb}
 use Rattle.numbers.specs.UpTo.{table}
 use Rattle.numbers.specs.TableLaws.{getD-table, as-table, table-set}
-use Rattle.network.specs.Faults.{among}
+use Rattle.numbers.specs.Choose.{among}
 
 unfoldable pub flags : ℕ → List ℕ → List Bool
 flags size xs = table (λ x. among x xs) size

@@ -5,7 +5,7 @@ use mathlib.Core.List.{List}
 use Prim.Native.Nat.{ℕ}
 use lib.Dec.{T}
 use lib.Ieee.{Float, binary64, isNan, toBits}
-use Rattle.network.specs.Answers.{Answer, accepted, refused, _andThen_}
+use Rattle.network.specs.Answers.{Answer, accepted, refused, _andThen_, Judgement}
 use Rattle.network.specs.Check.{checkRecords}
 use Rattle.states.specs.Live.{onState}
 use Rattle.network.specs.Records.{Network}
@@ -24,12 +24,12 @@ abbrev pub NoNan : Answer Float → Type 0
 NoNan (accepted x) = T (not (isNan x))
 NoNan (refused n p) = Unit {0}
 
-no-nan-behind : (c : Answer (Unit {0})) (a : Answer Float) → (c ≡ accepted tt → NoNan a) → NoNan (c andThen a)
+no-nan-behind : (c : Judgement) (a : Answer Float) → (c ≡ accepted tt → NoNan a) → NoNan (c andThen a)
 unfolding _andThen_
 no-nan-behind (accepted u) a h = h refl
 no-nan-behind (refused n p) a h = tt
 
-pub loss-no-nan : (N : Network) (c : Answer (Unit {0})) (s : List ℕ) (x : Answer Float) → x ≡ (checkRecords N andThen c andThen accepted (lossIn N s)) → NoNan x
+pub loss-no-nan : (N : Network) (c : Judgement) (s : List ℕ) (x : Answer Float) → x ≡ (checkRecords N andThen c andThen accepted (lossIn N s)) → NoNan x
 loss-no-nan N c s x e =
     subst NoNan (sym e) (no-nan-behind (checkRecords N) _ λ ok. no-nan-behind c (accepted (lossIn N s)) λ _. loss-finite N ok s .2)
 

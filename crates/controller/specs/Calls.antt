@@ -24,7 +24,7 @@ numbersOf (accepted value) = record { number = 0; place = 0; value = value }
 numbersOf (refused number place) = record { number = number; place = place; value = 0 }
 
 -- "Calls test the network": for a text that is its reading, and then comes what the call answers on its records, whose own check they have passed
--- (`frames.specs.Claim.passed`)
+-- (`frames.specs.Proof.passed`)
 unfoldable pub onRecords : Answer Network → (Network → Answer ℕ) → Answer ℕ
 onRecords (accepted N) call = call N
 onRecords (refused number place) call = refused number place

@@ -5,7 +5,7 @@ use mathlib.Core.Path.{_≡_, refl}
 use lib.Ieee.{ofBits, toBits, le, lt, neg, add, sub, mul, div}
 use Rattle.numbers.specs.UpTo.{upTo, table}
 use Rattle.numbers.specs.Counts.{count}
-use Rattle.numbers.specs.Choose.{those, least, firstSome, firstOf, indexOf, _orElse_}
+use Rattle.numbers.specs.Choose.{those, least, firstSome, firstOf, indexOf, _orElse_, lastSome}
 use Rattle.states.specs.Live.{live, openOn, baseState}
 use Rattle.lines.specs.Hex.{digit, digits, writeFields}
 use Rattle.lines.specs.Frames.{frameText}
@@ -22,7 +22,7 @@ use Rattle.plan.specs.Claim.{SwitchingPlan}
 use Rattle.states.specs.Switches.{swapped}
 use Rattle.exchange.specs.Exchange.{loopOf, sectionOf, swapWith, trial, improves, improved, roundOf, afterRound, exchange, exchangeBest}
 use Rattle.searches.specs.Results.{reduction, resultBy}
-use Rattle.searches.specs.Rounds.{untilEnded, lastSome}
+use Rattle.searches.specs.Rounds.{untilEnded}
 use Rattle.reconfiguration.specs.Solve.{bestBy, best, result}
 use Rattle.reconfiguration.specs.AnswersHavePlans.{solve-has-plan}
 use Rattle.operations.specs.Operations.{operationTo, operations, operationsText}

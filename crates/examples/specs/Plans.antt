@@ -8,20 +8,19 @@ use lib.Ieee.{ofBits, le, neg}
 use lib.ListN.{replicate}
 use Rattle.numbers.specs.UpTo.{upTo}
 use Rattle.numbers.specs.Counts.{count}
-use Rattle.numbers.specs.Choose.{those, firstOf, indexOf}
+use Rattle.numbers.specs.Choose.{those, firstOf, indexOf, among}
 use Rattle.numbers.specs.Every.{every}
 use Rattle.network.specs.declared.branch.Branch.{Branch}
 use Rattle.network.specs.declared.switch.Switch.{Switch}
 use Rattle.network.specs.Records.{Network}
 use Rattle.network.specs.Answers.{accepted, refused, _andThen_, judge}
 use Rattle.network.specs.Limits.{okBase, okLoad, okR, ties}
-use Rattle.network.specs.Faults.{among, headFaults, busFaults, branchFaults, switchFaults}
+use Rattle.network.specs.Faults.{headFaults, busFaults, branchFaults, switchFaults}
 use Rattle.network.specs.Check.{headOf, checkRun, checkRecords}
 use Rattle.states.specs.Live.{live, openOn, checkState, baseState}
 use Rattle.states.specs.Switches.{State, byte}
 use Rattle.lines.specs.Hex.{digit, digits, writeFields}
 use Rattle.lines.specs.Frames.{frameText}
-use Rattle.slices.specs.Written.{written}
 use Rattle.printing.specs.Printed.{pairText}
 use Rattle.printing.specs.Calls.{checkRoom, called}
 use Rattle.graph.specs.Walk.{far, neighbours, reached, enter, enterAll, turn, walkBy, walk, byOf, across, bfsPath}
@@ -104,5 +103,5 @@ refusals :
     × (planned triangle (0 ∷ 0 ∷ []) wanted sevens ≡ record { answer = refused 11 0; out = sevens })
     × (planned lockedTriangle present wanted sevens ≡ record { answer = refused 12 10; out = sevens })
     × (planned triangle present wanted sevens ≡ record { answer = refused 13 0; out = sevens })
-unfolding le ofBits neg upTo those firstOf indexOf count _andThen_ judge okBase okLoad okR among ties headFaults busFaults branchFaults switchFaults headOf checkRun checkRecords live openOn every checkState baseState far neighbours reached enter enterAll turn walkBy walk byOf across Walk.back bfsPath radial position feeder radialIn endsPath closings opening exchanged pairsFrom pairs switchOn plan checkRadial differing lockedDifference lockedDifferences checkLocked checkPlan flatMap written pairText frameText writeFields digits digit planText checkRoom called planned
+unfolding le ofBits neg upTo those firstOf indexOf count _andThen_ judge okBase okLoad okR among ties headFaults busFaults branchFaults switchFaults headOf checkRun checkRecords live openOn every checkState baseState far neighbours reached enter enterAll turn walkBy walk byOf across Walk.back bfsPath radial position feeder radialIn endsPath closings opening exchanged pairsFrom pairs switchOn plan checkRadial differing lockedDifference lockedDifferences checkLocked checkPlan flatMap pairText frameText writeFields digits digit planText checkRoom called planned
 refusals = (refl, refl, refl, refl)

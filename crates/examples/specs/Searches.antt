@@ -9,17 +9,15 @@ use Rattle.network.specs.declared.branch.Branch.{Branch}
 use Rattle.network.specs.declared.switch.ReconfigAlgorithm.the-variants.{BranchExchange, TabuSearch, Exhaustive}
 use Rattle.numbers.specs.UpTo.{upTo, table}
 use Rattle.numbers.specs.Counts.{count}
-use Rattle.numbers.specs.Choose.{those, least, firstSome, firstOf, indexOf, _orElse_}
+use Rattle.numbers.specs.Choose.{those, least, firstSome, firstOf, indexOf, _orElse_, among, lastSome}
 use Rattle.network.specs.Records.{Network}
-use Rattle.network.specs.Limits.{ties}
-use Rattle.network.specs.Faults.{among}
 use Rattle.states.specs.Live.{live, openOn, baseState}
 use Rattle.states.specs.Switches.{State, swapped, toggled}
 use Rattle.graph.specs.Walk.{far, neighbours, reached, enter, enterAll, turn, walkBy, walk, byOf, across, back, bfsPath}
 use Rattle.graph.specs.Radial.{radial}
 use Rattle.radiality.specs.Feeder.{feeder, position, endsPath, radialIn}
 use Rattle.losses.specs.Loss.{walkLoad, downstream, termOf, totalOf, loss, lossIn}
-use Rattle.searches.specs.Rounds.{untilEnded, lesserBy, lastSome}
+use Rattle.searches.specs.Rounds.{untilEnded, lesserBy}
 use Rattle.exchange.specs.Exchange.{loopOf, sectionOf, swapWith, trial, improves, improved, roundOf, afterRound, exchange, exchangeBest}
 use Rattle.tabu.specs.Tabu.{allowed, bestMove, lastSeven, afterMove, tabu, tabuBest}
 use Rattle.exhaustive.specs.Exhaustive.{masked, tryMask, exhaustive, leastOrBase, exhaustiveBest}
@@ -27,38 +25,38 @@ use Rattle.reconfiguration.specs.Solve.{bestBy, best}
 use Rattle.examples.specs.Feeders.{float, bus, branch, section, tie, network, records, buses, branchesWith, switches, triangleWith, triangle}
 
 -- without switches the one state has no byte
-abbrev plain : List Bus → List Branch → Network
+abbrev pub plain : List Bus → List Branch → Network
 plain buses branches = records buses branches []
 
 -- the triangle with branch 0 from 2 to 1
-abbrev turned : Network
+abbrev pub turned : Network
 turned = records buses (branchesWith (branch 2 1 0x3FD0000000000000)) switches
 
 -- a state of a feeder's switches, or a search
-data Case : Type 0 where
+pub data Case : Type 0 where
   inState : Network → State → Case
   searched : Network → Case
 
 -- radial or not, and the loss; or state, loss, iterations and converged
-data Value : Type 0 where
+pub data Value : Type 0 where
   stands : Bool → Float → Value
   finds : State → Float → ℕ → Bool → Value
 
-abbrev valueOf : Case → Value
+abbrev pub valueOf : Case → Value
 valueOf (inState N s) = stands (radialIn N s) (lossIn N s)
 valueOf (searched N) = let b = best N in finds (b .state) (lossIn N (b .state)) (b .iterations) (b .converged)
 
 infix 68 _gives_
-data Row : Type 0 where
+pub data Row : Type 0 where
   _gives_ : Case → Value → Row
 
-abbrev reckoned : Row → Value
+abbrev pub reckoned : Row → Value
 reckoned (c gives v) = valueOf c
 
-abbrev said : Row → Value
+abbrev pub said : Row → Value
 said (c gives v) = v
 
-abbrev marked : List Row
+abbrev pub marked : List Row
 marked =
     -- "no buses: radial, loss 0"
     inState (plain [] []) [] gives stands true (float 0)
@@ -86,8 +84,8 @@ marked =
     ∷ []
 
 -- document 01: "One proved table holds the marked (*) cases under one theorem"
-marked-cases : map reckoned marked ≡ map said marked
-unfolding best bestBy exchangeBest tabuBest exhaustiveBest exchange untilEnded lastSome afterRound roundOf improved improves trial swapWith sectionOf loopOf swapped tabu bestMove afterMove lastSeven lesserBy allowed among toggled exhaustive tryMask leastOrBase masked ties lossIn loss totalOf termOf downstream walkLoad radialIn endsPath feeder position radial bfsPath back across byOf walk walkBy turn enterAll enter reached neighbours far baseState live openOn those least firstSome firstOf indexOf _orElse_ count upTo table ofBits add sub mul div lt le
+pub marked-cases : map reckoned marked ≡ map said marked
+unfolding best bestBy exchangeBest tabuBest exhaustiveBest exchange untilEnded lastSome afterRound roundOf improved improves trial swapWith sectionOf loopOf swapped tabu bestMove afterMove lastSeven lesserBy allowed among toggled exhaustive tryMask leastOrBase masked lossIn loss totalOf termOf downstream walkLoad radialIn endsPath feeder position radial bfsPath back across byOf walk walkBy turn enterAll enter reached neighbours far baseState live openOn those least firstSome firstOf indexOf _orElse_ count upTo table ofBits add sub mul div lt le
 marked-cases = refl
 
 -- Five buses in a row, 1 MW at each but the first, and three ties. In the first round, with 9.75 at its start, tie 5 improves to 8.75 and tie 6 to 9.5; tie 7's first
@@ -111,5 +109,5 @@ rounds =
     ∷ []
 
 round-cases : map reckoned rounds ≡ map said rounds
-unfolding best bestBy exchangeBest tabuBest exhaustiveBest exchange untilEnded lastSome afterRound roundOf improved improves trial swapWith sectionOf loopOf swapped tabu bestMove afterMove lastSeven lesserBy allowed among toggled exhaustive tryMask leastOrBase masked ties lossIn loss totalOf termOf downstream walkLoad radialIn endsPath feeder position radial bfsPath back across byOf walk walkBy turn enterAll enter reached neighbours far baseState live openOn those least firstSome firstOf indexOf _orElse_ count upTo table ofBits add sub mul div lt le
+unfolding best bestBy exchangeBest tabuBest exhaustiveBest exchange untilEnded lastSome afterRound roundOf improved improves trial swapWith sectionOf loopOf swapped tabu bestMove afterMove lastSeven lesserBy allowed among toggled exhaustive tryMask leastOrBase masked lossIn loss totalOf termOf downstream walkLoad radialIn endsPath feeder position radial bfsPath back across byOf walk walkBy turn enterAll enter reached neighbours far baseState live openOn those least firstSome firstOf indexOf _orElse_ count upTo table ofBits add sub mul div lt le
 round-cases = refl

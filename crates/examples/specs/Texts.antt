@@ -6,7 +6,8 @@ use lib.Ieee.{ofBits, le, neg}
 use Rattle.numbers.specs.Every.{every}
 use Rattle.network.specs.Answers.{accepted, refused, _andThen_, judge}
 use Rattle.network.specs.Limits.{okBase, okLoad, okR, ties}
-use Rattle.network.specs.Faults.{among, headFaults, busFaults, branchFaults, switchFaults}
+use Rattle.numbers.specs.Choose.{among}
+use Rattle.network.specs.Faults.{headFaults, busFaults, branchFaults, switchFaults}
 use Rattle.lines.specs.Hex.{isDigit, value, digit, number, digits, readFields}
 use Rattle.lines.specs.Lines.{put, cut, lineFaults}
 use Rattle.record_lines.specs.Kinds.{isFrame, fieldsOf, methodOf, readOne, without}

@@ -6,14 +6,14 @@ use Prim.Native.Nat.{ℕ, suc}
 use lib.Dec.{eqb, ltb}
 use lib.Ieee.{Float, binary64, sub, lt}
 use Rattle.numbers.specs.Constants.{billionth}
-use Rattle.numbers.specs.Choose.{least, firstSome}
+use Rattle.numbers.specs.Choose.{least, firstSome, lastSome}
 use Rattle.network.specs.Records.{Network}
 use Rattle.states.specs.Live.{live, baseState}
 use Rattle.states.specs.Switches.{State, byte, branchOf, operable, size, isTie, swapped}
 use Rattle.radiality.specs.Feeder.{endsPath, radialIn}
 use Rattle.losses.specs.Loss.{lossIn}
 use Rattle.searches.specs.Results.{Best}
-use Rattle.searches.specs.Rounds.{untilEnded, lastSome}
+use Rattle.searches.specs.Rounds.{untilEnded}
 
 -- "the normally open, operable, still open switches"
 abbrev pub seen : Network → State → ℕ → Bool
@@ -45,7 +45,7 @@ unfoldable pub improved : Network → Float → Option State → Option State
 improved N current none = none
 improved N current (some t) = cond (improves N current t) (some t) none
 
--- what the round finds at switch i, with the state as the round found it: the trial of a tie that it sees, if it improves
+-- what a round finds at switch i, in the state with which it began: the trial of a tie that it sees, if it improves
 abbrev pub improving : Network → State → Float → ℕ → Option State
 improving N s current i = cond (seen N s i) (improved N current (trial N s i)) none
 

@@ -15,7 +15,7 @@ use Rattle.losses.specs.Loss.{lossIn}
 use Rattle.exchange.specs.Exchange.{seen, loopOf, sectionOf, swapWith, trial, improves, improved, improving, roundOf, Exchange, afterRound, next, exchangeStart, exchange, exchangeBest}
 use Rattle.numbers.specs.IfSome.{IfSome, cond-holds, firstSome-holds, least-passes}
 use Rattle.searches.specs.FromBase.{FromBase, from-base, swapped-from-base}
-use Rattle.searches.specs.LastLaws.{last-holds}
+use Rattle.numbers.specs.LastLaws.{last-holds}
 use Rattle.searches.specs.RoundLaws.{until-keeps}
 use Rattle.searches.specs.Results.{SoundBest}
 

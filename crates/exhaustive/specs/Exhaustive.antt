@@ -19,7 +19,7 @@ use Rattle.searches.specs.Results.{Best}
 abbrev pub bit : ℕ → ℕ → Bool
 bit mask i = eqb (mask / 2 ^ i % 2) 1
 
--- how many ties there are, be they operable or locked
+-- how many ties there are, operable or locked: those that refusal 9 counts (`ExhaustiveTies.all-ties`)
 abbrev pub tieCount : Network → ℕ
 tieCount N = count (isTie N) (size N)
 

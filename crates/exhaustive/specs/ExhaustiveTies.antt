@@ -54,7 +54,8 @@ module _ (N : Network) where
   ties-counted zero = refl
   ties-counted (suc i) = ties-next (switch N) i (count (isTie N) i) (ties-counted i) ∙ ap (λ m. ties (table (switch N) m)) (add-one i)
 
-  all-ties : tieCount N ≡ ties (N .switches)
+  -- they are those that refusal 9 counts
+  pub all-ties : tieCount N ≡ ties (N .switches)
   all-ties = ties-counted (size N) ∙ ap ties (sym (as-table (switch N) (size N) _ (N .switches) refl (λ i l. refl)))
 
 -- refusal 9 leaves ten

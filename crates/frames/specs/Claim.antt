@@ -31,7 +31,8 @@ pub record Claim : Type 0 where
   -- "Records handed over without text are checked as their lines would be": with the number and the place that their text would get. Of records whose
   -- fields have room in their digits
   pub alike : (N : Network) → Writable N → readText (textOf N) ≡ (checkRecords N andThen accepted N)
-  -- and of every value that is handed over: `Is the-row n vs` says that the machine's values vs stand for n
+  -- and of every value that is handed over: `Is the-row n vs` says that the machine's values vs stand for n; its fields are u16 and f64 (`TypedValues.value-typed`), so
+  -- that its records have room (`HandedOver.typed-writable`)
   pub handed-over : (n : PowerNetwork) (vs : List Val) → Is the-row n vs → readText (textOf (recordsOf n)) ≡ (checkRecords (recordsOf n) andThen accepted (recordsOf n))
   -- the first 27,466 bytes decide: the longest acceptable text has 27,429. A program that reads so many or more of a longer text gives the refusal that the
   -- whole text would get

@@ -40,6 +40,7 @@ pathOf l = record { count = length l; branch = filled l }
 abbrev pub farEnd : List ℕ → List ℕ → ℕ → ℕ
 farEnd from to h = cond (eqb (h % 2) 0) (getD to (h / 2) 0) (getD from (h / 2) 0)
 
+-- of each of 1,024 half-branches
 unfoldable pub farOf : List ℕ → List ℕ → List ℕ
 farOf from to = table (farEnd from to) 1024
 

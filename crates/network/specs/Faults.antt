@@ -1,20 +1,16 @@
 -- Document 01's table of refusals, rows 3 to 9: the conditions that a record meets or not, each kind's in the order in which they win.
-use mathlib.Core.Bool.{Bool, false, not, _&&_, _||_}
+use mathlib.Core.Bool.{Bool, not, _&&_, _||_}
 use mathlib.Core.List.{List, [], _∷_, map}
 use Prim.Native.Nat.{ℕ}
 use lib.Dec.{leb, ltb, eqb}
 use lib.Ieee.{Float}
+use Rattle.numbers.specs.Choose.{among}
 use Rattle.network.specs.declared.bus.Bus.{Bus}
 use Rattle.network.specs.declared.branch.Branch.{Branch}
 use Rattle.network.specs.declared.switch.Switch.{Switch}
 use Rattle.network.specs.declared.switch.ReconfigAlgorithm.{ReconfigAlgorithm}
 use Rattle.network.specs.Answers.{Fault, _if_}
 use Rattle.network.specs.Limits.{Head, methodByte, okBase, okLoad, okR, busId, switchId, on, ties}
-
--- does a number stand in the list?
-unfoldable pub among : ℕ → List ℕ → Bool
-among x [] = false
-among x (y ∷ ys) = eqb x y || among x ys
 
 -- ---- the table's rows, each kind's conditions once. Row 3 has "iterations over 1,000" alone: a record's method, status and flags always have a meaning
 -- a head, from its counts of buses, branches and switches, its base_mva and its iterations

@@ -17,7 +17,8 @@ use Rattle.network.specs.Records.{Network}
 use Rattle.network.specs.Answers.{accepted, Fault, judge}
 use Rattle.network.specs.AnswerLaws.{Passes, judge-iff, then-iff}
 use Rattle.network.specs.Limits.{Head, okBase, okLoad, okR, busId, switchId, on, ties, methodByte}
-use Rattle.network.specs.Faults.{among, headFaults, busFaults, branchFaults, switchFaults}
+use Rattle.numbers.specs.Choose.{among}
+use Rattle.network.specs.Faults.{headFaults, busFaults, branchFaults, switchFaults}
 use Rattle.network.specs.TieLaws.{ties-more}
 use Rattle.network.specs.Check.{headOf, checkRun, checkRecords}
 use Rattle.network.specs.Inside.{Each, HasBus, Inside}

@@ -2,9 +2,10 @@
 use mathlib.Core.Bool.{false}
 use mathlib.Core.List.{List, []}
 use Prim.Native.Nat.{ℕ}
-use lib.ListN.{length}
+use lib.ListN.{length, getD}
 use lib.Ieee.{Float, binary64, ofBits}
-use Rattle.numbers.specs.Arrays.{arrayOf, padded}
+use Rattle.numbers.specs.Arrays.{padded}
+use Rattle.numbers.specs.UpTo.{table}
 use Rattle.network.specs.declared.bus.Bus.{Bus}
 use Rattle.network.specs.declared.branch.Branch.{Branch}
 use Rattle.network.specs.declared.switch.Switch.{Switch}
@@ -33,7 +34,7 @@ pub record Network : Type 0 where
 
 -- the first n of an array, also where it has fewer
 abbrev pub listed : {A : Type 0} → A → List A → ℕ → List A
-listed none l n = arrayOf n none l
+listed none l n = table (λ i. getD l i none) n
 
 -- the listed records of a value handed over: as many of each kind as its count says, also where that is over the limit
 unfoldable pub recordsOf : PowerNetwork → Network

@@ -1,5 +1,5 @@
-// The feeder's records as one value, its limits, and its lookups.
 // Translated and changed from src/network/topology.rs of oxigrid. Copyright 2024-2026 COOLJAPAN OU (Team Kitasan), Apache License 2.0.
+// The feeder's records as one value, its limits, and its lookups.
 ghost use mathlib.Core.Path.{_≡_};
 ghost use lib.ListN.{take};
 ghost use Rattle.network.specs.Lookups.{busCount, branchCount, busIndex};

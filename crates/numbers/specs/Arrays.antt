@@ -9,7 +9,7 @@ use lib.Seq.{append-snoc, getD-at, take-at, set-append-seam}
 use Rattle.numbers.specs.UpTo.{table}
 use Rattle.numbers.specs.TableLaws.{as-table, take-table, table-set}
 
--- as many entries as the array has room for
+-- size entries: the list's, as far as there is room, and `none` behind them
 abbrev pub arrayOf : {A : Type 0} → ℕ → A → List A → List A
 arrayOf size none l = table (λ i. getD l i none) size
 

@@ -1,5 +1,5 @@
 -- Choosing among numbers and in lists, by rising position.
-use mathlib.Core.Bool.{Bool, cond}
+use mathlib.Core.Bool.{Bool, false, cond, _||_}
 use mathlib.Core.List.{List, [], _∷_, _++_}
 use mathlib.Core.Option.{Option, none, some}
 use Prim.Native.Nat.{ℕ, zero, suc}
@@ -20,6 +20,11 @@ unfoldable pub indexOf : ℕ → List ℕ → ℕ
 indexOf x [] = zero
 indexOf x (y ∷ l) = cond (eqb x y) zero (suc (indexOf x l))
 
+-- does x stand in the list?
+unfoldable pub among : ℕ → List ℕ → Bool
+among x [] = false
+among x (y ∷ ys) = eqb x y || among x ys
+
 -- the first answer, where there is one, and else the second
 infixr 4 _orElse_
 unfoldable pub _orElse_ : {A : Type 0} → Option A → Option A → Option A
@@ -34,3 +39,7 @@ firstSome f (x ∷ l) = f x orElse firstSome f l
 -- the least number below n that passes the test
 unfoldable pub least : (ℕ → Bool) → ℕ → Option ℕ
 least p n = upTo (λ found i. found orElse cond (p i) (some i) none) none n
+
+-- the last answer, by rising numbers below n
+unfoldable pub lastSome : {A : Type 0} → (ℕ → Option A) → ℕ → Option A
+lastSome f n = upTo (λ found i. f i orElse found) none n

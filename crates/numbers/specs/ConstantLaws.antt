@@ -1,4 +1,4 @@
--- Document 01: "0.001, 1e-9 and 1e-12 in this paper mean the nearest f64". So do the patterns of the others, each of a fraction by `round`, which rounds to the nearest.
+-- Document 01: "0.001, 1e-9 and 1e-12 in this paper mean the nearest f64". Each pattern, those of the other floats too, is `round` of its fraction, and `round` gives the nearest.
 use mathlib.Core.Path.{_≡_, refl}
 use mathlib.Core.Bool.{true, false}
 use Prim.Native.Nat.{_^_}

@@ -12,6 +12,7 @@ pub mod CountLaws
 pub mod ChooseLaws
 pub mod IfSome
 pub mod FirstLaws
+pub mod LastLaws
 pub mod Bounds
 pub mod Signs
 pub mod Sums

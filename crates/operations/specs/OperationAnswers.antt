@@ -9,7 +9,7 @@ use Rattle.network.specs.declared.error.Verdict.{Verdict}
 use Rattle.network.specs.declared.error.Verdict.the-variants.{Refused}
 use Rattle.network.specs.declared.topology.PowerNetwork.{PowerNetwork}
 use Rattle.network.specs.Records.{Network, recordsOf}
-use Rattle.network.specs.Answers.{Answer, accepted, refused, answerOf, _andThen_}
+use Rattle.network.specs.Answers.{accepted, refused, answerOf, _andThen_, Judgement}
 use Rattle.network.specs.AnswerLaws.{then-iff}
 use Rattle.network.specs.Check.{checkRecords}
 use Rattle.states.specs.Live.{checkState}
@@ -25,7 +25,7 @@ module _ (n : PowerNetwork) (from to : State) where
   abbrev N : Network
   N = recordsOf n
 
-  abbrev tests : Answer (Unit {0})
+  abbrev tests : Judgement
   tests = checkRecords N andThen checkState N from 0 andThen checkState N to 1
 
   pub not-listed : (out : List ℕ) {v : Verdict} {number place : ℕ} → v ≡ Refused number place → answerOf v ≡ tests → record { answer = refused number place; out = out } ≡ operationsCall N from to out

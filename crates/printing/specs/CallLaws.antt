@@ -40,14 +40,14 @@ module _ {A : Type 0} {tests : Judgement} (answer : A) (bytes out : List ℕ) wh
   call-done e {needed} n h w = rw (w, written-room bytes out (rw n h), e, le-ltb (length out) (length bytes) (rw n h))
 
   -- with its tests passed: refused by 13 where the slice is too short, else done
-  pub call-passed : tests ≡ accepted tt → called tests answer bytes out ≡ cond (ltb (length out) (length bytes)) (record { answer = refused 13 0; out = out }) (record { answer = accepted answer; out = written bytes out })
+  pub call-passed : tests ≡ accepted tt → called tests answer bytes out ≡ cond (ltb (length out) (length bytes)) (record { answer = refused 13 0; out = out }) (record { answer = accepted answer; out = bytes ++ drop (length bytes) out })
   unfolding called _andThen_ checkRoom
   call-passed e = rw e (go (ltb (length out) (length bytes)) refl)
     where
       go : (short : Bool) → ltb (length out) (length bytes) ≡ short
-          → answered (judge ((13 if short) ∷ []) 0) answer bytes out ≡ cond short (record { answer = refused 13 0; out = out }) (record { answer = accepted answer; out = written bytes out })
+          → answered (judge ((13 if short) ∷ []) 0) answer bytes out ≡ cond short (record { answer = refused 13 0; out = out }) (record { answer = accepted answer; out = bytes ++ drop (length bytes) out })
       go true q = unfold judge in refl
-      go false q = unfold judge in rw (written-room bytes out (ltb-false (length out) (length bytes) q))
+      go false q = unfold judge in refl
 
   -- with room: the answer, and the bytes at the front of the slice, which keeps its tail
   pub call-is : {c : Call A} → tests ≡ accepted tt → length bytes ≤ length out → c ≡ called tests answer bytes out → c ≡ record { answer = accepted answer; out = written bytes out }

@@ -10,7 +10,7 @@ use lib.ListN.{length, getD, length-map, length-take, List·getD-eq-default}
 use borrow.Author.Tests.{lt-ltb, ltb-true, ltb-false}
 use Rattle.numbers.specs.UpTo.{table}
 use Rattle.numbers.specs.TableLaws.{length-table, getD-table, table-cong}
-use Rattle.numbers.specs.Choose.{indexOf}
+use Rattle.numbers.specs.Choose.{indexOf, among}
 use Rattle.numbers.specs.ChooseLaws.{index-found}
 use Rattle.network.specs.declared.branch.Branch.{Branch}
 use Rattle.states.specs.declared.configuration.NetworkConfiguration.{NetworkConfiguration}
@@ -18,7 +18,6 @@ use Rattle.network.specs.declared.topology.PowerNetwork.{PowerNetwork}
 use Rattle.network.specs.Records.{Network, noBranch, recordsOf}
 use Rattle.network.specs.Answers.{accepted}
 use Rattle.network.specs.Limits.{busId}
-use Rattle.network.specs.Faults.{among}
 use Rattle.network.specs.Check.{checkRecords}
 use Rattle.network.specs.Inside.{Inside}
 use Rattle.network.specs.InsideLaws.{check-inside, among-mem, mem-among}

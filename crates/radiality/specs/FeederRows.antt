@@ -5,12 +5,11 @@ use Prim.Native.Nat.{ℕ}
 use lib.Dec.{ltb}
 use lib.ListN.{getD, take}
 use Rattle.numbers.specs.UpTo.{table}
-use Rattle.numbers.specs.Choose.{indexOf}
+use Rattle.numbers.specs.Choose.{indexOf, among}
 use Rattle.network.specs.declared.branch.Branch.{Branch}
 use Rattle.network.specs.declared.topology.PowerNetwork.{PowerNetwork}
 use Rattle.network.specs.Records.{Network, noBranch}
 use Rattle.network.specs.Limits.{busId}
-use Rattle.network.specs.Faults.{among}
 use Rattle.states.specs.Live.{live}
 use Rattle.graph.specs.declared.rows.Graph.{Graph}
 use Rattle.graph.specs.Rows.{graphOf}

@@ -2,10 +2,10 @@
 -- exhaustive search may close locked ties, but from a radial base a radial state with only ties closed has the base's live branches.
 use mathlib.Core.Path.{_≡_}
 use mathlib.Core.Bool.{true, cond}
-use mathlib.Core.List.{List}
+use mathlib.Core.List.{List, _++_}
 use Prim.Native.Nat.{ℕ}
 use lib.Dec.{ltb}
-use lib.ListN.{length}
+use lib.ListN.{length, drop}
 use Rattle.network.specs.Records.{Network}
 use Rattle.network.specs.declared.switch.ReconfigAlgorithm.{ReconfigAlgorithm}
 use Rattle.network.specs.declared.switch.ReconfigAlgorithm.the-variants.{BranchExchange, TabuSearch, Exhaustive}
@@ -15,7 +15,6 @@ use Rattle.network.specs.Inside.{Inside}
 use Rattle.network.specs.InsideLaws.{check-inside}
 use Rattle.states.specs.Live.{baseState}
 use Rattle.states.specs.Switches.{State, branchOf, GoodState}
-use Rattle.slices.specs.Written.{written}
 use Rattle.printing.specs.CallLaws.{call-passed}
 use Rattle.radiality.specs.Feeder.{radialIn}
 use Rattle.changes.specs.Change.{checkPlan}
@@ -70,7 +69,7 @@ abbrev pub Only13 : Network → State → Type 0
 Only13 N wanted =
     (out : List ℕ) → let moves = plan N (baseState N) wanted in
     planned N (baseState N) wanted out
-    ≡ cond (ltb (length out) (length (planText moves))) (record { answer = refused 13 0; out = out }) (record { answer = accepted (length moves); out = written (planText moves) out })
+    ≡ cond (ltb (length out) (length (planText moves))) (record { answer = refused 13 0; out = out }) (record { answer = accepted (length moves); out = planText moves ++ drop (length (planText moves)) out })
 
 pub only-13 : (N : Network) (a : ReconfigAlgorithm) → checkRecords N ≡ accepted tt → radialIn N (baseState N) ≡ true → Only13 N (bestBy a N .state)
 unfolding planned

@@ -5,7 +5,6 @@ pub mod Given
 pub mod Rounds
 pub mod RoundLaws
 pub mod LesserLaws
-pub mod LastLaws
 pub mod StateLaws
 pub mod SwitchReads
 pub mod StateRows

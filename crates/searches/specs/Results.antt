@@ -23,7 +23,7 @@ pub record Best : Type 0 where
   pub iterations : ℕ
   pub converged : Bool
 
--- what holds of it, whichever the search: one byte 00 or 01 for each switch, and radial from a radial base
+-- what holds of it, whichever the search (`AnswersHavePlans.search-sound`): one byte 00 or 01 for each switch, and radial from a radial base
 pub record SoundBest (N : Network) (b : Best) : Type 0 where
   pub good : GoodState N (b .state)
   pub radial : radialIn N (baseState N) ≡ true → radialIn N (b .state) ≡ true

@@ -10,7 +10,7 @@ use Rattle.network.specs.declared.error.Verdict.{Verdict}
 use Rattle.network.specs.declared.error.Verdict.the-variants.{Accepted, Refused}
 use Rattle.network.specs.declared.topology.PowerNetwork.{PowerNetwork}
 use Rattle.network.specs.Records.{Network, recordsOf}
-use Rattle.network.specs.Answers.{Answer, accepted, refused, answerOf, _andThen_}
+use Rattle.network.specs.Answers.{accepted, refused, answerOf, _andThen_, Judgement}
 use Rattle.network.specs.AnswerLaws.{accepted-so, then-iff}
 use Rattle.network.specs.Check.{checkRecords}
 use Rattle.states.specs.Listed.{state-accepted, switches-listed, few-switches}
@@ -30,7 +30,7 @@ use Rattle.searches.specs.StateLaws.{state-held}
 use Rattle.searches.specs.States.{stateOf}
 
 -- a call that is accepted has a checked network
-pub search-checked : {v : Verdict} (N : Network) (room : Answer (Unit {0})) → v ≡ Accepted → answerOf v ≡ (checkRecords N andThen room) → checkRecords N ≡ accepted tt
+pub search-checked : {v : Verdict} (N : Network) (room : Judgement) → v ≡ Accepted → answerOf v ≡ (checkRecords N andThen room) → checkRecords N ≡ accepted tt
 search-checked N room r tested = then-iff (checkRecords N) room .0 (accepted-so r tested) .0
 
 -- a configuration has bytes for 512 switches

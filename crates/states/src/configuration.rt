@@ -1,5 +1,5 @@
-// States of the switches: their bytes, the base, refusal 10, and the branches that are live.
 // Translated and changed from src/network/reconfiguration.rs of oxigrid. Copyright 2024-2026 COOLJAPAN OU (Team Kitasan), Apache License 2.0.
+// States of the switches: their bytes, the base, refusal 10, and the branches that are live.
 ghost use mathlib.Core.Path.{_≡_};
 ghost use mathlib.Core.Bool.{false, not, _&&_};
 ghost use mathlib.Core.List.{[]};

@@ -7,7 +7,7 @@ use lib.Ieee.{Float, lt}
 use lib.ListN.{length, drop}
 use Rattle.numbers.specs.UpTo.{upTo}
 use Rattle.network.specs.Records.{Network}
-use Rattle.network.specs.Faults.{among}
+use Rattle.numbers.specs.Choose.{among}
 use Rattle.states.specs.Live.{baseState}
 use Rattle.states.specs.Switches.{State, operable, size, switch, toggled}
 use Rattle.radiality.specs.Feeder.{radialIn}

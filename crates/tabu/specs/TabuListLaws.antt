@@ -13,7 +13,7 @@ use lib.Seq.{drop-cons, drop-append-le, getD-drop}
 use borrow.Author.Tests.{eq-eqb, ne-eqb}
 use Rattle.numbers.specs.Arrays.{arrayOf, array-more, array-front}
 use Rattle.numbers.specs.TableLaws.{length-table, getD-table, table-cong, filled, filled-all}
-use Rattle.network.specs.Faults.{among}
+use Rattle.numbers.specs.Choose.{among}
 use Rattle.tabu.specs.declared.tabu_list.TabuList.{TabuList}
 use Rattle.tabu.specs.Tabu.{lastSeven}
 use Rattle.tabu.specs.TabuValues.{tabuListOf, idsOf, HeldList}

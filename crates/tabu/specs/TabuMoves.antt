@@ -16,7 +16,7 @@ use Rattle.network.specs.Inside.{Inside}
 use Rattle.network.specs.Records.{Network, recordsOf}
 use Rattle.network.specs.Answers.{accepted}
 use Rattle.network.specs.Check.{checkRecords}
-use Rattle.network.specs.Faults.{among}
+use Rattle.numbers.specs.Choose.{among}
 use Rattle.network.specs.InsideLaws.{check-inside}
 use Rattle.states.specs.Configuration.{configurationOf}
 use Rattle.states.specs.Live.{live, SameLive}

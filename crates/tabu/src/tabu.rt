@@ -9,7 +9,7 @@ ghost use lib.Ieee.{lt};
 ghost use lib.ListN.{set};
 ghost use Rattle.network.specs.Answers.{accepted};
 ghost use Rattle.network.specs.Check.{checkRecords};
-ghost use Rattle.network.specs.Faults.{among};
+ghost use Rattle.numbers.specs.Choose.{among};
 ghost use Rattle.states.specs.Live.{baseState};
 ghost use Rattle.network.specs.Records.{Network, recordsOf};
 ghost use Rattle.radiality.specs.Feeder.{radialIn};

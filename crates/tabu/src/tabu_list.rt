@@ -4,7 +4,7 @@ ghost use mathlib.Core.Path.{_≡_};
 ghost use mathlib.Core.List.{[], _∷_, _++_};
 ghost use Prim.Native.Nat.{_<_};
 ghost use lib.ListN.{drop};
-ghost use Rattle.network.specs.Faults.{among};
+ghost use Rattle.numbers.specs.Choose.{among};
 ghost use Rattle.tabu.specs.Tabu.{lastSeven};
 ghost use Rattle.tabu.specs.TabuValues.{tabuListOf, idsOf, HeldList};
 use numbers::wide16;

@@ -9,7 +9,7 @@ use lib.ListN.{length, replicate}
 use borrow.Author.Tests.{eq-eqb, ne-eqb}
 use Rattle.numbers.specs.UpTo.{upTo, upTo-more}
 use Rattle.states.specs.Listed.{buses-listed, branches-listed, switches-listed}
-use Rattle.network.specs.Answers.{Answer, accepted, refused, _andThen_}
+use Rattle.network.specs.Answers.{Answer, accepted, refused, _andThen_, Judgement}
 use Rattle.network.specs.AnswerLaws.{then-iff}
 use Rattle.network.specs.Check.{checkRecords}
 use Rattle.states.specs.Live.{onState}
@@ -70,7 +70,7 @@ abbrev pub lossOf : Answer Result → Answer Float
 lossOf (accepted r) = accepted (r .best-loss)
 lossOf (refused n p) = refused n p
 
-bits-if-accepted : (c : Answer (Unit {0})) (r : Result) (bytes out : List ℕ) → (c ≡ accepted tt → T (not (isNan (r .best-loss)))) → NoNan (lossOf (answered c r bytes out .answer))
+bits-if-accepted : (c : Judgement) (r : Result) (bytes out : List ℕ) → (c ≡ accepted tt → T (not (isNan (r .best-loss)))) → NoNan (lossOf (answered c r bytes out .answer))
 bits-if-accepted (accepted u) r bytes out h = h refl
 bits-if-accepted (refused n p) r bytes out h = tt
 

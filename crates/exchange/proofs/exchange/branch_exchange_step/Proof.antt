@@ -20,8 +20,8 @@ use Rattle.searches.specs.StateLaws.{flags-listed, held-bytes, swapped-held}
 use Rattle.searches.specs.StateRows.{flags-loss}
 use Rattle.states.specs.Switches.{size, swapped}
 use Rattle.searches.specs.SwitchReads.{SwitchAt, on-branch, switch-read}
-use Rattle.searches.specs.LastLaws.{last-more}
-use Rattle.searches.specs.Rounds.{lastSome}
+use Rattle.numbers.specs.LastLaws.{last-more}
+use Rattle.numbers.specs.Choose.{lastSome}
 use Rattle.exchange.specs.Exchange.{improving, roundOf}
 use Rattle.exchange.specs.ExchangeSwaps.{sections-long}
 use Rattle.exchange.specs.ExchangeTrials.{Tried, tie-tried, tried-flags, seen-read, see-unseen, see-none, see-tried}

@@ -4,7 +4,7 @@ use Prim.Native.Nat.{_≤_, _-_}
 use native.Mathlib.Omega.{arith}
 use borrow.Author.Needs.{needs}
 use lib.ListN.{drop}
-use Rattle.network.specs.Faults.{among}
+use Rattle.numbers.specs.Choose.{among}
 use Rattle.tabu.specs.TabuValues.{idsOf}
 use Rattle.tabu.specs.TabuListLaws.{contains-next, contains-found, contains-none}
 use Rattle.tabu.proofs.tabu_list.TabuList.contains.Statement.{statement}

@@ -2,10 +2,9 @@
 use mathlib.Core.Path.{_≡_}
 use mathlib.Core.Option.{Option, none, some}
 use Prim.Native.Nat.{ℕ, _+_, _<_}
-use Rattle.numbers.specs.Choose.{_orElse_}
 use Rattle.numbers.specs.IfSome.{IfSome}
 use Rattle.numbers.specs.UpTo.{upTo-more, upTo-keeps}
-use Rattle.searches.specs.Rounds.{lastSome}
+use Rattle.numbers.specs.Choose.{_orElse_, lastSome}
 
 module _ {A : Type 0} (f : ℕ → Option A) where
   -- with the code's `n + 1`
