@@ -1,7 +1,6 @@
 -- Demand 1's first sentence for the calls that take a text and states: a text of records inside the limits, with states of one byte 00 or 01 for each switch and room
 -- in the lent slice, is answered in full. The calls on records, and the one that takes a text alone, are in `answers.specs.Full`.
 use mathlib.Core.Path.{_≡_}
-use mathlib.Core.Bool.{true}
 use mathlib.Core.List.{List, _++_}
 use Prim.Native.Nat.{ℕ, _*_, _≤_}
 use lib.Ieee.{binary64, toBits}
@@ -13,8 +12,8 @@ use Rattle.frames.specs.Acceptable.{Acceptable}
 use Rattle.frames.specs.Proof.{claim}
 use Rattle.frames.specs.Text.{readText}
 use Rattle.printing.specs.Printed.{truthByte}
-use Rattle.radiality.specs.Feeder.{radialIn}
-use Rattle.radiality.specs.FeederLaws.{radial-in-tree}
+use Rattle.graph.specs.Graph.{Tree}
+use Rattle.radiality.specs.Feeder.{feeder, LiveIn, radialIn}
 use Rattle.losses.specs.Loss.{lossIn}
 use Rattle.plan.specs.Plan.{plan, planText}
 use Rattle.plan.specs.Plannable.{Free}
@@ -36,12 +35,10 @@ module _ (t : List ℕ) (N : Network) (a : Acceptable t N) where
   text-loss-in-full s good = rw (has-records, loss-in-full N (a .inside) s good)
 
   -- `feeder_plan`, between radial states whose switches that must move are operable: 11 bytes for each pair
-  pub text-plan-in-full : (present wanted : State) → GoodState N present → GoodState N wanted → radialIn N present ≡ true → radialIn N wanted ≡ true
+  pub text-plan-in-full : (present wanted : State) → GoodState N present → GoodState N wanted → Tree (feeder N) (LiveIn N present) → Tree (feeder N) (LiveIn N wanted)
       → Free N present wanted → (out : List ℕ)
       → let moves = plan N present wanted in
       11 * length moves ≤ length out
       → textPlan t present wanted out ≡ record { answer = accepted (length moves); out = planText moves ++ drop (11 * length moves) out }
   unfolding textPlan planOn
-  text-plan-in-full present wanted p w r v free out room =
-      let tree = radial-in-tree N (claim .checked N .1 (a .inside)) in
-      rw has-records (planned-in-full N (a .inside) present wanted p w (tree present .0 r) (tree wanted .0 v) free out room)
+  text-plan-in-full present wanted p w r v free out room = rw has-records (planned-in-full N (a .inside) present wanted p w r v free out room)

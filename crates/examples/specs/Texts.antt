@@ -12,7 +12,7 @@ use Rattle.lines.specs.Hex.{isDigit, value, digit, number, digits, readFields}
 use Rattle.lines.specs.Lines.{put, cut, lineFaults}
 use Rattle.record_lines.specs.Kinds.{isFrame, fieldsOf, methodOf, readOne, without}
 use Rattle.frames.specs.Text.{follow, pure, readRun, readEnd, readLines, readText}
-use Rattle.frames.specs.Conditions.{verdictOf}
+use Rattle.frames.specs.Conditions.{judgementOf}
 use Rattle.examples.specs.Feeders.{triangle}
 
 -- a line of w digits, written as one number, and its line feed
@@ -75,6 +75,6 @@ tieLines (suc n) = line 12 (0x040000000001 + n * 0x1000100) ++ tieLines n
 abbrev manyTies : ℕ → List ℕ
 manyTies n = line 36 (0x010002000000003FF0000000000000020000 + n * 0x100010000000000000000000000) ++ (line 22 0x0200010000000000000000 ++ (line 22 0x0200020000000000000000 ++ (parallels n ++ tieLines n)))
 
-many-ties : (verdictOf (readText (manyTies 10)) ≡ accepted tt) × refusedAs 9 25 (manyTies 11)
-unfolding readText readLines readOne readRun readEnd without judge _andThen_ follow pure cut put every lineFaults isFrame fieldsOf methodOf number value digit digits isDigit readFields headFaults busFaults branchFaults switchFaults okBase okLoad okR among ties ofBits le neg verdictOf
+many-ties : (judgementOf (readText (manyTies 10)) ≡ accepted tt) × refusedAs 9 25 (manyTies 11)
+unfolding readText readLines readOne readRun readEnd without judge _andThen_ follow pure cut put every lineFaults isFrame fieldsOf methodOf number value digit digits isDigit readFields headFaults busFaults branchFaults switchFaults okBase okLoad okR among ties ofBits le neg judgementOf
 many-ties = (refl, refl)

@@ -16,14 +16,14 @@ use Rattle.network.specs.Inside.{Each, Inside}
 use Rattle.lines.specs.Lines.{cut}
 use Rattle.frames.specs.Text.{readText}
 use Rattle.frames.specs.Acceptable.{textOf, Writable, Acceptable}
-use Rattle.frames.specs.Conditions.{conditions, judgeLines, verdictOf, LowestWins}
+use Rattle.frames.specs.Conditions.{conditions, judgeLines, judgementOf, LowestWins}
 
 pub record Claim : Type 0 where
   -- "The frame reader makes the records": a text is accepted, with these records, exactly where it is their text and they are inside the limits
   pub accepted-texts : (t : List ℕ) (N : Network) → (readText t ≡ accepted N) ↔ Acceptable t N
   -- "The first faulty line decides": over the conditions of each line, found from the text alone. In that line "a line over 36 characters is 2 whatever
   -- they are" comes first, and then the first of its other conditions that is met
-  pub first : (t : List ℕ) → verdictOf (readText t) ≡ judgeLines 1 (conditions (cut t))
+  pub first : (t : List ℕ) → judgementOf (readText t) ≡ judgeLines 1 (conditions (cut t))
   -- "inside a line the lower number wins": of these other conditions that are met it is the lowest number that is given
   pub lower : (t : List ℕ) → Each (λ c. LowestWins (c .others)) (conditions (cut t))
   -- records pass the check exactly where they are inside the limits

@@ -67,9 +67,9 @@ judgeLines place [] = accepted tt
 judgeLines place (c ∷ cs) = judge (ranked c) place andThen judgeLines (suc place) cs
 
 -- an answer without what was asked for
-unfoldable pub verdictOf : {A : Type 0} → Answer A → Judgement
-verdictOf (accepted a) = accepted tt
-verdictOf (refused n place) = refused n place
+unfoldable pub judgementOf : {A : Type 0} → Answer A → Judgement
+judgementOf (accepted a) = accepted tt
+judgementOf (refused n place) = refused n place
 
 -- the numbers whose conditions are met
 unfoldable pub met : List Fault → List ℕ

@@ -17,14 +17,14 @@ use Rattle.lines.specs.Lines.{Line, cut, lineFaults}
 use Rattle.lines.specs.Frames.{Frame}
 use Rattle.record_lines.specs.Kinds.{head, bus, branch, switch, isFrame, fieldsOf, headFrom, busFrom, branchFrom, switchFrom, headLineFaults, busLineFaults, branchLineFaults, switchLineFaults, readOne, without}
 use Rattle.frames.specs.Text.{follow, _>>=_, pure, readRun, readEnd, readLines, readText}
-use Rattle.record_lines.specs.VerdictLaws.{without-then}
+use Rattle.record_lines.specs.JudgementLaws.{without-then}
 use Rattle.frames.specs.ReaderLaws.{go-on, network, behindSwitches, behindBranches, behindBuses, behindHead, lines-read}
-use Rattle.frames.specs.Conditions.{kindConditions, surplusConditions, busesOf, bodyConditions, conditions, judgeLines, verdictOf, LineConditions}
+use Rattle.frames.specs.Conditions.{kindConditions, surplusConditions, busesOf, bodyConditions, conditions, judgeLines, judgementOf, LineConditions}
 
-verdict-then : {A : Type 0} (v : Judgement) (a : A) → verdictOf (v andThen accepted a) ≡ v
-unfolding verdictOf _andThen_
-verdict-then (accepted u) a = refl
-verdict-then (refused n p) a = refl
+judgement-then : {A : Type 0} (v : Judgement) (a : A) → judgementOf (v andThen accepted a) ≡ v
+unfolding judgementOf _andThen_
+judgement-then (accepted u) a = refl
+judgement-then (refused n p) a = refl
 
 module _ {A : Type 0} (F : Frame) (make : Fields (F .widths) → A) (faults : List A → Fields (F .widths) → List Fault) where
   abbrev made : Line → A
@@ -98,18 +98,18 @@ body-judged h ls =
           ∙ ap (λ x. x andThen end) (sym judged),
     )
 
-lines-judged : (ls : List Line) → verdictOf (without (readLines ls)) ≡ judgeLines 1 (conditions ls)
-unfolding readLines readOne lineFaults conditions judgeLines judge follow without verdictOf _andThen_
+lines-judged : (ls : List Line) → judgementOf (without (readLines ls)) ≡ judgeLines 1 (conditions ls)
+unfolding readLines readOne lineFaults conditions judgeLines judge follow without judgementOf _andThen_
 lines-judged [] = refl
 lines-judged (l ∷ ls) =
     let h : Head = headFrom (fieldsOf head l) in
     let v : Judgement = judge (lineFaults (isFrame head l) l ++ headLineFaults (fieldsOf head l)) 1 in
     let b = body-judged h ls in
     let w : Judgement = judgeLines 2 (bodyConditions h ls) in
-    ap (λ x. verdictOf (without x)) (lines-read (l ∷ ls) ∙ go-on v (h, ls) behindHead refl ∙ ap (λ x. v andThen x) (b .1) ∙ then-assoc v w (accepted (b .0)))
-    ∙ ap verdictOf (without-then (v andThen w) (b .0 .0) (b .0 .1))
-    ∙ verdict-then (v andThen w) (b .0 .0)
+    ap (λ x. judgementOf (without x)) (lines-read (l ∷ ls) ∙ go-on v (h, ls) behindHead refl ∙ ap (λ x. v andThen x) (b .1) ∙ then-assoc v w (accepted (b .0)))
+    ∙ ap judgementOf (without-then (v andThen w) (b .0 .0) (b .0 .1))
+    ∙ judgement-then (v andThen w) (b .0 .0)
 
-pub first-fault : (t : List ℕ) → verdictOf (readText t) ≡ judgeLines 1 (conditions (cut t))
+pub first-fault : (t : List ℕ) → judgementOf (readText t) ≡ judgeLines 1 (conditions (cut t))
 unfolding readText
 first-fault t = lines-judged (cut t)

@@ -25,7 +25,7 @@ use Rattle.record_lines.specs.Kinds.{isFrame, fieldsOf, head, switch, headFrom,
 use Rattle.frames.specs.Text.{follow, _>>=_, pure, readRun, readEnd, readLines, readText}
 use Rattle.frames.specs.Acceptable.{textOf, Writable}
 use Rattle.lines.specs.JudgeLaws.{judge-passed, judge-append, line-passed}
-use Rattle.record_lines.specs.VerdictLaws.{then-accepted, without-then}
+use Rattle.record_lines.specs.JudgementLaws.{then-accepted, without-then}
 use Rattle.frames.specs.ReaderLaws.{go-on, follow-accepted, without-accepted, network, behindSwitches, behindBranches, behindBuses, behindHead, lines-read}
 use Rattle.lines.specs.CutLaws.{joined, joined-cut, cut-joined, DigitLine, digit-lines}
 use Rattle.frames.specs.LineLaws.{lineOf, line-digits, fields-line, line-clear, line-kept}

@@ -12,7 +12,7 @@ use Rattle.network.specs.Limits.{Head}
 use Rattle.lines.specs.Lines.{Line}
 use Rattle.lines.specs.FirstLine.{judgeEnd}
 use Rattle.record_lines.specs.Kinds.{head, bus, branch, switch, headFrom, busFrom, branchFrom, switchFrom, headLineFaults, busLineFaults, branchLineFaults, switchLineFaults, Reader, readOne, without}
-use Rattle.record_lines.specs.VerdictLaws.{without-then}
+use Rattle.record_lines.specs.JudgementLaws.{without-then}
 use Rattle.frames.specs.Text.{follow, _>>=_, pure, readRun, readEnd, readLines}
 
 -- ---- a reader that goes on after a verdict

@@ -10,7 +10,7 @@ use Rattle.lines.specs.Hex.{Fields, readFields}
 use Rattle.lines.specs.Lines.{cut}
 use Rattle.lines.specs.Frames.{Frame}
 use Rattle.record_lines.specs.Kinds.{readOne, without}
-use Rattle.record_lines.specs.VerdictLaws.{without-then}
+use Rattle.record_lines.specs.JudgementLaws.{without-then}
 use Rattle.lines.specs.FirstLine.{judgeFrame}
 use Rattle.record_lines.specs.FramedLaws.{Framed, framed, size, fieldsAt, one-refused, one-framed}
 use Rattle.numbers.specs.Parts.{part-rest, part-is}

@@ -14,7 +14,7 @@ use Rattle.lines.specs.Lines.{Line, cut, lineFaults}
 use Rattle.lines.specs.Frames.{Frame, layout}
 use Rattle.record_lines.specs.Kinds.{isFrame, fieldsOf, readOne, without}
 use Rattle.lines.specs.JudgeLaws.{judge-append, line-passed}
-use Rattle.record_lines.specs.VerdictLaws.{then-accepted, without-then}
+use Rattle.record_lines.specs.JudgementLaws.{then-accepted, without-then}
 use Rattle.network.specs.AnswerLaws.{same-value, no-refusal}
 use Rattle.numbers.specs.Tests.{both}
 use Rattle.lines.specs.FirstLine.{judgeFirst, wanted, judgeFrame}

@@ -1,4 +1,4 @@
 pub mod Kinds
 pub mod LineAnswers
-pub mod VerdictLaws
+pub mod JudgementLaws
 pub mod FramedLaws
