@@ -1,6 +1,6 @@
 /* The calls of Lugwefa for controllers and rollout tools.
  *
- * `rt staticlib controller` proves them and writes target/staticlib/libcontroller.a (x86-64 Linux; it needs memcpy and memset and
+ * `rt staticlib controller` proves them and writes target/staticlib/libcontroller.a (x86-64 Linux; it needs memcpy, memmove and memset and
  * nothing else). Their promises are the equations in crates/controller/src/calls.rt. Nothing checks this header against that file
  * but the programs of tests/interface.
  *
@@ -9,7 +9,7 @@
  *
  * What the caller owes, and nothing tests: each pointer is good for as many bytes as the length behind it says (with length 0 it may
  * be null), nothing else writes these bytes during the call, and `out` overlaps no other slice. No alignment is asked for.
- * A call keeps nothing: it may run in several threads at once. It allocates nothing; it needs FEEDER_STACK bytes of stack.
+ * A call keeps nothing: it may run in several threads at once. It allocates nothing; it runs on FEEDER_STACK bytes of stack.
  */
 #ifndef FEEDER_H
 #define FEEDER_H
@@ -28,7 +28,7 @@ extern "C" {
 /* Bytes of the longest answer to a text. */
 #define FEEDER_TEXT_LENGTH 7472
 
-/* Stack that is enough for any call. */
+/* Stack that is enough for every call of tests/interface, those on the largest feeder included; tested, not proved. */
 #define FEEDER_STACK 1048576
 
 /* number 0: not refused, and value is what was asked for (place is 0).
@@ -39,12 +39,12 @@ extern "C" {
  *   4   a count of the head over its limit
  *   5   a float outside its range, or not finite
  *   6   a branch end that is not listed, or a branch position not below the count
- *   7   a bus or switch id twice
+ *   7   a bus id twice among the buses, or a switch id twice among the switches
  *   8   a second switch on a branch
  *   9   an eleventh normally open switch with method 02
  *   10  a state isn't one byte 0 or 1 for each switch, place 0 for the present or only state, 1 for the wanted one
  *   11  a plan's state isn't radial, place likewise
- *   12  the plan would move a locked switch, place is its id
+ *   12  the plan would move a locked switch, place is the first such id in list order
  *   13  out is shorter than the answer, place 0
  * The place of 1 to 9 is the text's line, from 1: the first faulty line is answered, and of its numbers the lowest (2 where it is over 36
  * characters). A faulty text comes before 10, and 10 to 13 come in this order. */

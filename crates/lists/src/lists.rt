@@ -61,7 +61,8 @@ fn list_row(
     end
 }
 
-// The lists of a graph's buses, read off their rows, 1,024 entries at most: room for every list of a graph that Graph::new made.
+// The lists of a graph's buses, read off their rows, 1,024 entries at most: room for every list of a graph of at most 256 buses
+// that Graph::new made.
 pub fn live_lists(graph: Graph, live: &[bool; 512]) -> LiveLists
     ensures { λ r. ⌜ r ≡ liveLists graph (now (live .entry)) ⌝ }
 {

@@ -1,5 +1,6 @@
 -- The loss as the code takes it: the neighbours of each bus by live branches are listed off a graph's rows, and the walks go by the lists.
--- ListLossLaws shows that on every graph of `Graph::new` it is document 01's loss, FeederLoss that it is an accepted feeder's.
+-- ListLossLaws shows that on every graph of `Graph::new` with at most 256 buses whose ends are buses of it this is document 01's loss, FeederLoss that it is an accepted
+-- feeder's.
 use mathlib.Core.Path.{_≡_}
 use mathlib.Core.Bool.{Bool, cond}
 use mathlib.Core.List.{List, map}

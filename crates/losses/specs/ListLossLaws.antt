@@ -1,4 +1,4 @@
--- The loss by the lists of a graph that `Graph::new` made is document 01's loss: a walk by them reaches the buses of the walk by scan, in the same order.
+-- The loss by the lists of a graph that `Graph::new` made, of at most 256 buses and with ends among them, is document 01's loss: a walk by them reaches the buses of the walk by scan, in the same order.
 use mathlib.Core.Path.{_≡_, refl, ap, _∙_}
 use mathlib.Core.Bool.{Bool, true, cond}
 use mathlib.Core.List.{List, map}
@@ -46,7 +46,7 @@ module _ (n m : ℕ) (from to : List ℕ) (live : List Bool) (few : n ≤ 256) (
   list-loss loads branches base =
       ap (λ t. cond (eqb n 0) zero64 t) (total-same (flag live) (flag live) _ _ _ _ base m (λ k h. refl) (λ k h. refl) (λ k h e. load-behind (megawattsOf loads) k h e))
 
--- so the loss by the lists of a graph that `Graph::new` made is that of its net
+-- so the loss by the lists of such a graph is that of its net
 pub net-loss : (g : Graph) (loads : List Power) (branches : List Branch) (base : Float) (live : List Bool) → length live ≤ 512 → (r : Float)
     → r ≡ listLoss g loads branches base live → NetLoss g loads branches base live r
 net-loss g loads branches base live short r e n m from to few sound made =

@@ -77,7 +77,7 @@ fn total_loss(
 }
 
 // The loss of a state, in megawatts: live branches by rising position. The neighbours by live branches are listed once, and each walk reads the lists; on every graph
-// of Graph::new whose ends are buses that is the loss by document 01's scan.
+// of Graph::new with at most 256 buses whose ends are buses of it that is the loss by document 01's scan.
 pub fn compute_losses_estimate(
     graph: Graph,
     loads: [Power; 256],
