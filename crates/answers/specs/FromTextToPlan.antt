@@ -24,7 +24,7 @@ use Rattle.reconfiguration.specs.Solve.{best, result}
 use Rattle.operations.specs.Operations.{operationOf, operations, operationsText}
 use Rattle.operations.specs.OperationValues.{differs}
 use Rattle.answers.specs.declared.printer.TextAnswer.the-variants.{Printed}
-use Rattle.answers.specs.Printing.{resultText, answeredText, textAnswerOf}
+use Rattle.answers.specs.Printing.{resultText, printed, answeredText, textAnswerOf}
 use Rattle.answers.specs.ReadBack.{operationsIn, pairsIn}
 
 -- what is done to a switch by its bytes before and after, "00 (closed) or 01 (open)"
@@ -60,9 +60,10 @@ module _ (N : Network) where
     -- and nothing else stands there: the search's 81 line, then these 82 lines, then these 83 lines, each as document 01 writes it
     pub whole : bytes ≡ resultText (result N) ++ (operationsText (operationsIn bytes) ++ planText (pairsIn bytes))
 
--- For every text and every lent slice: where `answer_text` answers that n bytes were written, and `after` is the slice then, and N are the text's records, all of this holds
--- of the first n bytes of the slice. That it answers so for every text with records, given room, is `Full.printed-in-full`
-abbrev pub MainStatement : Type 0
-MainStatement =
-    (text out after : List ℕ) (n : ℕ) → record { answer = textAnswerOf (Printed n); out = after } ≡ answeredText text out
-    → (N : Network) → readText text ≡ accepted N → FromTextToPlan N (take n after)
+pub record MainStatement : Type 0 where
+  -- for every text and every lent slice: where `answer_text` answers that n bytes are written, `after` is the slice then, and N are the text's records, the first n bytes
+  -- of the slice say all this. With room for the lines it always answers so (`Full.printed-in-full`)
+  pub call : (text out after : List ℕ) (n : ℕ) → record { answer = textAnswerOf (Printed n); out = after } ≡ answeredText text out
+      → (N : Network) → readText text ≡ accepted N → FromTextToPlan N (take n after)
+  -- and so do the bytes that `feeder` prints
+  pub program : (text : List ℕ) (N : Network) → readText text ≡ accepted N → FromTextToPlan N (printed text)

@@ -1,5 +1,6 @@
--- The main statement, proved: what the call writes is the text of the records (`text-printed`); its lines are those of the result, of the operations and of the pairs
--- (`network-lines`); each kind is read back as it was written, for ids of accepted texts have four digits (`switch-short`).
+-- The main statement, proved: what the call writes is what is printed for the text (`text-printed`), and that is the text of its records (`network-printed`); its lines are
+-- those of the result, of the operations and of the pairs (`network-lines`); each kind is read back as it was written, for the ids of a text's records have four digits
+-- (`switch-short`).
 use mathlib.Core.Path.{_≡_, refl, sym, ap, ap₂, subst, _∙_}
 use mathlib.Core.Logic.{_≢_}
 use mathlib.Core.Bool.{Bool, true, false, not, cond}
@@ -61,13 +62,13 @@ call-answered {A} tests a bytes out {n} {after} e = go (tests andThen checkRoom 
     go (accepted u) q = (same-value (ap (λ (c : Call A). c .answer) q), ap (λ (c : Call A). c .out) q)
     go (refused number place) q = no-refusal (sym (ap (λ (c : Call A). c .answer) q))
 
-text-printed : (text out after : List ℕ) (n : ℕ) → record { answer = textAnswerOf (Printed n); out = after } ≡ answeredText text out
-    → (N : Network) → readText text ≡ accepted N → take n after ≡ networkText N
+network-printed : (text : List ℕ) (N : Network) → readText text ≡ accepted N → printed text ≡ networkText N
+unfolding printed
+network-printed text N r = ap printedOf r
+
+text-printed : (text out after : List ℕ) (n : ℕ) → record { answer = textAnswerOf (Printed n); out = after } ≡ answeredText text out → take n after ≡ printed text
 unfolding answeredText
-text-printed text out after n e N r =
-    let c = call-answered _ (length (printed text)) (printed text) out e in
-    let so : printed text ≡ networkText N = unfold printed in ap printedOf r in
-    rw (c .0, c .1) (take-append-seam (printed text) _ ∙ so)
+text-printed text out after n e = let c = call-answered _ (length (printed text)) (printed text) out e in rw (c .0, c .1) (take-append-seam (printed text) _)
 
 -- ---- the lines of a feeder's text
 abbrev answerFields : Result → Fields (answer .widths)
@@ -238,6 +239,11 @@ module _ (N : Network) where
       whole = network-lines ∙ rw (pairs-read, operations-read) (unfold linesText in refl);
     }
 
+text-read : (text : List ℕ) (N : Network) → readText text ≡ accepted N → FromTextToPlan N (printed text)
+text-read text N r = subst (FromTextToPlan N) (sym (network-printed text N r)) (network-read N (claim .accepted-texts text N .0 r .writable) (passed text N r))
+
 pub from-text-to-plan : MainStatement
-from-text-to-plan text out after n e N r =
-    subst (FromTextToPlan N) (sym (text-printed text out after n e N r)) (network-read N (claim .accepted-texts text N .0 r .writable) (passed text N r))
+from-text-to-plan = record {
+  call = λ text out after n e N r. subst (FromTextToPlan N) (sym (text-printed text out after n e)) (text-read text N r);
+  program = text-read;
+}
