@@ -28,7 +28,7 @@ use Rattle.reconfiguration.specs.AnswersHavePlans.{solve-has-plan}
 use Rattle.operations.specs.Operations.{operationTo, operations, operationsText}
 use Rattle.answers.specs.Printing.{resultText, operationLines, planLines, moveLines, networkText, printed}
 
-triangle-printed : printed triangleText
+pub triangle-printed : printed triangleText
     ≡ line 58 0x810140100000000000003FF00000000000004052C00000000000000201
     ++ (line 8 0x82000A00
     ++ (line 8 0x82000B01
