@@ -213,21 +213,21 @@ seen-read n ok c i sw served at b e =
     ∙ ap (λ x. sw .«normally_open» && (sw .«can_operate» && eqb x 1)) (byte-at n c i (at .below))
     ∙ sym e
 
-module _ (N : Network) (c : NetworkConfiguration) (s : State) (current : Float) (b : Option State) (best : Trial) (q : best ≡ trialOf N c b) (i : ℕ) where
-  pub see-unseen : seen N s i ≡ false → best ≡ trialOf N c (improving N s current i orElse b)
+module _ (N : Network) (c : NetworkConfiguration) (s : State) (current : Float) (b : Option State) (last : Trial) (q : last ≡ trialOf N c b) (i : ℕ) where
+  pub see-unseen : seen N s i ≡ false → last ≡ trialOf N c (improving N s current i orElse b)
   unfolding _orElse_
   see-unseen f = rw f q
 
   module _ (t : seen N s i ≡ true) where
-    pub see-none : trial N s i ≡ none → best ≡ trialOf N c (improving N s current i orElse b)
+    pub see-none : trial N s i ≡ none → last ≡ trialOf N c (improving N s current i orElse b)
     unfolding improved _orElse_
     see-none e = rw (t, e) q
 
     pub see-tried : (u : State) → trial N s i ≡ some u → (loss : Float) → loss ≡ lossIn N u → (d : NetworkConfiguration) → d ≡ configurationOf u
-        → cond (lt loss (sub binary64 current billionth)) (record { found = true; configuration = d; loss = loss }) best ≡ trialOf N c (improving N s current i orElse b)
+        → cond (lt loss (sub binary64 current billionth)) (record { found = true; configuration = d; loss = loss }) last ≡ trialOf N c (improving N s current i orElse b)
     unfolding improved improves trialOf _orElse_
     see-tried u e loss l d p = rw (t, e, l, p) (go (lt (lossIn N u) (sub binary64 current billionth)))
       where
-        go : (better : Bool) → cond better (record { found = true; configuration = configurationOf u; loss = lossIn N u }) best ≡ trialOf N c (cond better (some u) none orElse b)
+        go : (better : Bool) → cond better (record { found = true; configuration = configurationOf u; loss = lossIn N u }) last ≡ trialOf N c (cond better (some u) none orElse b)
         go true = refl
         go false = q

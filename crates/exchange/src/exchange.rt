@@ -203,9 +203,9 @@ fn swapped_live(live: [bool; 512], closed: usize, in_service: bool, opened: usiz
     swapped
 }
 
-// The best of a round after the swap of a tie with a section: one that improves takes the place of the one before.
-fn better_of(
-    best: Trial,
+// The last improving trial of a round once a tie's swap with a section is seen too: one that improves takes the place of the one before, better or not.
+fn last_improving(
+    last: Trial,
     configuration: NetworkConfiguration,
     current: f64,
     tie: usize,
@@ -214,7 +214,7 @@ fn better_of(
 ) -> Trial
     requires { ⌜ (tie < 512) × (section < 512) ⌝ }
     ensures { λ r. ⌜ r ≡ cond (lt loss (sub binary64 current billionth))
-        (record { found = true; configuration = record { switches = set (set (configuration .switches) tie 0) section 1 }; loss = loss }) best ⌝ }
+        (record { found = true; configuration = record { switches = set (set (configuration .switches) tie 0) section 1 }; loss = loss }) last ⌝ }
 {
     if improves(loss, current) {
         let mut swapped = configuration;
@@ -226,7 +226,7 @@ fn better_of(
             loss,
         };
     }
-    best
+    last
 }
 
 // A round: the last improving trial among the switches in list order, each tried from the state as the round found it.
@@ -246,7 +246,7 @@ fn branch_exchange_step(
     let branches = network.branches;
     let base_mva = network.base_mva;
     let count = wide16(network.switch_count);
-    let mut best = Trial {
+    let mut last = Trial {
         found: false,
         configuration,
         loss: 0.0,
@@ -269,19 +269,19 @@ fn branch_exchange_step(
                 let opened = wide16(network.switches[section].branch_idx);
                 let swapped = swapped_live(live, on, served, opened);
                 let loss = compute_losses_estimate(graph, loads, branches, base_mva, swapped);
-                best = better_of(best, configuration, current, i, section, loss);
+                last = last_improving(last, configuration, current, i, section, loss);
             }
         }
         i += 1;
     }
-    best
+    last
 }
 
 // Every round counts; a round without an improving trial ends the search.
 fn after_round(done: BranchExchange, step: Trial) -> BranchExchange
     requires { ⌜ done .rounds < 65535 ⌝ }
-    ensures { λ r. ⌜ ((N : Network) (x : Exchange) (best : Option State) → done ≡ exchangeOf x → step ≡ trialOf N (done .configuration) best
-        → r ≡ exchangeOf (afterRound N x best)) ⌝ }
+    ensures { λ r. ⌜ ((N : Network) (x : Exchange) (last : Option State) → done ≡ exchangeOf x → step ≡ trialOf N (done .configuration) last
+        → r ≡ exchangeOf (afterRound N x last)) ⌝ }
 {
     let rounds = done.rounds + 1;
     if step.found {
