@@ -1,7 +1,7 @@
 -- How long a plan is: as many pairs as branches live in the wanted state are missing, so fewer than there are buses; and how long its text is.
 use mathlib.Core.Path.{_≡_}
 use mathlib.Core.List.{List}
-use Prim.Native.Nat.{ℕ, _-_, _*_, _≤_}
+use Prim.Native.Nat.{_-_, _*_, _≤_}
 use native.Mathlib.Omega.{arith}
 use lib.ListN.{length, length-map}
 use Rattle.numbers.specs.CountLaws.{count-mono}
