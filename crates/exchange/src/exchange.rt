@@ -22,7 +22,7 @@ ghost use Rattle.exchange.specs.Exchange.{Exchange, roundOf, afterRound,
 ghost use Rattle.exchange.specs.ExchangeValues.{sectionIn, sectionAt, sectionsOf, rowSwap, rowTrial, trialOf, exchangeOf};
 use bfs::radial::is_radial;
 use graph::rows::Graph;
-use graph::walks::Path;
+use graph::walks::PathBranches;
 use losses::estimate::compute_losses_estimate;
 use network::bus::Power;
 use network::error::Verdict;
@@ -133,7 +133,7 @@ fn first_swap(
     sections: &[u16; 512],
     state: &[u8; 512],
     live: [bool; 512],
-    path: Path,
+    path: PathBranches,
 ) -> Section
     requires { ⌜ (length (now sections) ≡ 512) × (length (now state) ≡ 512) × (path .count ≤ 256) ⌝ }
     ensures { λ r. ⌜ r ≡ sectionAt (firstSome (rowSwap graph (now (sections .entry)) (now (state .entry)) live) (take (path .count) (path .branch))) ⌝ }
@@ -150,7 +150,7 @@ fn first_swap(
 }
 
 // The branches that a closed tie on this branch would make a loop with: the path from its from bus to its to bus.
-fn find_loop_branches_closed_tie(graph: Graph, live: [bool; 512], branch: u16) -> Path
+fn find_loop_branches_closed_tie(graph: Graph, live: [bool; 512], branch: u16) -> PathBranches
     ensures { λ r. ⌜ r ≡ pathOf (rowEndsPath graph live branch) ⌝ }
 {
     path_of_ends(graph, live, branch)
