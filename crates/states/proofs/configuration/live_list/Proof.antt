@@ -18,9 +18,6 @@ Inv-loop count opened branches m flags₀ k₀ flags k = (k ≤ m) × (flags ≡
 abbrev μ-loop : tie.MeasureT-loop
 μ-loop count opened branches m flags₀ k₀ flags k = m - k
 
-cast-at-most : tie.Need-cast-at-most Inv-loop μ-loop
-cast-at-most c = search needs
-
 at-most-requires : tie.Need-at-most-requires Inv-loop μ-loop
 at-most-requires c κs = search needs
 
@@ -78,7 +75,6 @@ live-list-spec =
     (tie.spec
     Inv-loop
     μ-loop
-    cast-at-most
     at-most-requires
     no-branches-requires
     loop-holds

@@ -41,9 +41,6 @@ wide16-requires c κs = search needs
 element-copy-out-if1 : tie.Need-element-copy-out-if1 Inv-loop μ-loop
 element-copy-out-if1 c = search needs
 
-cast-if2 : tie.Need-cast-if2 Inv-loop μ-loop
-cast-if2 c = search needs
-
 array-write-opened : tie.Need-array-write-opened Inv-loop μ-loop
 array-write-opened c = search needs
 
@@ -90,7 +87,6 @@ open-branches-spec =
     element-copy-out-wide16
     wide16-requires
     element-copy-out-if1
-    cast-if2
     array-write-opened
     add-i
     loop-less

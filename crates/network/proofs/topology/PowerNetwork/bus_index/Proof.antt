@@ -21,9 +21,6 @@ abbrev μ-loop : tie.MeasureT-loop
 cast-at-most : tie.Need-cast-at-most Inv-loop μ-loop
 cast-at-most c = search needs
 
-cast-at-most-2 : tie.Need-cast-at-most-2 Inv-loop μ-loop
-cast-at-most-2 c = search needs
-
 at-most-requires : tie.Need-at-most-requires Inv-loop μ-loop
 at-most-requires c κs = search needs
 
@@ -83,7 +80,6 @@ bus-index-spec =
     Inv-loop
     μ-loop
     cast-at-most
-    cast-at-most-2
     at-most-requires
     loop-holds
     mul-if1
