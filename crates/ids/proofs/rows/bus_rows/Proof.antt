@@ -19,7 +19,7 @@ rows-of-requires c κs = search needs
 returns : tie.Need-returns
 returns c =
     let start = c .before .before .before in
-    let sized : length (start .args .buses) ≡ 256 = start .good .0 .1 .0 .1 in
+    let sized : length (start .args .buses) ≡ 256 = search needs in
     c .rows-of .ensures ∙ rows-listed busId (start .args .buses) (start .args .count) _ 256 _ sized (c .before .before .at-most .ensures) (c .before .bus-ids .ensures)
 
 pub bus-rows-spec : {M : Type 1} → statement M

@@ -19,7 +19,7 @@ rows-of-requires c κs = search needs
 returns : tie.Need-returns
 returns c =
     let start = c .before .before .before in
-    let sized : length (start .args .switches) ≡ 512 = start .good .0 .1 .0 .1 in
+    let sized : length (start .args .switches) ≡ 512 = search needs in
     c .rows-of .ensures ∙ rows-listed switchId (start .args .switches) (start .args .count) _ 512 _ sized (c .before .before .at-most .ensures) (c .before .switch-ids .ensures)
 
 pub switch-rows-spec : {M : Type 1} → statement M

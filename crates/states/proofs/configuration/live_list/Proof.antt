@@ -52,7 +52,7 @@ loop-again : tie.Need-loop-again Inv-loop μ-loop
 loop-again c =
     let at = c .before .before .before .before in
     let start = at .before .before .before in
-    let read = branch-read (start .args .t1) (at .loop .k) (start .good .0 .1 .0 .1) (search needs) in (
+    let read = branch-read (start .args .t1) (at .loop .k) (search needs) (search needs) in (
       search needs,
       rw (
         at .loop .inv .1,
