@@ -24,7 +24,7 @@ use Rattle.states.specs.Configuration.{configurationOf}
 use Rattle.network.specs.InsideLaws.{check-inside}
 use Rattle.network.specs.Positions.{on-a-branch}
 use Rattle.graph.specs.declared.rows.Graph.{Graph}
-use Rattle.graph.specs.declared.walks.Path.{Path}
+use Rattle.graph.specs.declared.walks.PathBranches.{PathBranches}
 use Rattle.graph.specs.Rows.{pathOf, rowEndsPath, rowRadial}
 use Rattle.radiality.specs.Feeder.{feeder}
 use Rattle.radiality.specs.FeederRows.{feederGraph, liveFlags}
@@ -130,7 +130,7 @@ module _ (f : ℕ → Option ℕ) (array : List ℕ) (count i : ℕ) (section : 
   along-found {k} h q = ap sectionAt (sym (first-found f path i k inside (here (some k) (section-some _ section e h))) ∙ q)
 
 -- ---- a path as the code holds it
-pub path-list : (l : List ℕ) (p : Path) → p ≡ pathOf l → take (p .count) (p .branch) ≡ l
+pub path-list : (l : List ℕ) (p : PathBranches) → p ≡ pathOf l → take (p .count) (p .branch) ≡ l
 unfolding pathOf
 path-list l p e = rw e (padded-front 256 0 l)
 

@@ -22,7 +22,7 @@ ghost use Rattle.exchange.specs.Exchange.{Exchange, roundOf, afterRound,
 ghost use Rattle.exchange.specs.ExchangeValues.{sectionIn, sectionAt, sectionsOf, rowSwap, rowTrial, trialOf, exchangeOf};
 use bfs::radial::is_radial;
 use graph::rows::Graph;
-use graph::walks::Path;
+use graph::walks::PathBranches;
 use losses::estimate::compute_losses_estimate;
 use network::bus::Power;
 use network::error::Verdict;
@@ -136,7 +136,7 @@ fn first_swap(
     sections: &[u16; PowerNetwork::MAX_BRANCHES],
     state: &[u8; NetworkConfiguration::MAX_SWITCHES],
     live: [bool; PowerNetwork::MAX_BRANCHES],
-    path: Path,
+    path: PathBranches,
 ) -> Section
     requires { ⌜ (length (now sections) ≡ 512) × (length (now state) ≡ 512) × (path .count ≤ 256) ⌝ }
     ensures { λ r. ⌜ r ≡ sectionAt (firstSome (rowSwap graph (now (sections .entry)) (now (state .entry)) live) (take (path .count) (path .branch))) ⌝ }
@@ -157,7 +157,7 @@ fn find_loop_branches_closed_tie(
     graph: Graph,
     live: [bool; PowerNetwork::MAX_BRANCHES],
     branch: u16,
-) -> Path
+) -> PathBranches
     ensures { λ r. ⌜ r ≡ pathOf (rowEndsPath graph live branch) ⌝ }
 {
     path_of_ends(graph, live, branch)

@@ -10,7 +10,7 @@ pub struct Walk {
 }
 
 // The branches of a path, in order: the first count entries, then 0.
-pub struct Path {
+pub struct PathBranches {
     pub count: u16,
     pub branch: [u16; Graph::MAX_BUSES],
 }

@@ -6,12 +6,12 @@ ghost use Rattle.graph.specs.Rows.{flag, pathOf};
 ghost use Rattle.openings.specs.Opening.{firstUnwanted, rowOpening};
 use graph::flags::flagged;
 use graph::rows::Graph;
-use graph::walks::Path;
+use graph::walks::PathBranches;
 use numbers::wide16;
 use paths::path::path_of_ends;
 
 // The first branch of a path that is not wanted; 0 where all are.
-fn first_unwanted(path: Path, wanted: &[bool]) -> u16
+fn first_unwanted(path: PathBranches, wanted: &[bool]) -> u16
     requires { ⌜ path .count ≤ 256 ⌝ }
     ensures { λ r. ⌜ ((l : List ℕ) → path ≡ pathOf l → r ≡ firstUnwanted (flag (now (wanted .entry))) l) ⌝ }
 {

@@ -9,7 +9,7 @@ ghost use Rattle.graph.specs.Rows.{walked, rowNet, acrossFar, rowPath, rowEndsP
 ghost use Rattle.graph.specs.Walking.{WayOf};
 use bfs::walk::walk;
 use graph::rows::Graph;
-use graph::walks::Path;
+use graph::walks::PathBranches;
 use graph::walks::Walk;
 use numbers::wide8;
 use numbers::wide16;
@@ -57,7 +57,7 @@ fn across(far: &[u8; Graph::MAX_HALVES], k: u16, u: u8) -> u8
 }
 
 // The branches that lead from bus b back to start, MAX_BUSES at most.
-fn way_back(graph: Graph, by: [u16; Graph::MAX_BUSES], start: u8, b: u8) -> Path
+fn way_back(graph: Graph, by: [u16; Graph::MAX_BUSES], start: u8, b: u8) -> PathBranches
     ensures { λ r. ⌜ ((o : List Visit) → ((x : ℕ) → x < 256 → getD by x 0 ≡ byOf x o) → r ≡ pathOf (back (rowNet graph) o start 256 b)) ⌝ }
 {
     let far = graph.far;
@@ -67,7 +67,7 @@ fn way_back(graph: Graph, by: [u16; Graph::MAX_BUSES], start: u8, b: u8) -> Path
     while i < Graph::MAX_BUSES {
         if at == start {
             let count = i as u16;
-            return Path { count, branch };
+            return PathBranches { count, branch };
         }
         let x = wide8(at);
         let k = by[x];
@@ -76,11 +76,11 @@ fn way_back(graph: Graph, by: [u16; Graph::MAX_BUSES], start: u8, b: u8) -> Path
         i += 1;
     }
     let count = i as u16;
-    Path { count, branch }
+    PathBranches { count, branch }
 }
 
 // A list of branches turned round.
-fn turned(list: Path) -> Path
+fn turned(list: PathBranches) -> PathBranches
     requires { ⌜ list .count ≤ 256 ⌝ }
     ensures { λ r. ⌜ ((l : List ℕ) → list ≡ pathOf l → r ≡ pathOf (reverse l)) ⌝ }
 {
@@ -93,11 +93,11 @@ fn turned(list: Path) -> Path
         branch[end] = list.branch[at];
         i += 1;
     }
-    Path { count: n, branch }
+    PathBranches { count: n, branch }
 }
 
 // The branches of the path that a walk finds, beginning at bus from: none where the buses are the same or to is not reached.
-fn bfs_path(graph: Graph, live: [bool; Graph::MAX_BRANCHES], from: u8, to: u8) -> Path
+fn bfs_path(graph: Graph, live: [bool; Graph::MAX_BRANCHES], from: u8, to: u8) -> PathBranches
     ensures { λ r. ⌜ r ≡ pathOf (rowPath graph live from to) ⌝ }
 {
     let ways = ways_of(walk(graph, live, from));
@@ -105,18 +105,18 @@ fn bfs_path(graph: Graph, live: [bool; Graph::MAX_BRANCHES], from: u8, to: u8) -
     if ways.reached[at] {
         return turned(way_back(graph, ways.by, from, to));
     }
-    Path {
+    PathBranches {
         count: 0,
         branch: [0u16; Graph::MAX_BUSES],
     }
 }
 
 // The path between the ends of branch k, beginning at its from bus. Beyond the branches that a graph has room for both ends are bus 0, so the path is empty.
-pub fn path_of_ends(graph: Graph, live: [bool; Graph::MAX_BRANCHES], k: u16) -> Path
+pub fn path_of_ends(graph: Graph, live: [bool; Graph::MAX_BRANCHES], k: u16) -> PathBranches
     ensures { λ r. ⌜ r ≡ pathOf (rowEndsPath graph live k) ⌝ }
 {
     if Graph::MAX_BRANCHES <= k as usize {
-        return Path {
+        return PathBranches {
             count: 0,
             branch: [0u16; Graph::MAX_BUSES],
         };
