@@ -28,6 +28,7 @@ use reconfiguration::solve::solve;
 use searches::answer::ReconfigResult;
 use searches::answer::SolveAnswer;
 use slices::writer::write_bytes;
+use states::configuration::NetworkConfiguration;
 use states::configuration::build_base_configuration;
 
 // The longest answer: an 81 line, an 82 line for each of 512 switches, an 83 line for each of 255 pairs.
@@ -59,8 +60,8 @@ fn write_result(out: &mut [u8], result: ReconfigResult)
 fn write_operations(
     out: &mut [u8],
     network: PowerNetwork,
-    base: [u8; 512],
-    best: [u8; 512],
+    base: [u8; NetworkConfiguration::MAX_SWITCHES],
+    best: [u8; NetworkConfiguration::MAX_SWITCHES],
 ) -> usize
     requires { ⌜ Searched network base best × (4608 ≤ length (now out)) ⌝ }
     ensures { λ r. ⌜ (r ≡ length (operationLines (recordsOf network))) × (now (out .exit) ≡ written (operationLines (recordsOf network)) (now (out .entry))) ⌝ }
@@ -73,7 +74,12 @@ fn write_operations(
 }
 
 // The 83 lines from a radial base to the best state, and how many bytes they are. The planner refuses a base that is not radial: it has none.
-fn write_plan(out: &mut [u8], network: PowerNetwork, base: [u8; 512], best: [u8; 512]) -> usize
+fn write_plan(
+    out: &mut [u8],
+    network: PowerNetwork,
+    base: [u8; NetworkConfiguration::MAX_SWITCHES],
+    best: [u8; NetworkConfiguration::MAX_SWITCHES],
+) -> usize
     requires { ⌜ Searched network base best × (2805 ≤ length (now out)) ⌝ }
     ensures { λ r. ⌜ (r ≡ length (planLines (recordsOf network))) × (now (out .exit) ≡ written (planLines (recordsOf network)) (now (out .entry))) ⌝ }
 {
@@ -85,7 +91,12 @@ fn write_plan(out: &mut [u8], network: PowerNetwork, base: [u8; 512], best: [u8;
 }
 
 // The lines behind the 81 line, and how many bytes are printed with it: each writer gets the output from behind the lines before.
-fn write_moves(out: &mut [u8], network: PowerNetwork, base: [u8; 512], best: [u8; 512]) -> usize
+fn write_moves(
+    out: &mut [u8],
+    network: PowerNetwork,
+    base: [u8; NetworkConfiguration::MAX_SWITCHES],
+    best: [u8; NetworkConfiguration::MAX_SWITCHES],
+) -> usize
     requires { ⌜ Searched network base best × (7472 ≤ length (now out)) ⌝ }
     ensures { λ r. ⌜ (r ≡ 59 + length (moveLines (recordsOf network))) × (now (out .exit) ≡ sets (now (out .entry)) 59 (moveLines (recordsOf network))) ⌝ }
 {
@@ -101,7 +112,7 @@ fn print_network(out: &mut [u8], network: PowerNetwork) -> usize
 {
     let configuration = build_base_configuration(network);
     let base = configuration.switches;
-    let mut best = [0u8; 512];
+    let mut best = [0u8; NetworkConfiguration::MAX_SWITCHES];
     match solve(network, &mut best) {
         SolveAnswer::Solved(result) => {
             write_result(out, result);

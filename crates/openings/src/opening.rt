@@ -29,7 +29,12 @@ fn first_unwanted(path: PathBranches, wanted: &[bool]) -> u16
 }
 
 // The branch that is opened once branch k is closed: the first unwanted one on the path between its ends, from the from bus.
-pub fn opening(graph: Graph, live: [bool; 512], wanted: [bool; 512], k: u16) -> u16
+pub fn opening(
+    graph: Graph,
+    live: [bool; Graph::MAX_BRANCHES],
+    wanted: [bool; Graph::MAX_BRANCHES],
+    k: u16,
+) -> u16
     ensures { λ r. ⌜ r ≡ rowOpening graph live wanted k ⌝ }
 {
     let path = path_of_ends(graph, live, k);

@@ -57,10 +57,9 @@ module _ (far by : List ℕ) (start b : ℕ) where
   none-led = record { within = omega arith; led = λ n m o w. record { so-far = []; stored = refl; counted = refl; rest = refl } }
 
   module _ {branch : List ℕ} {at i : ℕ} (l : Leading branch at i) where
-    pub one-led : {next : ℕ} (x end : ℕ) → i < 256 → (at ≡ start → ⊥) → x ≡ at → x < 256 → end ≡ i → next ≡ acrossFar far (getD by x 0) at
-        → Leading (set branch end (getD by x 0)) next (i + 1)
+    pub one-led : {next : ℕ} (x : ℕ) → i < 256 → (at ≡ start → ⊥) → x ≡ at → x < 256 → next ≡ acrossFar far (getD by x 0) at → Leading (set branch i (getD by x 0)) next (i + 1)
     unfolding back across acrossFar
-    one-led x end h ne p small q e =
+    one-led x h ne p small e =
         record {
           within = omega arith;
           led = λ n m o w.
@@ -71,7 +70,7 @@ module _ (far by : List ℕ) (start b : ℕ) where
               let c = d .counted in
               record {
                 so-far = d .so-far ++ (byOf at o ∷ []);
-                stored = rw (d .stored, q, k) (padded-more 256 0 (d .so-far) (byOf at o) i c h);
+                stored = rw (d .stored, k) (padded-more 256 0 (d .so-far) (byOf at o) i c h);
                 counted = rw length-append (omega arith);
                 rest = append-snoc (d .so-far) (byOf at o) _ ∙ rw (e, k) r;
               };

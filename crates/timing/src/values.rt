@@ -26,6 +26,7 @@ use radiality::radiality::Radiality;
 use radiality::radiality::verify_radiality;
 use reconfiguration::solve::solve;
 use searches::answer::SolveAnswer;
+use states::configuration::NetworkConfiguration;
 
 // How many records a text has.
 pub(crate) fn reading(text: &[u8]) -> u64
@@ -75,7 +76,7 @@ pub(crate) fn pairs(network: PowerNetwork, present: &[u8], wanted: &[u8]) -> u64
 pub(crate) fn search(network: PowerNetwork) -> u64
     ensures { λ r. ⌜ r ≡ valueOf (searchValue (recordsOf network)) ⌝ }
 {
-    let mut best = [0u8; 512];
+    let mut best = [0u8; NetworkConfiguration::MAX_SWITCHES];
     match solve(network, &mut best) {
         SolveAnswer::Refused { number, place } => 0,
         SolveAnswer::Solved(result) => f64::to_bits(result.optimized_losses_mw),

@@ -8,10 +8,9 @@ use native.Mathlib.Omega.{arith}
 use lib.ListN.{length, getD}
 use borrow.Author.Needs.{needs}
 use Rattle.numbers.specs.UpTo.{upTo}
-use Rattle.network.specs.ReadLaws.{pastBranch, length-of}
+use Rattle.network.specs.ReadLaws.{pastBranch}
 use Rattle.network.specs.Records.{noSwitch, recordsOf}
-use Rattle.network.proofs.branch.Branch as branch
-use Rattle.network.proofs.bus.Bus as bus
+use Rattle.network.proofs.ArrayLengths.{branches-512, buses-256}
 use Rattle.radiality.specs.FeederRows.{liveFlags}
 use Rattle.losses.specs.Loss.{lossIn}
 use Rattle.searches.specs.States.{stateOf}
@@ -92,7 +91,7 @@ here c =
     let loop = c .before .before .before in
     let start = loop .before .before .before .before .before in
     let n = start .args .t1 in
-    switch-read n (start .pre .0 .0) (loop .loop .i) (listed (c .before .before)) _ refl (length-of (branch.the-type .to) (n .branches) (start .good .0 .1 .1 .1 .0 .1 .0 .1)) _ (c .wide162 .ensures .0)
+    switch-read n (start .pre .0 .0) (loop .loop .i) (listed (c .before .before)) _ refl (branches-512 n (start .good .0)) _ (c .wide162 .ensures .0)
 
 -- the live branches of the round's state
 flags : (c : tie.After-live-branches Inv-loop μ-loop) → let args = c .before .args in c .live-branches .result ≡ liveFlags (recordsOf (args .t1)) (stateOf (args .t1) (args .configuration))
@@ -119,7 +118,7 @@ tried c =
     let made = loop .before .before .before .before in
     let start = made .before in
     let n = start .args .t1 in
-    let sized = length-of (bus.the-type .to) (n .buses) (start .good .0 .1 .1 .0 .1 .0 .1) in
+    let sized = buses-256 n (start .good .0) in
     tie-tried n (start .pre .0 .0) (start .args .configuration) (start .pre .2) (loop .loop .i) _ _ (here read) _ (flags made) sized _ (start .pre .0 .1) _ (start .pre .1) _ (c .try-tie .ensures)
 
 enum-known-found : tie.Need-enum-known-found Inv-loop μ-loop
@@ -177,7 +176,7 @@ lost c =
     let start = made .before in
     let n = start .args .t1 in
     let given = start .pre .0 in
-    let sized = length-of (bus.the-type .to) (n .buses) (start .good .0 .1 .1 .0 .1 .0 .1) in
+    let sized = buses-256 n (start .good .0) in
     let live = tried-flags n (given .0) (start .args .configuration) (start .pre .2) (loop .loop .i) _ _ (here read) _ (flags made) (found .wide163 .result) (below found) _ _
     (read .wide162 .ensures .0) (opened .wide164 .ensures .0) in
     flags-loss n sized (given .0) (swapped (stateOf n (start .args .configuration)) (loop .loop .i) (found .wide163 .result)) _ _ (given .1) (moved .swapped-live .ensures ∙ live) _ _ (given .2)
