@@ -20,6 +20,7 @@ use Rattle.states.specs.Live.{baseState, checkState}
 use Rattle.states.specs.Listed.{state-accepted, switches-listed, few-switches}
 use Rattle.slices.specs.Written.{written}
 use Rattle.slices.specs.WrittenLaws.{written-sets, sets-append, sets-part}
+use Rattle.printing.specs.Lengths.{answerLength, operationLength, pairLength, operationsLength, planLength}
 use Rattle.printing.specs.Calls.{Call, called}
 use Rattle.printing.specs.CallLaws.{call-refused, call-short, call-done, call-is}
 use Rattle.radiality.specs.Feeder.{radialIn}
@@ -47,11 +48,11 @@ use Rattle.answers.specs.PrintingLaws.{length-result, operations-short, 
 -- ---- accepted calls
 -- the bytes of the lines that are answered
 abbrev pub operationBytes : OperationsAnswer → ℕ
-operationBytes (lists.Operations count) = 9 * count
+operationBytes (lists.Operations count) = operationLength * count
 operationBytes (lists.Refused number place) = 0
 
 abbrev pub planBytes : PlanAnswer → ℕ
-planBytes (plans.Pairs count) = 11 * count
+planBytes (plans.Pairs count) = pairLength * count
 planBytes (plans.Refused number place) = 0
 
 module _ (n : PowerNetwork) (ok : checkRecords (recordsOf n) ≡ accepted tt) (out : List ℕ) where
@@ -62,7 +63,7 @@ module _ (n : PowerNetwork) (ok : checkRecords (recordsOf n) ≡ accepted tt) (o
   states-pass = then-iff _ _ .1 (ok, then-iff _ _ .1 (state-accepted N (baseState N) 0 .1 (base-good N), state-accepted N (best N .state) 1 .1 (best-good N)))
 
   -- ---- the operations
-  pub operations-printed : 4608 ≤ length out → (a : OperationsAnswer) {after : List ℕ} {from to : List ℕ} → from ≡ baseState N → to ≡ best N .state
+  pub operations-printed : operationsLength ≤ length out → (a : OperationsAnswer) {after : List ℕ} {from to : List ℕ} → from ≡ baseState N → to ≡ best N .state
       → record { answer = operationsAnswerOf a; out = after } ≡ operationsCall N from to out → (operationBytes a ≡ length (operationLines N)) × (after ≡ written (operationLines N) out)
   unfolding operationLines operationsCall
   operations-printed room a {after} f t e =
@@ -71,7 +72,7 @@ module _ (n : PowerNetwork) (ok : checkRecords (recordsOf n) ≡ accepted tt) (o
       (go a (ap (λ (x : Call ℕ). x .answer) c), ap (λ (x : Call ℕ). x .out) c)
     where
       go : (b : OperationsAnswer) → operationsAnswerOf b ≡ accepted (length (operations N (baseState N) (best N .state))) → operationBytes b ≡ length (operationLines N)
-      go (lists.Operations count) q = ap (λ (k : ℕ). 9 * k) (same-value q) ∙ sym (Operations.length-text (operations N (baseState N) (best N .state)))
+      go (lists.Operations count) q = ap (λ (k : ℕ). operationLength * k) (same-value q) ∙ sym (Operations.length-text (operations N (baseState N) (best N .state)))
       go (lists.Refused number place) q = no-refusal q
 
   -- ---- the plan
@@ -79,12 +80,12 @@ module _ (n : PowerNetwork) (ok : checkRecords (recordsOf n) ≡ accepted tt) (o
   unfolding checkPlan _andThen_ checkRadial judge
   not-planned r = rw (ok, state-accepted N (baseState N) 0 .1 (base-good N), state-accepted N (best N .state) 1 .1 (best-good N), r)
 
-  pub plan-printed : 2805 ≤ length out → (a : PlanAnswer) {after : List ℕ} {present wanted : List ℕ} → present ≡ baseState N → wanted ≡ best N .state
+  pub plan-printed : planLength ≤ length out → (a : PlanAnswer) {after : List ℕ} {present wanted : List ℕ} → present ≡ baseState N → wanted ≡ best N .state
       → record { answer = planAnswerOf a; out = after } ≡ planned N present wanted out → (planBytes a ≡ length (planLines N)) × (after ≡ written (planLines N) out)
   plan-printed room a {after} p w e = go (radialIn N (baseState N)) refl (rw (p, w) at e)
     where
       pairs : (b : PlanAnswer) → planAnswerOf b ≡ accepted (length (plan N (baseState N) (best N .state))) → planBytes b ≡ length (planText (plan N (baseState N) (best N .state)))
-      pairs (plans.Pairs count) q = ap (λ (k : ℕ). 11 * k) (same-value q) ∙ sym (PlanLength.length-text (plan N (baseState N) (best N .state)))
+      pairs (plans.Pairs count) q = ap (λ (k : ℕ). pairLength * k) (same-value q) ∙ sym (PlanLength.length-text (plan N (baseState N) (best N .state)))
       pairs (plans.Refused number place) q = no-refusal q
 
       none : (b : PlanAnswer) → planAnswerOf b ≡ refused 11 0 → planBytes b ≡ 0
@@ -100,7 +101,7 @@ module _ (n : PowerNetwork) (ok : checkRecords (recordsOf n) ≡ accepted tt) (o
           let short = plan-short N ok in
           let same = lines true r in
           let moves = plan N (baseState N) (best N .state) in
-          let fits : length (planText moves) ≤ 2805 = rw same at short in
+          let fits : length (planText moves) ≤ planLength = rw same at short in
           let made : record { answer = planAnswerOf a; out = after } ≡ called (checkPlan N (baseState N) (best N .state)) (length moves) (planText moves) out = unfold planned in q in
           let c = call-is (length moves) (planText moves) out (solve-plan-accepted N ok r) (omega arith) made in
           rw same (pairs a (ap (λ (x : Call ℕ). x .answer) c), ap (λ (x : Call ℕ). x .out) c)
@@ -145,34 +146,34 @@ result-bits N ok e = (
 
 -- ---- one behind the other
 -- lines behind the 81 line keep the length
-pub moves-room : (l operations : List ℕ) → 59 + length operations ≤ length l → {part : List ℕ} → part ≡ written operations (take (length l - 59) (drop 59 l))
-    → length (putMid 59 (length l - 59) l part) ≡ length l
-moves-room l operations room p = ap length (sets-part l 59 operations (p ∙ written-sets operations _ (rw part-rest (omega (arith, length-drop 59 l))))) ∙ length-sets l 59 operations
+pub moves-room : (l operations : List ℕ) → answerLength + length operations ≤ length l → {part : List ℕ} → part ≡ written operations (take (length l - answerLength) (drop answerLength l))
+    → length (putMid answerLength (length l - answerLength) l part) ≡ length l
+moves-room l operations room p = ap length (sets-part l answerLength operations (p ∙ written-sets operations _ (rw part-rest (omega (arith, length-drop answerLength l))))) ∙ length-sets l answerLength operations
 
-pub moves-stored : (l operations plans : List ℕ) (m : ℕ) → length operations ≡ m → 59 + m + length plans ≤ length l
-    → {part : List ℕ} → part ≡ written operations (take (length l - 59) (drop 59 l))
-    → {rest : List ℕ} → rest ≡ written plans (take (length (putMid 59 (length l - 59) l part) - (59 + m)) (drop (59 + m) (putMid 59 (length l - 59) l part)))
-    → putMid (59 + m) (length (putMid 59 (length l - 59) l part) - (59 + m)) (putMid 59 (length l - 59) l part) rest ≡ sets l 59 (operations ++ plans)
+pub moves-stored : (l operations plans : List ℕ) (m : ℕ) → length operations ≡ m → answerLength + m + length plans ≤ length l
+    → {part : List ℕ} → part ≡ written operations (take (length l - answerLength) (drop answerLength l))
+    → {rest : List ℕ} → rest ≡ written plans (take (length (putMid answerLength (length l - answerLength) l part) - (answerLength + m)) (drop (answerLength + m) (putMid answerLength (length l - answerLength) l part)))
+    → putMid (answerLength + m) (length (putMid answerLength (length l - answerLength) l part) - (answerLength + m)) (putMid answerLength (length l - answerLength) l part) rest ≡ sets l answerLength (operations ++ plans)
 moves-stored l operations plans m e room p q =
-    let first = sets-part l 59 operations (p ∙ written-sets operations _ (rw part-rest (omega (arith, length-drop 59 l)))) in
-    let same = length-sets l 59 operations in
-    let behind : length plans ≤ length (take (length (sets l 59 operations) - (59 + m)) (drop (59 + m) (sets l 59 operations))) = rw part-rest (omega (arith, length-drop (59 + m) (sets l 59 operations))) in
+    let first = sets-part l answerLength operations (p ∙ written-sets operations _ (rw part-rest (omega (arith, length-drop answerLength l)))) in
+    let same = length-sets l answerLength operations in
+    let behind : length plans ≤ length (take (length (sets l answerLength operations) - (answerLength + m)) (drop (answerLength + m) (sets l answerLength operations))) = rw part-rest (omega (arith, length-drop (answerLength + m) (sets l answerLength operations))) in
     let part = rw first at q in
-    let second = sets-part (sets l 59 operations) (59 + m) plans (part ∙ written-sets plans _ behind) in
-    let all : sets (sets l 59 operations) (59 + m) plans ≡ sets l 59 (operations ++ plans) = rw (← e) (sets-append l 59 operations plans) in
+    let second = sets-part (sets l answerLength operations) (answerLength + m) plans (part ∙ written-sets plans _ behind) in
+    let all : sets (sets l answerLength operations) (answerLength + m) plans ≡ sets l answerLength (operations ++ plans) = rw (← e) (sets-append l answerLength operations plans) in
     rw first (second ∙ all)
 
 -- as many bytes as the 81 line, the operations and the plan have
-pub moves-long : (N : Network) {m k : ℕ} → m ≡ length (operationLines N) → k ≡ length (planLines N) → 59 + m + k ≡ 59 + length (moveLines N)
+pub moves-long : (N : Network) {m k : ℕ} → m ≡ length (operationLines N) → k ≡ length (planLines N) → answerLength + m + k ≡ answerLength + length (moveLines N)
 unfolding moveLines
 moves-long N e f = simp length-append (omega arith)
 
-pub network-long : (N : Network) → 59 + length (moveLines N) ≡ length (networkText N)
+pub network-long : (N : Network) → answerLength + length (moveLines N) ≡ length (networkText N)
 unfolding networkText
 network-long N = sym (length-append (resultText (result N)) (moveLines N) ∙ ap (λ (k : ℕ). k + length (moveLines N)) (length-result (result N)))
 
 pub lines-stored : (l : List ℕ) (r : Result) (moves : List ℕ) → length (resultText r ++ moves) ≤ length l
-    → {front : List ℕ} → front ≡ written (resultText r) l → {after : List ℕ} → after ≡ sets front 59 moves → after ≡ written (resultText r ++ moves) l
+    → {front : List ℕ} → front ≡ written (resultText r) l → {after : List ℕ} → after ≡ sets front answerLength moves → after ≡ written (resultText r ++ moves) l
 lines-stored l r moves room f a =
     let long = length-result r in
     let both = length-append (resultText r) moves in

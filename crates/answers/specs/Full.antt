@@ -18,6 +18,7 @@ use Rattle.lines.specs.Lines.{cut}
 use Rattle.frames.specs.Acceptable.{Acceptable}
 use Rattle.frames.specs.Conditions.{conditions, judgeLines}
 use Rattle.frames.specs.Proof.{claim}
+use Rattle.printing.specs.Lengths.{operationLength, pairLength, printedLength}
 use Rattle.printing.specs.CallLaws.{call-refused, in-full}
 use Rattle.graph.specs.Graph.{Tree}
 use Rattle.radiality.specs.Feeder.{feeder, LiveIn, radialIn}
@@ -68,21 +69,21 @@ module _ (N : Network) (inside : Inside N) where
   unfolding solved result best solvedBy resultBy
   solved-in-full = searched-in-full (N .algorithm)
 
-  -- `compute_switch_operations`: 9 bytes for each operation
+  -- `compute_switch_operations`: a line for each operation
   pub operations-in-full : (from to : State) → GoodState N from → GoodState N to → (out : List ℕ)
       → let l = operations N from to in
-      9 * length l ≤ length out → operationsCall N from to out ≡ record { answer = accepted (length l); out = operationsText l ++ drop (9 * length l) out }
+      operationLength * length l ≤ length out → operationsCall N from to out ≡ record { answer = accepted (length l); out = operationsText l ++ drop (operationLength * length l) out }
   unfolding operationsCall
   operations-in-full from to f t out room =
       let l = operations N from to in
       let passed = then-iff (checkRecords N) _ .1 (checked, then-iff (checkState N from 0) (checkState N to 1) .1 (state-accepted N from 0 .1 f, state-accepted N to 1 .1 t)) in
       in-full (length l) (operationsText l) out passed (rw (Operations.length-text l) room) ∙ rw (Operations.length-text l)
 
-  -- `plan`, between radial states whose switches that must move are operable: 11 bytes for each pair
+  -- `plan`, between radial states whose switches that must move are operable: a line for each pair
   pub planned-in-full : (present wanted : State) → GoodState N present → GoodState N wanted → Tree (feeder N) (LiveIn N present) → Tree (feeder N) (LiveIn N wanted)
       → Free N present wanted → (out : List ℕ)
       → let moves = plan N present wanted in
-      11 * length moves ≤ length out → planned N present wanted out ≡ record { answer = accepted (length moves); out = planText moves ++ drop (11 * length moves) out }
+      pairLength * length moves ≤ length out → planned N present wanted out ≡ record { answer = accepted (length moves); out = planText moves ++ drop (pairLength * length moves) out }
   unfolding planned
   planned-in-full present wanted p w r v free out room =
       let moves = plan N present wanted in
@@ -94,8 +95,8 @@ pub printed-in-full : (text : List ℕ) (N : Network) → Acceptable text N → 
     → answeredText text out ≡ record { answer = accepted (length (networkText N)); out = networkText N ++ drop (length (networkText N)) out }
 printed-in-full text N a out room = sym (text-answered text out (claim .accepted-texts text N .1 a)) ∙ in-full (length (networkText N)) (networkText N) out refl room
 
--- and 7,472 bytes are room for every such text
-pub always-printed : (text : List ℕ) (N : Network) → Acceptable text N → (out : List ℕ) → 7472 ≤ length out
+-- and `printedLength` bytes are room for every such text
+pub always-printed : (text : List ℕ) (N : Network) → Acceptable text N → (out : List ℕ) → printedLength ≤ length out
     → answeredText text out ≡ record { answer = accepted (length (networkText N)); out = networkText N ++ drop (length (networkText N)) out }
 always-printed text N a out room = printed-in-full text N a out (omega (arith, network-short N (checked N (a .inside))))
 

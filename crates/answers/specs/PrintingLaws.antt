@@ -26,6 +26,7 @@ use Rattle.printing.specs.Printed.{answer, answerText, refusal, refusalText}
 use Rattle.printing.specs.Calls.{checkRoom, Call, answered, called}
 use Rattle.printing.specs.CallLaws.{call-refused, in-full}
 use Rattle.printing.specs.LineTexts.{length-frame}
+use Rattle.printing.specs.Lengths.{answerLength, refusalLength, operationsLength, planLength, printedLength}
 use Rattle.radiality.specs.Feeder.{radialIn}
 use Rattle.losses.specs.Loss.{lossIn}
 use Rattle.losses.specs.Accepted.{accepted-loss-within}
@@ -40,34 +41,34 @@ use Rattle.operations.specs.OperationLines as Operations
 use Rattle.operations.specs.OperationValues.{differs}
 use Rattle.answers.specs.Printing.{resultText, operationLines, planLines, moveLines, networkText, printedOf, printed, answeredText, printedBy}
 
-pub length-result : (r : Result) → length (resultText r) ≡ 59
+pub length-result : (r : Result) → length (resultText r) ≡ answerLength
 unfolding resultText answerText
 length-result r = length-frame answer _
 
-pub length-refusal : (number place : ℕ) → length (refusalText number place) ≡ 9
+pub length-refusal : (number place : ℕ) → length (refusalText number place) ≡ refusalLength
 unfolding refusalText
 length-refusal number place = length-frame refusal _
 
 module _ (N : Network) (ok : checkRecords N ≡ accepted tt) where
   -- an operation for each switch at most
-  pub operations-short : length (operationLines N) ≤ 4608
+  pub operations-short : length (operationLines N) ≤ operationsLength
   unfolding operationLines
   operations-short =
       let few = check-inside N .0 ok .counts in
       omega (arith, few .2, Operations.length-text (operations N (baseState N) (best N .state)), Operations.length-operations N (baseState N) (best N .state), count-le (differs (baseState N) (best N .state)) (length (N .switches)))
 
   -- a pair for each bus but one at most
-  pub plan-short : length (planLines N) ≤ 2805
+  pub plan-short : length (planLines N) ≤ planLength
   unfolding planLines
   plan-short = go (radialIn N (baseState N)) refl
     where
-      go : (b : Bool) → radialIn N (baseState N) ≡ b → length (cond b (planText (plan N (baseState N) (best N .state))) []) ≤ 2805
+      go : (b : Bool) → radialIn N (baseState N) ≡ b → length (cond b (planText (plan N (baseState N) (best N .state))) []) ≤ planLength
       go true e =
           let few = check-inside N .0 ok .counts in
           omega (arith, few .0, PlanLength.length-text (plan N (baseState N) (best N .state)), PlanLength.plan-short N (baseState N) (best N .state) (solve-plan-accepted N ok e))
       go false e = omega arith
 
-  pub network-short : length (networkText N) ≤ 7472
+  pub network-short : length (networkText N) ≤ printedLength
   unfolding networkText moveLines
   network-short = simp length-append (omega (arith, length-result (result N), operations-short, plan-short))
 
@@ -92,12 +93,12 @@ module _ (N : Network) (ok : checkRecords N ≡ accepted tt) where
       go true e = within-no-nan (percent-within base-within best-within (rw e tt))
       go false e = unfold ofBits isNan in tt
 
--- "A refusal prints one line", and 7,472 bytes are enough for every text
-pub printed-short : (text : List ℕ) → length (printed text) ≤ 7472
+-- "A refusal prints one line", and `printedLength` bytes are enough for every text
+pub printed-short : (text : List ℕ) → length (printed text) ≤ printedLength
 unfolding printed
 printed-short text = go (readText text) refl
   where
-    go : (a : Answer Network) → readText text ≡ a → length (printedOf a) ≤ 7472
+    go : (a : Answer Network) → readText text ≡ a → length (printedOf a) ≤ printedLength
     go (accepted N) e = network-short N (passed text N e)
     go (refused number place) e = omega (arith, length-refusal number place)
 
@@ -131,7 +132,7 @@ module _ (text out : List ℕ) where
       go (refused number place) q = no-refusal (sym (ap (λ (c : Call ℕ). c .answer) q))
 
   -- what the program makes of the call is what is printed: the bytes that it answers, or the line of the refusal
-  pub printed-by-call : 7472 ≤ length out → printedBy (answeredText text out) ≡ printed text
+  pub printed-by-call : printedLength ≤ length out → printedBy (answeredText text out) ≡ printed text
   printed-by-call room = go (readText text) refl
     where
       go : (a : Answer Network) → readText text ≡ a → printedBy (answeredText text out) ≡ printed text

@@ -7,6 +7,7 @@ ghost use Rattle.network.specs.Answers.{accepted};
 ghost use Rattle.network.specs.Check.{checkRecords};
 ghost use Rattle.network.specs.Records.{recordsOf};
 ghost use Rattle.slices.specs.Written.{written};
+ghost use Rattle.printing.specs.Lengths.{answerLength, operationsLength, planLength, printedLength};
 ghost use Rattle.printing.specs.Calls.{called};
 ghost use Rattle.searches.specs.Results.{resultOf};
 ghost use Rattle.answers.specs.Printing.{resultText, operationLines, planLines, moveLines, networkText, answeredText, textAnswerOf};
@@ -19,18 +20,16 @@ use operations::operations::OperationsAnswer;
 use operations::operations::compute_switch_operations;
 use plan::planner::PlanAnswer;
 use plan::planner::plan;
-use printing::writer::ANSWER_LENGTH;
-use printing::writer::OPERATION_LENGTH;
-use printing::writer::PAIR_LENGTH;
+use printing::lengths::ANSWER_LENGTH;
+use printing::lengths::MAX_LENGTH;
+use printing::lengths::OPERATION_LENGTH;
+use printing::lengths::PAIR_LENGTH;
 use printing::writer::write_answer;
 use reconfiguration::solve::solve;
 use searches::answer::ReconfigResult;
 use searches::answer::SolveAnswer;
 use slices::writer::write_bytes;
 use states::configuration::build_base_configuration;
-
-// The longest answer: an 81 line, an 82 line for each of 512 switches, an 83 line for each of 255 pairs.
-pub const MAX_LENGTH: usize = 7472;
 
 // How many bytes are printed, or document 01's refusal number and place.
 pub enum TextAnswer {
@@ -61,7 +60,7 @@ fn write_operations(
     base: [u8; 512],
     best: [u8; 512],
 ) -> usize
-    requires { ⌜ Searched network base best × (4608 ≤ length (now out)) ⌝ }
+    requires { ⌜ Searched network base best × (operationsLength ≤ length (now out)) ⌝ }
     ensures { λ r. ⌜ (r ≡ length (operationLines (recordsOf network))) × (now (out .exit) ≡ written (operationLines (recordsOf network)) (now (out .entry))) ⌝ }
 {
     let n = wide16(network.switch_count);
@@ -73,7 +72,7 @@ fn write_operations(
 
 // The 83 lines from a radial base to the best state, and how many bytes they are. The planner refuses a base that is not radial: it has none.
 fn write_plan(out: &mut [u8], network: PowerNetwork, base: [u8; 512], best: [u8; 512]) -> usize
-    requires { ⌜ Searched network base best × (2805 ≤ length (now out)) ⌝ }
+    requires { ⌜ Searched network base best × (planLength ≤ length (now out)) ⌝ }
     ensures { λ r. ⌜ (r ≡ length (planLines (recordsOf network))) × (now (out .exit) ≡ written (planLines (recordsOf network)) (now (out .entry))) ⌝ }
 {
     let n = wide16(network.switch_count);
@@ -85,8 +84,8 @@ fn write_plan(out: &mut [u8], network: PowerNetwork, base: [u8; 512], best: [u8;
 
 // The lines behind the 81 line, and how many bytes are printed with it: each writer gets the output from behind the lines before.
 fn write_moves(out: &mut [u8], network: PowerNetwork, base: [u8; 512], best: [u8; 512]) -> usize
-    requires { ⌜ Searched network base best × (7472 ≤ length (now out)) ⌝ }
-    ensures { λ r. ⌜ (r ≡ 59 + length (moveLines (recordsOf network))) × (now (out .exit) ≡ sets (now (out .entry)) 59 (moveLines (recordsOf network))) ⌝ }
+    requires { ⌜ Searched network base best × (printedLength ≤ length (now out)) ⌝ }
+    ensures { λ r. ⌜ (r ≡ answerLength + length (moveLines (recordsOf network))) × (now (out .exit) ≡ sets (now (out .entry)) answerLength (moveLines (recordsOf network))) ⌝ }
 {
     let operations = write_operations(&mut out[ANSWER_LENGTH..], network, base, best);
     let n = ANSWER_LENGTH + operations;
@@ -95,7 +94,7 @@ fn write_moves(out: &mut [u8], network: PowerNetwork, base: [u8; 512], best: [u8
 
 // All lines for a network. A search that is refused prints nothing: a checked network's is not.
 fn print_network(out: &mut [u8], network: PowerNetwork) -> usize
-    requires { ⌜ (checkRecords (recordsOf network) ≡ accepted tt) × (7472 ≤ length (now out)) ⌝ }
+    requires { ⌜ (checkRecords (recordsOf network) ≡ accepted tt) × (printedLength ≤ length (now out)) ⌝ }
     ensures { λ r. ⌜ (r ≡ length (networkText (recordsOf network))) × (now (out .exit) ≡ written (networkText (recordsOf network)) (now (out .entry))) ⌝ }
 {
     let configuration = build_base_configuration(network);

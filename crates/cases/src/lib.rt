@@ -4,6 +4,7 @@ ghost use Prim.Native.Nat.{_≤_};
 ghost use lib.ListN.{length};
 ghost use Rattle.numbers.specs.UpTo.{table};
 ghost use Rattle.cases.specs.Cases.{Inside, partOf, lineLength, lineBehind, digitOf, leadingNumber, firstCase, stateBytes};
+use bytes::scan::find;
 use numbers::at_most;
 
 // From one position of an input to another.
@@ -37,14 +38,7 @@ pub fn part_of(input: &[u8], part: Part) -> &[u8]
 fn line_length(text: &[u8]) -> usize
     ensures { λ r. ⌜ (r ≡ lineLength (now (text .entry))) × (r ≤ length (now (text .entry))) ⌝ }
 {
-    let mut i = 0usize;
-    while i < text.len() {
-        if text[i] == 10 {
-            return i;
-        }
-        i += 1;
-    }
-    i
+    find(text, 0, text.len(), 10)
 }
 
 // The line that begins behind position `at`.

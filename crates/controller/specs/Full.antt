@@ -11,6 +11,7 @@ use Rattle.states.specs.Switches.{State, GoodState}
 use Rattle.frames.specs.Acceptable.{Acceptable}
 use Rattle.frames.specs.Proof.{claim}
 use Rattle.frames.specs.Text.{readText}
+use Rattle.printing.specs.Lengths.{pairLength}
 use Rattle.printing.specs.Printed.{truthByte}
 use Rattle.graph.specs.Graph.{Tree}
 use Rattle.radiality.specs.Feeder.{feeder, LiveIn, radialIn}
@@ -34,11 +35,11 @@ module _ (t : List ℕ) (N : Network) (a : Acceptable t N) where
   unfolding textLoss onRecords numbered
   text-loss-in-full s good = rw (has-records, loss-in-full N (a .inside) s good)
 
-  -- `feeder_plan`, between radial states whose switches that must move are operable: 11 bytes for each pair
+  -- `feeder_plan`, between radial states whose switches that must move are operable: a line for each pair
   pub text-plan-in-full : (present wanted : State) → GoodState N present → GoodState N wanted → Tree (feeder N) (LiveIn N present) → Tree (feeder N) (LiveIn N wanted)
       → Free N present wanted → (out : List ℕ)
       → let moves = plan N present wanted in
-      11 * length moves ≤ length out
-      → textPlan t present wanted out ≡ record { answer = accepted (length moves); out = planText moves ++ drop (11 * length moves) out }
+      pairLength * length moves ≤ length out
+      → textPlan t present wanted out ≡ record { answer = accepted (length moves); out = planText moves ++ drop (pairLength * length moves) out }
   unfolding textPlan planOn
   text-plan-in-full present wanted p w r v free out room = rw has-records (planned-in-full N (a .inside) present wanted p w r v free out room)

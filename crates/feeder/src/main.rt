@@ -3,15 +3,17 @@ ghost use mathlib.Core.Path.{_≡_};
 ghost use Prim.Native.Nat.{_≤_};
 ghost use lib.ListN.{length, take};
 ghost use Rattle.io.specs.Counts.{Counts};
+ghost use Rattle.frames.specs.Lengths.{decidingLength};
+ghost use Rattle.printing.specs.Lengths.{printedLength};
 ghost use Rattle.answers.specs.Printing.{printed};
-use answers::printer::MAX_LENGTH;
 use answers::printer::TextAnswer;
 use answers::printer::answer_text;
 use libc::STDERR_FILENO;
 use libc::STDIN_FILENO;
 use libc::STDOUT_FILENO;
 use numbers::wide16;
-use printing::writer::REFUSAL_LENGTH;
+use printing::lengths::MAX_LENGTH;
+use printing::lengths::REFUSAL_LENGTH;
 use printing::writer::write_refusal;
 
 // How many bytes of the input were read, and whether a read failed.
@@ -33,7 +35,7 @@ fn read_some(room: &mut [u8]) -> Input
 
 // Reads to the input's end, or until the room is full: it holds all that can decide a text (answers/specs/PrintingLaws, printed-early).
 fn read_input(room: &mut [u8]) -> Input
-    requires { ⌜ 27466 ≤ length (now room) ⌝ }
+    requires { ⌜ decidingLength ≤ length (now room) ⌝ }
     ensures { λ r. ⌜ Counts (r .count) (now (room .exit)) ⌝ }
 {
     let mut count = 0usize;
@@ -55,7 +57,7 @@ fn read_input(room: &mut [u8]) -> Input
 
 // What is printed for a text, at the front of the slice, and how many bytes it is: the lines that are answered, or the 8F line of a refusal.
 fn print_text(text: &[u8], out: &mut [u8]) -> usize
-    requires { ⌜ 7472 ≤ length (now out) ⌝ }
+    requires { ⌜ printedLength ≤ length (now out) ⌝ }
     ensures { λ r. ⌜ Counts r (now (out .exit)) ⌝ }
     ensures { λ r. ⌜ take r (now (out .exit)) ≡ printed (now (text .entry)) ⌝ }
 {

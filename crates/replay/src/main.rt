@@ -3,18 +3,18 @@
 ghost use mathlib.Core.Path.{_≡_};
 ghost use Prim.Native.Nat.{_+_, _≤_, _<_};
 ghost use lib.ListN.{length};
+ghost use Rattle.printing.specs.Lengths.{printedLength};
 use answers::printer::TextAnswer;
 use answers::printer::answer_text;
 use libc::STDIN_FILENO;
 use libc::STDOUT_FILENO;
 use numbers::wide16;
-use printing::writer::REFUSAL_LENGTH;
+use printing::lengths::MAX_LENGTH;
+use printing::lengths::REFUSAL_LENGTH;
 use printing::writer::write_refusal;
 
-// The list's limits: no text and no output is longer.
+// The list's limit: no text is longer. No output is longer than MAX_LENGTH.
 const MOST_TEXT: usize = 32767;
-
-const MOST_OUTPUT: usize = 7472;
 
 // More entries are not read, so that the replay ends on any input.
 const MOST_ENTRIES: u64 = 65535;
@@ -90,10 +90,10 @@ fn refuses(out: &[u8], number: u8, place: u16, output: &[u8]) -> bool {
 }
 
 // The slice that an answer is written to.
-fn unwritten() -> [u8; 7472]
-    ensures { λ r. ⌜ 7472 ≡ length r ⌝ }
+fn unwritten() -> [u8; MAX_LENGTH]
+    ensures { λ r. ⌜ printedLength ≡ length r ⌝ }
 {
-    [UNWRITTEN; 7472]
+    [UNWRITTEN; MAX_LENGTH]
 }
 
 // Whether what is printed of a text's answer is the output. The slice has room for the longest.
@@ -113,21 +113,21 @@ fn read_bytes(room: &mut [u8], n: usize) -> bool
     io::read_full(STDIN_FILENO, &mut room[0..n]) == n
 }
 
-fn text_room() -> [u8; 32767]
+fn text_room() -> [u8; MOST_TEXT]
     ensures { λ r. ⌜ 32767 ≡ length r ⌝ }
 {
-    [0; 32767]
+    [0; MOST_TEXT]
 }
 
-fn output_room() -> [u8; 7472]
-    ensures { λ r. ⌜ 7472 ≡ length r ⌝ }
+fn output_room() -> [u8; MAX_LENGTH]
+    ensures { λ r. ⌜ printedLength ≡ length r ⌝ }
 {
-    [0; 7472]
+    [0; MAX_LENGTH]
 }
 
 // Reads an entry's text of n bytes and its output of m, and replays it.
 fn replay_entry(n: usize, m: usize) -> Entry
-    requires { ⌜ (n ≤ 32767) × (m ≤ 7472) ⌝ }
+    requires { ⌜ (n ≤ 32767) × (m ≤ printedLength) ⌝ }
 {
     let mut text = text_room();
     if !read_bytes(&mut text, n) {
@@ -153,7 +153,7 @@ fn next_entry() -> Entry {
     }
     let text_length = length_at(head, 0);
     let output_length = length_at(head, 4);
-    if text_length > MOST_TEXT || output_length > MOST_OUTPUT {
+    if text_length > MOST_TEXT || output_length > MAX_LENGTH {
         return Entry::Missing { ended: false };
     }
     replay_entry(text_length, output_length)

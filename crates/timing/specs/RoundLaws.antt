@@ -15,6 +15,7 @@ use Rattle.network.specs.Check.{checkRecords}
 use Rattle.states.specs.Live.{onState}
 use Rattle.network.specs.Records.{Network, recordsOf}
 use Rattle.network.specs.declared.topology.PowerNetwork.{PowerNetwork}
+use Rattle.printing.specs.Lengths.{planLength}
 use Rattle.printing.specs.Printed.{truthByte}
 use Rattle.frames.specs.Text.{readText}
 use Rattle.radiality.specs.Feeder.{radialIn}
@@ -61,7 +62,7 @@ module _ (kind : ℕ) (t a b : List ℕ) where
     unfolding asked textLoss onRecords
     asked-loss e so = rw (e, so)
 
-    pub asked-pairs : kind ≡ 3 → readText t ≡ accepted N → planned N a b (replicate 2805 0) .answer ≡ asked kind t a b
+    pub asked-pairs : kind ≡ 3 → readText t ≡ accepted N → planned N a b (replicate planLength 0) .answer ≡ asked kind t a b
     unfolding asked textPlan planOn
     asked-pairs e so = rw (e, so)
 
@@ -117,7 +118,7 @@ value-refused kind t a b n p so =
     either-nothing (eqb kind 0) _ _ (sym (count-refused t n p so))
     (either-nothing (eqb kind 1) _ _ (ap valueOf (sym (radiality-refused t n p so a)))
     (either-nothing (eqb kind 2) _ _ (ap valueOf (sym (loss-refused t n p so a)))
-    (either-nothing (eqb kind 3) _ _ (ap (λ (q : Call ℕ). valueOf (q .answer)) (sym (plan-refused t n p so a b (replicate 2805 0)))) refl)))
+    (either-nothing (eqb kind 3) _ _ (ap (λ (q : Call ℕ). valueOf (q .answer)) (sym (plan-refused t n p so a b (replicate planLength 0)))) refl)))
 
 same-either-way : (b : Bool) (v : ℕ) → cond b v v ≡ v
 same-either-way true v = refl

@@ -2,6 +2,7 @@
 use mathlib.Core.Path.{_≡_, ap, _∙_}
 use native.Mathlib.Omega.{arith}
 use lib.ListN.{length}
+use Rattle.printing.specs.Lengths.{refusalLength}
 use Rattle.printing.specs.Printed.{refusalText}
 use Rattle.answers.specs.Printing.{printedBy}
 use Rattle.answers.specs.PrintingLaws.{length-refusal, printed-short, printed-count, printed-by-call, take-written}
@@ -52,7 +53,7 @@ returns-2 c =
     let long : length (w .write-refusal .last .0) ≡ length (start .args .out .now) = search needs in
     let kept : length (at .answer-text .last .1 .0) ≡ length (start .args .out .now) = search needs in
     let line = take-written (refusalText _ _) _ (length-refusal _ _) (omega (arith, start .pre)) (w .write-refusal .ensures) in
-    (counts 9 (w .write-refusal .last .0) (omega (arith, start .pre)), line ∙ ap printedBy e ∙ printed-by-call (start .args .text .now) _ (start .pre))
+    (counts refusalLength (w .write-refusal .last .0) (omega (arith, start .pre)), line ∙ ap printedBy e ∙ printed-by-call (start .args .text .now) _ (start .pre))
 
 pub print-text-spec : {M : Type 1} → statement M
 print-text-spec =
