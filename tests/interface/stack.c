@@ -12,7 +12,7 @@
 #include <ucontext.h>
 #include <unistd.h>
 
-enum { FINENESS = 64, PAGE = 4096, ROOM = 1 << 20, SWITCHES = 512, LARGEST = 27429 };
+enum { FINENESS = 64, PAGE = 4096, ROOM = 1 << 20 };
 
 /* An entry of the list. */
 struct entry {
@@ -34,7 +34,7 @@ static void expect(int good, const char *name, const char *what) {
 /* What the calls are asked about: a text, its base, and what its search finds. */
 static const uint8_t *text;
 static size_t text_length, switches;
-static uint8_t present[SWITCHES], wanted[SWITCHES], out[FEEDER_TEXT_LENGTH];
+static uint8_t present[FEEDER_MAX_SWITCHES], wanted[FEEDER_MAX_SWITCHES], out[FEEDER_TEXT_LENGTH];
 static volatile uint8_t number;
 
 static void ask_radiality(void) { number = feeder_radiality(text, text_length, present, switches).number; }
@@ -72,7 +72,7 @@ static unsigned long digits_at(const char *at, int count) {
 
 /* The base from the text's 04 lines, and what differs from it from the printed 82 lines. A refused text has no states. */
 static void lay(const struct entry *e) {
-    static unsigned long ids[SWITCHES];
+    static unsigned long ids[FEEDER_MAX_SWITCHES];
     text = (const uint8_t *)e->text;
     text_length = e->text_length;
     switches = 0;
@@ -164,10 +164,10 @@ static size_t measure(const struct call *c, const struct entry *entries, size_t 
     for (size_t k = 0; k < count; k++) {
         const struct entry *e = &entries[k];
         int has_plan = memmem(e->printed, e->printed_length, "\n83", 3) != NULL;
-        if (e->text_length == LARGEST || (three == 0 && has_plan && strncmp(e->text, "010003", 6) == 0)) {
+        if (e->text_length == FEEDER_LONGEST_TEXT || (three == 0 && has_plan && strncmp(e->text, "010003", 6) == 0)) {
             lay(e);
             size_t size = least(c->ask, three);
-            if (e->text_length == LARGEST)
+            if (e->text_length == FEEDER_LONGEST_TEXT)
                 largest = size > largest ? size : largest;
             else
                 three = size;
