@@ -6,11 +6,9 @@ use Prim.Native.Nat.{ℕ, _+_, _-_, _*_, _≤_, _<_}
 use native.Mathlib.Omega.{arith}
 use native.Mathlib.Nat.{zero-add}
 use lib.ListN.{length, take, drop, length-append, length-drop}
-use lib.Seq.{sets, length-sets, take-append-seam}
-use borrow.Author.Tests.{le-leb}
+use lib.Seq.{sets, length-sets}
 use borrow.Rule.Slice.PartMut.{putMid}
 use Rattle.numbers.specs.Parts.{part-rest}
-use Rattle.network.specs.declared.error.Verdict.the-variants.{Accepted, Refused}
 use Rattle.states.specs.declared.configuration.NetworkConfiguration.{NetworkConfiguration}
 use Rattle.network.specs.declared.topology.PowerNetwork.{PowerNetwork}
 use Rattle.states.specs.Configuration.{configurationOf}
@@ -20,12 +18,7 @@ use Rattle.network.specs.AnswerLaws.{same-value, then-iff, no-refusal}
 use Rattle.network.specs.Check.{checkRecords}
 use Rattle.states.specs.Live.{baseState, checkState}
 use Rattle.states.specs.Listed.{state-accepted, switches-listed, few-switches}
-use Rattle.frames.specs.declared.reader.Reading.{Reading}
-use Rattle.frames.specs.Text.{readText}
-use Rattle.frames.specs.Reading.{readingOf}
-use Rattle.frames.specs.ReadingLaws.{read-accepted, read-refused}
 use Rattle.slices.specs.Written.{written}
-use Rattle.printing.specs.Printed.{refusalText}
 use Rattle.slices.specs.WrittenLaws.{written-sets, sets-append, sets-part}
 use Rattle.printing.specs.Calls.{Call, called}
 use Rattle.printing.specs.CallLaws.{call-refused, call-short, call-done, call-is}
@@ -47,15 +40,11 @@ use Rattle.searches.specs.Results.{Result, resultBy, solvedBy, resultOf, solveA
 use Rattle.reconfiguration.specs.Solve.{result, best, solved}
 use Rattle.operations.specs.Operations.{operations, operationsText, operationsCall, operationsAnswerOf}
 use Rattle.operations.specs.OperationLines as Operations
-use Rattle.answers.specs.Printing.{resultText, operationLines, planLines, moveLines, networkText, printedOf, printed, answeredText}
+use Rattle.answers.specs.Printing.{resultText, operationLines, planLines, moveLines, networkText}
 use Rattle.answers.specs.PrintingValues.{HasBits}
-use Rattle.answers.specs.PrintingLaws.{length-result, operations-short, plan-short, printed-short, base-bits, best-bits, reduction-bits}
+use Rattle.answers.specs.PrintingLaws.{length-result, operations-short, plan-short, base-bits, best-bits, reduction-bits, take-written}
 
 -- ---- accepted calls
-take-written : (bytes out : List ℕ) → length bytes ≤ length out → take (length bytes) (written bytes out) ≡ bytes
-unfolding written
-take-written bytes out room = rw (le-leb (length bytes) (length out) room) (take-append-seam bytes (drop (length bytes) out))
-
 -- the bytes of the lines that are answered
 abbrev pub operationBytes : OperationsAnswer → ℕ
 operationBytes (lists.Operations count) = 9 * count
@@ -132,10 +121,9 @@ module _ (n : PowerNetwork) (ok : checkRecords (recordsOf n) ≡ accepted tt) (s
   solved-result e = same-value (ap (λ (x : Call Result). x .answer) (solved-is e))
 
   pub solved-state : {a : Answer Result} {after : List ℕ} → record { answer = a; out = after } ≡ solved (recordsOf n) space → take (n .«switch_count») after ≡ best (recordsOf n) .state
-  solved-state {after = after} e =
+  solved-state e =
       let long : length (best (recordsOf n) .state) ≡ n .«switch_count» = best-good (recordsOf n) .long ∙ switches-listed n in
-      ap (λ (k : ℕ). take k after) (sym long) ∙ ap (λ (x : Call Result). take (length (best (recordsOf n) .state)) (x .out)) (solved-is e)
-      ∙ take-written (best (recordsOf n) .state) space (omega (arith, few-switches n ok))
+      take-written (best (recordsOf n) .state) space long (omega (arith, few-switches n ok)) (ap (λ (x : Call Result). x .out) (solved-is e))
 
   pub not-refused : {B : Type 0} {number place : ℕ} {after : List ℕ} → record { answer = solveAnswerOf (solves.Refused number place); out = after } ≡ solved (recordsOf n) space → B
   not-refused e = no-refusal (ap (λ (x : Call Result). x .answer) (solved-is e))
@@ -192,23 +180,13 @@ lines-stored l r moves room f a =
     a ∙ rw (f, written-sets (resultText r) l (omega arith)) (rw (zero-add, long) at stored) ∙ sym (written-sets (resultText r ++ moves) l room)
 
 -- ---- the call
-module _ (text out : List ℕ) {n : ℕ} (long : n ≡ length (printed text)) where
-  pub no-room : length out < n → record { answer = refused 13 0; out = out } ≡ answeredText text out
-  unfolding answeredText
-  no-room h = call-short (length (printed text)) (printed text) out refl (sym long) h
+module _ (N : Network) (out : List ℕ) {n : ℕ} (long : n ≡ length (networkText N)) where
+  pub no-room : length out < n → record { answer = refused 13 0; out = out } ≡ called (accepted tt) (length (networkText N)) (networkText N) out
+  no-room h = call-short (length (networkText N)) (networkText N) out refl (sym long) h
 
   -- what was made in memory of the call's own is copied
-  pub all-printed : n ≤ length out → (space : List ℕ) {lines : List ℕ} → length space ≡ 7472 → lines ≡ written (printed text) space
-      → {after : List ℕ} → after ≡ written (take n lines) out → record { answer = accepted n; out = after } ≡ answeredText text out
-  unfolding answeredText
-  all-printed h space {lines} room w e =
-      let same : take n lines ≡ printed text = rw (long, w) (take-written (printed text) space (omega (arith, printed-short text))) in
-      rw long (call-done (length (printed text)) (printed text) out refl (sym long) h (e ∙ ap (λ (b : List ℕ). written b out) same))
-
-pub text-printed : (text : List ℕ) {r : Reading} → r ≡ readingOf (readText text) → r .verdict ≡ Accepted → printed text ≡ networkText (recordsOf (r .network))
-unfolding printed
-text-printed text e v = ap printedOf (read-accepted (readText text) _ e v)
-
-pub text-refused : (text : List ℕ) {r : Reading} → r ≡ readingOf (readText text) → {number place : ℕ} → r .verdict ≡ Refused number place → printed text ≡ refusalText number place
-unfolding printed
-text-refused text e v = ap printedOf (read-refused (readText text) _ _ _ e v)
+  pub all-copied : n ≤ length out → (space : List ℕ) {lines : List ℕ} → n ≤ length space → lines ≡ written (networkText N) space
+      → {after : List ℕ} → after ≡ written (take n lines) out → record { answer = accepted n; out = after } ≡ called (accepted tt) (length (networkText N)) (networkText N) out
+  all-copied h space room w e =
+      let same = take-written (networkText N) space (sym long) room w in
+      rw long (call-done (length (networkText N)) (networkText N) out refl (sym long) h (e ∙ ap (λ (b : List ℕ). written b out) same))

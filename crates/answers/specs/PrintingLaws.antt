@@ -1,28 +1,30 @@
--- How long a printed answer is, that the front of a long text decides it, and that its floats have bits.
+-- How long a printed answer is, that the front of a long text decides it, that its floats have bits, and what the program makes of the call.
 use mathlib.Core.Path.{_≡_, refl, sym, ap, _∙_}
 use mathlib.Core.Bool.{Bool, true, false, not, cond}
 use mathlib.Core.List.{List, []}
 use Prim.Native.Nat.{ℕ, _≤_, _^_}
 use native.Mathlib.Omega.{arith}
-use lib.Dec.{T, ltb, lit≤}
-use borrow.Author.Tests.{ltb-true, ltb-false}
+use lib.Dec.{T, lit≤}
 use lib.Ieee.{binary64, isNan, lt, sub, mul, div, ofBits}
-use lib.ListN.{length, take, length-append}
+use lib.ListN.{length, take, drop, length-append}
+use lib.Seq.{take-append-seam}
 use Rattle.numbers.specs.Counts.{count-le}
 use Rattle.numbers.specs.Constants.{zero64, trillionth, hundred}
 use Rattle.numbers.specs.Bounds.{Within, within-no-nan}
 use Rattle.network.specs.Records.{Network}
-use Rattle.network.specs.Answers.{Answer, accepted, refused}
+use Rattle.network.specs.Answers.{Answer, accepted, refused, _andThen_, Judgement}
 use Rattle.network.specs.AnswerLaws.{same-value, no-refusal}
 use Rattle.network.specs.Check.{checkRecords}
 use Rattle.network.specs.InsideLaws.{check-inside}
 use Rattle.states.specs.Live.{baseState}
 use Rattle.frames.specs.Text.{readText}
+use Rattle.frames.specs.Conditions.{judgementOf}
 use Rattle.frames.specs.Proof.{claim, passed}
 use Rattle.slices.specs.Written.{written}
+use Rattle.slices.specs.WrittenLaws.{written-room}
 use Rattle.printing.specs.Printed.{answer, answerText, refusal, refusalText}
-use Rattle.printing.specs.Calls.{Call}
-use Rattle.printing.specs.CallLaws.{call-short, call-done}
+use Rattle.printing.specs.Calls.{checkRoom, Call, answered, called}
+use Rattle.printing.specs.CallLaws.{call-refused, in-full}
 use Rattle.printing.specs.LineTexts.{length-frame}
 use Rattle.radiality.specs.Feeder.{radialIn}
 use Rattle.losses.specs.Loss.{lossIn}
@@ -36,8 +38,7 @@ use Rattle.reconfiguration.specs.AnswersHavePlans.{solve-plan-accepted}
 use Rattle.operations.specs.Operations.{operations}
 use Rattle.operations.specs.OperationLines as Operations
 use Rattle.operations.specs.OperationValues.{differs}
-use Rattle.answers.specs.declared.printer.TextAnswer.the-variants.{Printed}
-use Rattle.answers.specs.Printing.{resultText, operationLines, planLines, moveLines, networkText, printedOf, printed, answeredText, textAnswerOf}
+use Rattle.answers.specs.Printing.{resultText, operationLines, planLines, moveLines, networkText, printedOf, printed, answeredText, printedBy}
 
 pub length-result : (r : Result) → length (resultText r) ≡ 59
 unfolding resultText answerText
@@ -105,15 +106,37 @@ pub printed-early : (text : List ℕ) → printed (take 65536 text) ≡ printed 
 unfolding printed
 printed-early text = ap printedOf (claim .early 65536 text (lit≤ tt))
 
--- and so the count that is answered is never above that
-pub printed-count : (text out : List ℕ) {count : ℕ} {after : List ℕ} → record { answer = textAnswerOf (Printed count); out = after } ≡ answeredText text out → count ≤ 7472
-printed-count text out {count} e = go (ltb (length out) (length (printed text))) refl
-  where
-    go : (b : Bool) → ltb (length out) (length (printed text)) ≡ b → count ≤ 7472
-    go true h =
-        let short : record { answer = refused 13 0; out = out } ≡ answeredText text out = unfold answeredText in call-short (length (printed text)) (printed text) out refl refl (ltb-true _ _ h) in
-        no-refusal (sym (ap (λ (c : Call ℕ). c .answer) (e ∙ sym short)))
-    go false h =
-        let done : record { answer = accepted (length (printed text)); out = written (printed text) out } ≡ answeredText text out = unfold answeredText in call-done (length (printed text)) (printed text) out refl refl (ltb-false _ _ h) refl in
-        let same : count ≡ length (printed text) = same-value (ap (λ (c : Call ℕ). c .answer) (e ∙ sym done)) in
-        omega (arith, printed-short text)
+-- ---- the call
+pub take-written : (bytes out : List ℕ) {n : ℕ} → length bytes ≡ n → n ≤ length out → {after : List ℕ} → after ≡ written bytes out → take n after ≡ bytes
+take-written bytes out long room e = rw (e, written-room bytes out (rw long room), ← long) (take-append-seam bytes (drop (length bytes) out))
+
+module _ (text out : List ℕ) where
+  -- a text that is refused: its own number and place, whatever room there is
+  pub text-refused : {number place : ℕ} → readText text ≡ refused number place → record { answer = refused number place; out = out } ≡ answeredText text out
+  unfolding answeredText judgementOf
+  text-refused e = call-refused (length (printed text)) (printed text) out (ap judgementOf e)
+
+  -- a text that is read: its network's lines
+  pub text-answered : {N : Network} → readText text ≡ accepted N → called (accepted tt) (length (networkText N)) (networkText N) out ≡ answeredText text out
+  unfolding answeredText judgementOf printed
+  text-answered e = ap (λ a. called (judgementOf a) (length (printedOf a)) (printedOf a) out) (sym e)
+
+  -- a count that is answered is that of what is printed
+  pub printed-count : {count : ℕ} {after : List ℕ} → record { answer = accepted count; out = after } ≡ answeredText text out → count ≡ length (printed text)
+  unfolding answeredText called
+  printed-count {count} {after} e = go (judgementOf (readText text) andThen checkRoom (length (printed text)) (length out)) e
+    where
+      go : (tests : Judgement) → record { answer = accepted count; out = after } ≡ answered tests (length (printed text)) (printed text) out → count ≡ length (printed text)
+      go (accepted u) q = same-value (ap (λ (c : Call ℕ). c .answer) q)
+      go (refused number place) q = no-refusal (sym (ap (λ (c : Call ℕ). c .answer) q))
+
+  -- what the program makes of the call is what is printed: the bytes that it answers, or the line of the refusal
+  pub printed-by-call : 7472 ≤ length out → printedBy (answeredText text out) ≡ printed text
+  printed-by-call room = go (readText text) refl
+    where
+      go : (a : Answer Network) → readText text ≡ a → printedBy (answeredText text out) ≡ printed text
+      go (accepted N) e =
+          let fits : length (networkText N) ≤ length out = omega (arith, network-short N (passed text N e)) in
+          ap printedBy (sym (text-answered e) ∙ in-full (length (networkText N)) (networkText N) out refl fits)
+          ∙ take-append-seam (networkText N) (drop (length (networkText N)) out) ∙ (unfold printed in sym (ap printedOf e))
+      go (refused number place) e = ap printedBy (sym (text-refused e)) ∙ (unfold printed in sym (ap printedOf e))

@@ -1,4 +1,4 @@
-// What is printed for a text: the search's answer, the operations and the plan, or a refusal.
+// What is answered to a text: the lines of the search's answer, the operations and the plan, or a refusal.
 ghost use mathlib.Core.Path.{_≡_};
 ghost use Prim.Native.Nat.{_+_, _≤_};
 ghost use lib.ListN.{length};
@@ -7,8 +7,9 @@ ghost use Rattle.network.specs.Answers.{accepted};
 ghost use Rattle.network.specs.Check.{checkRecords};
 ghost use Rattle.network.specs.Records.{recordsOf};
 ghost use Rattle.slices.specs.Written.{written};
+ghost use Rattle.printing.specs.Calls.{called};
 ghost use Rattle.searches.specs.Results.{resultOf};
-ghost use Rattle.answers.specs.Printing.{resultText, operationLines, planLines, moveLines, networkText, printed, answeredText, textAnswerOf};
+ghost use Rattle.answers.specs.Printing.{resultText, operationLines, planLines, moveLines, networkText, answeredText, textAnswerOf};
 ghost use Rattle.answers.specs.PrintingValues.{Searched, HasBits};
 use frames::reader::read_text;
 use network::error::Verdict;
@@ -21,9 +22,7 @@ use plan::planner::plan;
 use printing::writer::ANSWER_LENGTH;
 use printing::writer::OPERATION_LENGTH;
 use printing::writer::PAIR_LENGTH;
-use printing::writer::REFUSAL_LENGTH;
 use printing::writer::write_answer;
-use printing::writer::write_refusal;
 use reconfiguration::solve::solve;
 use searches::answer::ReconfigResult;
 use searches::answer::SolveAnswer;
@@ -111,32 +110,15 @@ fn print_network(out: &mut [u8], network: PowerNetwork) -> usize
     }
 }
 
-// All lines for a text, and how many bytes they are.
-fn print_text(out: &mut [u8], text: &[u8]) -> usize
-    requires { ⌜ 7472 ≤ length (now out) ⌝ }
-    ensures { λ r. ⌜ (r ≡ length (printed (now (text .entry)))) × (now (out .exit) ≡ written (printed (now (text .entry))) (now (out .entry))) ⌝ }
-{
-    let reading = read_text(text);
-    let verdict = reading.verdict;
-    match verdict {
-        Verdict::Accepted => {
-            let network = reading.network;
-            print_network(out, network)
-        }
-        Verdict::Refused { number, place } => {
-            write_refusal(out, number, place);
-            REFUSAL_LENGTH
-        }
-    }
-}
-
-// What is printed for a text, at the front of the slice. How long it is shows only when it is made, and a refusal writes no lent byte: so it is made in
+// A network's lines, at the front of the slice. How long they are shows only when they are made, and a refusal writes no lent byte: so they are made in
 // memory of this call's own.
-pub fn answer_text(text: &[u8], out: &mut [u8]) -> TextAnswer
-    ensures { λ r. ⌜ record { answer = textAnswerOf r; out = now (out .exit) } ≡ answeredText (now (text .entry)) (now (out .entry)) ⌝ }
+fn answer_network(network: PowerNetwork, out: &mut [u8]) -> TextAnswer
+    requires { ⌜ checkRecords (recordsOf network) ≡ accepted tt ⌝ }
+    ensures { λ r. ⌜ record { answer = textAnswerOf r; out = now (out .exit) }
+        ≡ called (accepted tt) (length (networkText (recordsOf network))) (networkText (recordsOf network)) (now (out .entry)) ⌝ }
 {
     let mut lines = [0u8; MAX_LENGTH];
-    let n = print_text(&mut lines, text);
+    let n = print_network(&mut lines, network);
     if out.len() < n {
         return TextAnswer::Refused {
             number: 13,
@@ -145,4 +127,18 @@ pub fn answer_text(text: &[u8], out: &mut [u8]) -> TextAnswer
     }
     write_bytes(out, &lines[0..n]);
     TextAnswer::Printed(n as u16)
+}
+
+// The lines for a text, at the front of the slice, which keeps what is behind them. A text that is refused has its own number and place answered, whatever
+// the slice is, and a refusal writes no lent byte: the 8F line is the caller's to print.
+pub fn answer_text(text: &[u8], out: &mut [u8]) -> TextAnswer
+    ensures { λ r. ⌜ record { answer = textAnswerOf r; out = now (out .exit) } ≡ answeredText (now (text .entry)) (now (out .entry)) ⌝ }
+{
+    let reading = read_text(text);
+    let verdict = reading.verdict;
+    if let Verdict::Refused { number, place } = verdict {
+        return TextAnswer::Refused { number, place };
+    }
+    let network = reading.network;
+    answer_network(network, out)
 }

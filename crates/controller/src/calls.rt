@@ -78,8 +78,8 @@ pub extern "C" fn feeder_plan(
     plan_numbers(plan(network, present, wanted, out))
 }
 
-// What the program `feeder` prints for the text: the value is how many bytes, and they stand at the front of the slice, which keeps what is behind them. A
-// text that is refused has its 8F line printed, so that of the refusals only 13 is answered.
+// The lines that the program `feeder` prints for the text: the value is how many bytes, and they stand at the front of the slice, which keeps what is behind
+// them. A refusal, the text's own or 13, writes nothing: the 8F line is the caller's to make.
 #[no_mangle]
 pub extern "C" fn feeder_answer_text(text: &[u8], out: &mut [u8]) -> CallAnswer
     ensures { λ r. ⌜ record { answer = r; out = now (out .exit) } ≡ writtenNumbers (answeredText (now (text .entry)) (now (out .entry))) ⌝ }

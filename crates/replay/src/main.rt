@@ -1,5 +1,5 @@
 // Replays the fixed list on standard input (tests/answers.md): answers each text and compares what is printed with the entry's output, to the
-// letter. The lent bytes behind the answer must stay as they were.
+// letter. The lent bytes behind the answer must stay as they were, and all of them beside a refusal.
 ghost use mathlib.Core.Path.{_≡_};
 ghost use Prim.Native.Nat.{_+_, _≤_, _<_};
 ghost use lib.ListN.{length};
@@ -8,6 +8,8 @@ use answers::printer::answer_text;
 use libc::STDIN_FILENO;
 use libc::STDOUT_FILENO;
 use numbers::wide16;
+use printing::writer::REFUSAL_LENGTH;
+use printing::writer::write_refusal;
 
 // The list's limits: no text and no output is longer.
 const MOST_TEXT: usize = 32767;
@@ -60,21 +62,6 @@ fn length_at(head: [u8; 9], at: usize) -> usize
     a * 4096 + b * 256 + c * 16 + d
 }
 
-// Whether two texts are equal to the letter.
-fn equal(a: &[u8], b: &[u8]) -> bool {
-    if a.len() != b.len() {
-        return false;
-    }
-    let mut i = 0usize;
-    while i < a.len() {
-        if a[i] != b[i] {
-            return false;
-        }
-        i += 1;
-    }
-    true
-}
-
 // Whether no byte was written.
 fn kept(bytes: &[u8]) -> bool {
     let mut i = 0usize;
@@ -92,7 +79,14 @@ fn prints(out: &[u8], n: usize, output: &[u8]) -> bool {
     if out.len() < n {
         return false;
     }
-    equal(&out[0..n], output) && kept(&out[n..])
+    check::same(&out[0..n], output) && kept(&out[n..])
+}
+
+// Whether a refusal's line is the output, and every byte is kept.
+fn refuses(out: &[u8], number: u8, place: u16, output: &[u8]) -> bool {
+    let mut line = [0u8; REFUSAL_LENGTH];
+    write_refusal(&mut line, number, place);
+    check::same(&line, output) && kept(out)
 }
 
 // The slice that an answer is written to.
@@ -102,12 +96,12 @@ fn unwritten() -> [u8; 7472]
     [UNWRITTEN; 7472]
 }
 
-// Whether a text's answer is the output. No refusal is: the slice has room for the longest.
+// Whether what is printed of a text's answer is the output. The slice has room for the longest.
 fn answers_with(text: &[u8], output: &[u8]) -> bool {
     let mut out = unwritten();
     match answer_text(text, &mut out) {
         TextAnswer::Printed(n) => prints(&out, wide16(n), output),
-        TextAnswer::Refused { .. } => false,
+        TextAnswer::Refused { number, place } => refuses(&out, number, place, output),
     }
 }
 
