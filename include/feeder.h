@@ -50,11 +50,11 @@ extern "C" {
 #define FEEDER_RADIALITY_STACK 133760
 #define FEEDER_LOSS_STACK 131712
 #define FEEDER_PLAN_STACK 120448
-#define FEEDER_ANSWER_TEXT_STACK 228096
+#define FEEDER_ANSWER_TEXT_STACK 194752
 #define FEEDER_BASE_STATE_STACK 136320
 #define FEEDER_SOLVE_STACK 169280
 #define FEEDER_OPERATIONS_STACK 120448
-#define FEEDER_STACK 286720
+#define FEEDER_STACK 245760
 
 /* Document 01's refusals. The place of 1 to 9 is the text's line, from 1: the first faulty line is answered, and of its numbers the lowest (2 where it
  * is over 36 characters). The place of 10 and 11 is 0 for the present, first or only state and 1 for the wanted or second one; that of 12 is the
