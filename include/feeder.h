@@ -44,8 +44,17 @@ extern "C" {
 #define FEEDER_PLAN_LENGTH ((FEEDER_MAX_BUSES - 1) * FEEDER_PAIR_LENGTH)
 #define FEEDER_TEXT_LENGTH (FEEDER_ANSWER_LENGTH + FEEDER_OPERATIONS_LENGTH + FEEDER_PLAN_LENGTH)
 
-/* Stack that is enough for every call of tests/interface, those on the largest feeder included; tested, not proved. */
-#define FEEDER_STACK 1048576
+/* Bytes of stack that each call needs, the same for three buses and for 256: measured to 64 bytes on a stack that ends at a page which faults
+ * (tests/interface/stack.c, which fails where a call needs more), on what `rt staticlib controller` writes; tested, not proved. FEEDER_STACK is for a thread
+ * that makes any of the calls: the greatest of them and a quarter, in whole pages. */
+#define FEEDER_RADIALITY_STACK 133760
+#define FEEDER_LOSS_STACK 131712
+#define FEEDER_PLAN_STACK 120448
+#define FEEDER_ANSWER_TEXT_STACK 194752
+#define FEEDER_BASE_STATE_STACK 136320
+#define FEEDER_SOLVE_STACK 169280
+#define FEEDER_OPERATIONS_STACK 120448
+#define FEEDER_STACK 245760
 
 /* Document 01's refusals. The place of 1 to 9 is the text's line, from 1: the first faulty line is answered, and of its numbers the lowest (2 where it
  * is over 36 characters). The place of 10 and 11 is 0 for the present, first or only state and 1 for the wanted or second one; that of 12 is the
