@@ -39,8 +39,7 @@ pub extern "C" fn feeder_radiality(text: &[u8], state: &[u8]) -> CallAnswer
     if let Verdict::Refused { number, place } = verdict {
         return refusal(number, place);
     }
-    let network = reading.network;
-    radiality_numbers(verify_radiality(network, state))
+    radiality_numbers(verify_radiality(reading.network, state))
 }
 
 // The loss of a state, which need not be radial: the value is the bits of the f64, in MW.
@@ -53,8 +52,7 @@ pub extern "C" fn feeder_loss(text: &[u8], state: &[u8]) -> CallAnswer
     if let Verdict::Refused { number, place } = verdict {
         return refusal(number, place);
     }
-    let network = reading.network;
-    loss_numbers(evaluate_config(network, state))
+    loss_numbers(evaluate_config(reading.network, state))
 }
 
 // The plan from the present state to the wanted one: the value is the number of pairs, and an 83 line for each stands at the front of the slice,
@@ -74,8 +72,7 @@ pub extern "C" fn feeder_plan(
     if let Verdict::Refused { number, place } = verdict {
         return refusal(number, place);
     }
-    let network = reading.network;
-    plan_numbers(plan(network, present, wanted, out))
+    plan_numbers(plan(reading.network, present, wanted, out))
 }
 
 // The lines that the program `feeder` prints for the text: the value is how many bytes, and they stand at the front of the slice, which keeps what is behind
@@ -113,8 +110,7 @@ pub extern "C" fn feeder_base_state(text: &[u8], out: &mut [u8]) -> CallAnswer
     if let Verdict::Refused { number, place } = verdict {
         return refusal(number, place);
     }
-    let network = reading.network;
-    write_base(network, out)
+    write_base(reading.network, out)
 }
 
 // The search that the text asks for: the best state's bytes stand at the front of the slice, which keeps what is behind them, and the answer has
@@ -128,8 +124,7 @@ pub extern "C" fn feeder_solve(text: &[u8], out: &mut [u8]) -> SolvedAnswer
     if let Verdict::Refused { number, place } = verdict {
         return not_solved(number, place);
     }
-    let network = reading.network;
-    solved_numbers(solve(network, out))
+    solved_numbers(solve(reading.network, out))
 }
 
 // The operations that lead from one state to another, in switch order and not in the order in which switches may move (that is the plan's): the
@@ -149,6 +144,5 @@ pub extern "C" fn feeder_operations(
     if let Verdict::Refused { number, place } = verdict {
         return refusal(number, place);
     }
-    let network = reading.network;
-    operations_numbers(compute_switch_operations(network, from, to, out))
+    operations_numbers(compute_switch_operations(reading.network, from, to, out))
 }

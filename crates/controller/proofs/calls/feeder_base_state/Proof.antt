@@ -29,7 +29,7 @@ enum-told c = search needs
 
 write-base-requires : tie.Need-write-base-requires
 write-base-requires c κs =
-    let told = c .before .before in
+    let told = c .before in
     passed _ _ (read-accepted _ _ (told .before .before .read-text .ensures) (told .enum-told .given .1))
 
 same-length : tie.Need-same-length
@@ -39,7 +39,7 @@ returns-2 : tie.Need-returns-2
 unfolding textBase
 returns-2 c =
     let based = c .before .before in
-    let told = based .before .before .before in
+    let told = based .before .before in
     let so = read-accepted _ _ (told .before .before .read-text .ensures) (told .enum-told .given .1) in
     based .write-base .ensures ∙ ap writtenNumbers (text-called _ _ _ so refl)
 

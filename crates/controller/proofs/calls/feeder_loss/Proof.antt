@@ -35,7 +35,7 @@ loss-numbers-requires c κs = loss-no-nan _ _ _ _ (c .evaluate-config .ensures)
 returns-2 : tie.Need-returns-2
 unfolding textLoss
 returns-2 c =
-    let told = c .before .before .before in
+    let told = c .before .before in
     let so = read-accepted _ _ (told .before .before .read-text .ensures) (told .enum-told .given .1) in
     c .loss-numbers .ensures ∙ ap numbersOf (text-answered _ _ _ so (c .before .evaluate-config .ensures))
 

@@ -38,7 +38,7 @@ returns-2 : tie.Need-returns-2
 unfolding textOperations
 returns-2 c =
     let listed = c .before .before .before in
-    let told = listed .before .before .before in
+    let told = listed .before .before in
     let so = read-accepted _ _ (told .before .before .read-text .ensures) (told .enum-told .given .1) in
     numbers-beside numbersOf (c .operations-numbers .ensures) (text-called _ _ _ so (listed .compute-switch-operations .ensures))
 

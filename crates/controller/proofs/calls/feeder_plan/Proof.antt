@@ -38,7 +38,7 @@ returns-2 : tie.Need-returns-2
 unfolding textPlan
 returns-2 c =
     let planned = c .before .before .before in
-    let told = planned .before .before .before in
+    let told = planned .before .before in
     let so = read-accepted _ _ (told .before .before .read-text .ensures) (told .enum-told .given .1) in
     numbers-beside numbersOf (c .plan-numbers .ensures) (text-called _ _ _ so (planned .plan .ensures))
 

@@ -35,7 +35,7 @@ radiality-numbers-requires c κs = search needs
 returns-2 : tie.Need-returns-2
 unfolding textRadiality
 returns-2 c =
-    let told = c .before .before .before in
+    let told = c .before .before in
     let so = read-accepted _ _ (told .before .before .read-text .ensures) (told .enum-told .given .1) in
     c .radiality-numbers .ensures ∙ ap numbersOf (text-answered _ _ _ so (c .before .verify-radiality .ensures))
 

@@ -38,7 +38,7 @@ returns-2 : tie.Need-returns-2
 unfolding textSolved
 returns-2 c =
     let solved = c .before .before .before in
-    let told = solved .before .before .before in
+    let told = solved .before .before in
     let so = read-accepted _ _ (told .before .before .read-text .ensures) (told .enum-told .given .1) in
     numbers-beside solvedNumbers (c .solved-numbers .ensures) (text-called _ _ _ so (solved .solve .ensures))
 
