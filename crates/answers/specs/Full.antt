@@ -1,6 +1,6 @@
 -- Demand 1's first sentence, call by call: with records inside the limits, states of one byte 00 or 01 for each switch and room in the lent slice, nothing is refused,
 -- and the answer is the full one: the value, and the bytes at the front of the slice, which keeps its tail. What a text says is `frames.specs.Claim.accepted-texts`; the
--- calls that take a text and states are in `controller.specs.Full`.
+-- calls that take a text and states are in `controller.specs.Full`. The last law is on every other text.
 use mathlib.Core.Path.{_≡_, refl, sym, _∙_}
 use mathlib.Core.List.{List, _++_}
 use Prim.Native.Nat.{ℕ, _*_, _≤_}
