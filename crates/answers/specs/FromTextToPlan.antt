@@ -61,9 +61,9 @@ module _ (N : Network) where
     pub whole : bytes ≡ resultText (result N) ++ (operationsText (operationsIn bytes) ++ planText (pairsIn bytes))
 
 pub record MainStatement : Type 0 where
-  -- for every text and every lent slice: where `answer_text` answers that n bytes are written, `after` is the slice then, and N are the text's records, the first n bytes
-  -- of the slice say all this. With room for the lines it always answers so (`Full.printed-in-full`)
+  -- for every text and every lent slice: where `answer_text` answers that n bytes are written, and `after` is the slice then, the text has records, and the first n bytes
+  -- of the slice say all this of them. With room for the lines it answers so for every text that has records (`Full.printed-in-full`)
   pub call : (text out after : List ℕ) (n : ℕ) → record { answer = textAnswerOf (Printed n); out = after } ≡ answeredText text out
-      → (N : Network) → readText text ≡ accepted N → FromTextToPlan N (take n after)
+      → (N : Network) × (readText text ≡ accepted N) × FromTextToPlan N (take n after)
   -- and so do the bytes that `feeder` prints
   pub program : (text : List ℕ) (N : Network) → readText text ≡ accepted N → FromTextToPlan N (printed text)

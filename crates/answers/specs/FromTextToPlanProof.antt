@@ -9,7 +9,7 @@ use Prim.Native.Nat.{ℕ, zero, suc, _≤_, _<_}
 use native.Mathlib.Omega.{arith}
 use lib.Dec.{eqb, lit<}
 use lib.Ieee.{binary64, toBits}
-use lib.ListN.{length, take, drop}
+use lib.ListN.{length, take}
 use lib.Seq.{take-append-seam}
 use borrow.Author.Tests.{eq-eqb, not-true}
 use Rattle.numbers.specs.UpTo.{upTo}
@@ -18,8 +18,8 @@ use Rattle.numbers.specs.ChooseLaws.{in-those, of-those}
 use Rattle.numbers.specs.TableLaws.{map-snoc}
 use Rattle.numbers.specs.Tests.{clash}
 use Rattle.network.specs.Records.{Network, noSwitch}
-use Rattle.network.specs.Answers.{accepted, refused, _andThen_, Judgement}
-use Rattle.network.specs.AnswerLaws.{same-value, no-refusal}
+use Rattle.network.specs.Answers.{Answer, accepted, refused}
+use Rattle.network.specs.AnswerLaws.{no-refusal}
 use Rattle.network.specs.Check.{checkRecords}
 use Rattle.network.specs.Inside.{Each}
 use Rattle.network.specs.Positions.{each-anywhere}
@@ -28,6 +28,7 @@ use Rattle.states.specs.Switches.{State, byte, size, switch, GoodState}
 use Rattle.lines.specs.Hex.{Fields}
 use Rattle.lines.specs.Lines.{Line, cut}
 use Rattle.frames.specs.Text.{readText}
+use Rattle.frames.specs.Conditions.{judgementOf}
 use Rattle.frames.specs.Acceptable.{Short, SwitchRoom, Writable}
 use Rattle.frames.specs.LineLaws.{lineOf}
 use Rattle.frames.specs.Proof.{claim, passed}
@@ -35,7 +36,7 @@ use Rattle.printing.specs.declared.writer.SwitchAction.{SwitchAction}
 use Rattle.printing.specs.declared.writer.SwitchAction.the-variants.{Open, Close}
 use Rattle.printing.specs.declared.writer.SwitchOperation.{SwitchOperation}
 use Rattle.printing.specs.Printed.{answer, truthByte, answerText, operation, operationText, pair, pairText}
-use Rattle.printing.specs.Calls.{Call, checkRoom, answered, called}
+use Rattle.printing.specs.CallLaws.{call-answered}
 use Rattle.radiality.specs.Feeder.{radialIn}
 use Rattle.radiality.specs.FeederLaws.{radial-in-tree}
 use Rattle.plan.specs.Plan.{pairs, Moves, movesOf, switchOn, plan, planText}
@@ -52,23 +53,22 @@ use Rattle.answers.specs.ReadBackLaws.{cut-frame, cut-frames, own-kind, 
 use Rattle.answers.specs.FromTextToPlan.{Done, FromTextToPlan, MainStatement}
 
 -- ---- what the call writes
--- an answer that is no refusal: the value, and the bytes at the front of the slice
-call-answered : {A : Type 0} (tests : Judgement) (a : A) (bytes out : List ℕ) {n : A} {after : List ℕ} → record { answer = accepted n; out = after } ≡ called tests a bytes out
-    → (n ≡ a) × (after ≡ bytes ++ drop (length bytes) out)
-unfolding called
-call-answered {A} tests a bytes out {n} {after} e = go (tests andThen checkRoom (length bytes) (length out)) e
-  where
-    go : (j : Judgement) → record { answer = accepted n; out = after } ≡ answered j a bytes out → (n ≡ a) × (after ≡ bytes ++ drop (length bytes) out)
-    go (accepted u) q = (same-value (ap (λ (c : Call A). c .answer) q), ap (λ (c : Call A). c .out) q)
-    go (refused number place) q = no-refusal (sym (ap (λ (c : Call A). c .answer) q))
-
 network-printed : (text : List ℕ) (N : Network) → readText text ≡ accepted N → printed text ≡ networkText N
 unfolding printed
 network-printed text N r = ap printedOf r
 
 text-printed : (text out after : List ℕ) (n : ℕ) → record { answer = textAnswerOf (Printed n); out = after } ≡ answeredText text out → take n after ≡ printed text
 unfolding answeredText
-text-printed text out after n e = let c = call-answered _ (length (printed text)) (printed text) out e in rw (c .0, c .1) (take-append-seam (printed text) _)
+text-printed text out after n e = let c = call-answered _ (length (printed text)) (printed text) out e in rw (c .1, c .2) (take-append-seam (printed text) _)
+
+-- a text that is not refused has records
+text-has-records : (text out after : List ℕ) (n : ℕ) → record { answer = textAnswerOf (Printed n); out = after } ≡ answeredText text out → (N : Network) × (readText text ≡ accepted N)
+unfolding answeredText judgementOf
+text-has-records text out after n e = go (readText text) refl (call-answered _ _ (printed text) out e .0)
+  where
+    go : (a : Answer Network) → readText text ≡ a → judgementOf a ≡ accepted tt → (N : Network) × (readText text ≡ accepted N)
+    go (accepted N) r j = (N, r)
+    go (refused number place) r j = no-refusal j
 
 -- ---- the lines of a feeder's text
 abbrev answerFields : Result → Fields (answer .widths)
@@ -244,6 +244,6 @@ text-read text N r = subst (FromTextToPlan N) (sym (network-printed text N r)) (
 
 pub from-text-to-plan : MainStatement
 from-text-to-plan = record {
-  call = λ text out after n e N r. subst (FromTextToPlan N) (sym (text-printed text out after n e)) (text-read text N r);
+  call = λ text out after n e. let (N, r) = text-has-records text out after n e in (N, r, subst (FromTextToPlan N) (sym (text-printed text out after n e)) (text-read text N r));
   program = text-read;
 }

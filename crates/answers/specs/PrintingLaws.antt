@@ -12,8 +12,7 @@ use Rattle.numbers.specs.Counts.{count-le}
 use Rattle.numbers.specs.Constants.{zero64, trillionth, hundred}
 use Rattle.numbers.specs.Bounds.{Within, within-no-nan}
 use Rattle.network.specs.Records.{Network}
-use Rattle.network.specs.Answers.{Answer, accepted, refused, _andThen_, Judgement}
-use Rattle.network.specs.AnswerLaws.{same-value, no-refusal}
+use Rattle.network.specs.Answers.{Answer, accepted, refused}
 use Rattle.network.specs.Check.{checkRecords}
 use Rattle.network.specs.InsideLaws.{check-inside}
 use Rattle.states.specs.Live.{baseState}
@@ -22,11 +21,10 @@ use Rattle.frames.specs.Conditions.{judgementOf}
 use Rattle.frames.specs.Proof.{claim, passed}
 use Rattle.slices.specs.Written.{written}
 use Rattle.slices.specs.WrittenLaws.{written-room}
-use Rattle.printing.specs.Printed.{answer, answerText, refusal, refusalText}
-use Rattle.printing.specs.Calls.{checkRoom, Call, answered, called}
-use Rattle.printing.specs.CallLaws.{call-refused, in-full}
-use Rattle.printing.specs.LineTexts.{length-frame}
-use Rattle.printing.specs.Lengths.{answerLength, refusalLength, operationsLength, planLength, printedLength}
+use Rattle.printing.specs.Calls.{called}
+use Rattle.printing.specs.CallLaws.{call-refused, call-answered, in-full}
+use Rattle.printing.specs.LineTexts.{length-answer, length-refusal}
+use Rattle.printing.specs.Lengths.{answerLength, operationsLength, planLength, printedLength}
 use Rattle.radiality.specs.Feeder.{radialIn}
 use Rattle.losses.specs.Loss.{lossIn}
 use Rattle.losses.specs.Accepted.{accepted-loss-within}
@@ -42,12 +40,8 @@ use Rattle.operations.specs.OperationValues.{differs}
 use Rattle.answers.specs.Printing.{resultText, operationLines, planLines, moveLines, networkText, printedOf, printed, answeredText, printedBy}
 
 pub length-result : (r : Result) → length (resultText r) ≡ answerLength
-unfolding resultText answerText
-length-result r = length-frame answer _
-
-pub length-refusal : (number place : ℕ) → length (refusalText number place) ≡ refusalLength
-unfolding refusalText
-length-refusal number place = length-frame refusal _
+unfolding resultText
+length-result r = length-answer _ _ _ _ _ _
 
 module _ (N : Network) (ok : checkRecords N ≡ accepted tt) where
   -- an operation for each switch at most
@@ -124,12 +118,8 @@ module _ (text out : List ℕ) where
 
   -- a count that is answered is that of what is printed
   pub printed-count : {count : ℕ} {after : List ℕ} → record { answer = accepted count; out = after } ≡ answeredText text out → count ≡ length (printed text)
-  unfolding answeredText called
-  printed-count {count} {after} e = go (judgementOf (readText text) andThen checkRoom (length (printed text)) (length out)) e
-    where
-      go : (tests : Judgement) → record { answer = accepted count; out = after } ≡ answered tests (length (printed text)) (printed text) out → count ≡ length (printed text)
-      go (accepted u) q = same-value (ap (λ (c : Call ℕ). c .answer) q)
-      go (refused number place) q = no-refusal (sym (ap (λ (c : Call ℕ). c .answer) q))
+  unfolding answeredText
+  printed-count e = call-answered (judgementOf (readText text)) _ (printed text) out e .1
 
   -- what the program makes of the call is what is printed: the bytes that it answers, or the line of the refusal
   pub printed-by-call : printedLength ≤ length out → printedBy (answeredText text out) ≡ printed text

@@ -5,7 +5,8 @@ use lib.ListN.{length}
 use Rattle.printing.specs.Lengths.{refusalLength}
 use Rattle.printing.specs.Printed.{refusalText}
 use Rattle.answers.specs.Printing.{printedBy}
-use Rattle.answers.specs.PrintingLaws.{length-refusal, printed-short, printed-count, printed-by-call, take-written}
+use Rattle.printing.specs.LineTexts.{length-refusal}
+use Rattle.answers.specs.PrintingLaws.{printed-short, printed-count, printed-by-call, take-written}
 use borrow.Author.Needs.{needs}
 use Rattle.feeder.proofs.Laws.{counts}
 use Rattle.feeder.proofs.print_text.Statement.{statement}
