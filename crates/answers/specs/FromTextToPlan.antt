@@ -5,8 +5,8 @@ use mathlib.Core.Path.{_≡_}
 use mathlib.Core.Logic.{_↔_}
 use mathlib.Core.Bool.{true, false}
 use mathlib.Core.List.{List, [], _++_, map, List·Memᴰ}
-use Prim.Native.Nat.{ℕ, _<_}
-use lib.ListN.{take}
+use Prim.Native.Nat.{ℕ, _≤_, _<_}
+use lib.ListN.{length, take, drop}
 use Rattle.numbers.specs.Choose.{those}
 use Rattle.network.specs.Records.{Network}
 use Rattle.network.specs.Answers.{accepted}
@@ -16,6 +16,7 @@ use Rattle.frames.specs.Text.{readText}
 use Rattle.printing.specs.declared.writer.SwitchAction.{SwitchAction}
 use Rattle.printing.specs.declared.writer.SwitchAction.the-variants.{Open, Close}
 use Rattle.printing.specs.declared.writer.SwitchOperation.{SwitchOperation}
+use Rattle.printing.specs.Lengths.{printedLength}
 use Rattle.graph.specs.Graph.{Tree}
 use Rattle.radiality.specs.Feeder.{feeder, LiveIn, radialIn}
 use Rattle.plan.specs.Plan.{plan, planText}
@@ -61,9 +62,12 @@ module _ (N : Network) where
     pub whole : bytes ≡ resultText (result N) ++ (operationsText (operationsIn bytes) ++ planText (pairsIn bytes))
 
 pub record MainStatement : Type 0 where
-  -- for every text and every lent slice: where `answer_text` answers that n bytes are written, and `after` is the slice then, the text has records, and the first n bytes
-  -- of the slice say all this of them. With room for the lines it answers so for every text that has records (`Full.printed-in-full`)
+  -- for every text and every lent slice: where `answer_text` answers that n bytes are written, and `after` is the slice then, the text has records, the first n bytes
+  -- of the slice say all this of them, and the bytes behind are as they were
   pub call : (text out after : List ℕ) (n : ℕ) → record { answer = textAnswerOf (Printed n); out = after } ≡ answeredText text out
-      → (N : Network) × (readText text ≡ accepted N) × FromTextToPlan N (take n after)
-  -- and so do the bytes that `feeder` prints
+      → (N : Network) × (readText text ≡ accepted N) × FromTextToPlan N (take n after) × (drop n after ≡ drop n out)
+  -- and it answers so for every text that has records, wherever `printedLength` bytes are lent
+  pub answers : (text out : List ℕ) (N : Network) → readText text ≡ accepted N → printedLength ≤ length out
+      → (n : ℕ) × (after : List ℕ) × (record { answer = textAnswerOf (Printed n); out = after } ≡ answeredText text out)
+  -- the bytes that `feeder` prints say it too
   pub program : (text : List ℕ) (N : Network) → readText text ≡ accepted N → FromTextToPlan N (printed text)

@@ -9,13 +9,11 @@ use Prim.Native.Nat.{ℕ, zero, suc, _≤_, _<_}
 use native.Mathlib.Omega.{arith}
 use lib.Dec.{eqb, lit<}
 use lib.Ieee.{binary64, toBits}
-use lib.ListN.{length, take}
-use lib.Seq.{take-append-seam}
+use lib.ListN.{length, take, drop}
+use lib.Seq.{take-append-seam, drop-append-seam}
 use borrow.Author.Tests.{eq-eqb, not-true}
-use Rattle.numbers.specs.UpTo.{upTo}
 use Rattle.numbers.specs.Choose.{those}
 use Rattle.numbers.specs.ChooseLaws.{in-those, of-those}
-use Rattle.numbers.specs.TableLaws.{map-snoc}
 use Rattle.numbers.specs.Tests.{clash}
 use Rattle.network.specs.Records.{Network, noSwitch}
 use Rattle.network.specs.Answers.{Answer, accepted, refused}
@@ -46,10 +44,12 @@ use Rattle.reconfiguration.specs.Solve.{best, result}
 use Rattle.reconfiguration.specs.AnswersHavePlans.{best-good, solve-has-plan}
 use Rattle.operations.specs.Operations.{operationTo, operationOf, operations, operationsText}
 use Rattle.operations.specs.OperationValues.{differs}
+use Rattle.operations.specs.OperationLines.{by-position}
 use Rattle.answers.specs.declared.printer.TextAnswer.the-variants.{Printed}
 use Rattle.answers.specs.Printing.{resultText, operationLines, planLines, moveLines, networkText, printedOf, printed, answeredText, textAnswerOf}
 use Rattle.answers.specs.ReadBack.{ofKind, readOperation, operationsIn, readPair, pairsIn}
 use Rattle.answers.specs.ReadBackLaws.{cut-frame, cut-frames, own-kind, other-kind, answer-kind, operation-kind, pair-kind, operationFields, operation-kept, pairFields, pair-kept, map-kept, each-made}
+use Rattle.answers.specs.Full.{always-printed}
 use Rattle.answers.specs.FromTextToPlan.{Done, FromTextToPlan, MainStatement}
 
 -- ---- what the call writes
@@ -146,23 +146,6 @@ module _ (N : Network) (from to : State) where
   abbrev moving : List ℕ
   moving = those (differs from to) (size N)
 
-  abbrev listed : ℕ → List SwitchOperation
-  listed n = upTo (λ l i. cond (eqb (byte from i) (byte to i)) l (l ++ (operationOf N to i ∷ []))) [] n
-
-  listed-moving : (n : ℕ) → listed n ≡ map (operationOf N to) (those (differs from to) n)
-  unfolding upTo those
-  listed-moving zero = refl
-  listed-moving (suc n) = go (eqb (byte from n) (byte to n)) (listed-moving n)
-    where
-      go : (b : Bool) → listed n ≡ map (operationOf N to) (those (differs from to) n)
-          → cond b (listed n) (listed n ++ (operationOf N to n ∷ [])) ≡ map (operationOf N to) (cond (not b) (those (differs from to) n ++ (n ∷ [])) (those (differs from to) n))
-      go true e = e
-      go false e = ap (λ (l : List SwitchOperation). l ++ (operationOf N to n ∷ [])) e ∙ sym (map-snoc (operationOf N to) (those (differs from to) n) n)
-
-  by-position : operations N from to ≡ map (operationOf N to) moving
-  unfolding operations
-  by-position = listed-moving (size N)
-
   -- an operation is in the list exactly for a switch that stands otherwise
   module _ (f : GoodState N from) (t : GoodState N to) (o : SwitchOperation) where
     moved-so : List·Memᴰ o (map (operationOf N to) moving) → (i : ℕ) × (i < size N) × (o .«switch_id» ≡ switch N i .id) × Done (o .action) (byte from i) (byte to i)
@@ -242,8 +225,16 @@ module _ (N : Network) where
 text-read : (text : List ℕ) (N : Network) → readText text ≡ accepted N → FromTextToPlan N (printed text)
 text-read text N r = subst (FromTextToPlan N) (sym (network-printed text N r)) (network-read N (claim .accepted-texts text N .0 r .writable) (passed text N r))
 
+-- what lies behind the bytes that are written stays
+text-kept : (text out after : List ℕ) (n : ℕ) → record { answer = textAnswerOf (Printed n); out = after } ≡ answeredText text out → drop n after ≡ drop n out
+unfolding answeredText
+text-kept text out after n e = let c = call-answered _ (length (printed text)) (printed text) out e in rw (c .1, c .2) (drop-append-seam (printed text) _)
+
 pub from-text-to-plan : MainStatement
 from-text-to-plan = record {
-  call = λ text out after n e. let (N, r) = text-has-records text out after n e in (N, r, subst (FromTextToPlan N) (sym (text-printed text out after n e)) (text-read text N r));
+  call = λ text out after n e.
+      let (N, r) = text-has-records text out after n e in
+      (N, r, subst (FromTextToPlan N) (sym (text-printed text out after n e)) (text-read text N r), text-kept text out after n e);
+  answers = λ text out N r room. (_, _, sym (always-printed text N (claim .accepted-texts text N .0 r) out room));
   program = text-read;
 }

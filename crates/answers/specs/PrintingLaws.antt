@@ -4,7 +4,7 @@ use mathlib.Core.Bool.{Bool, true, false, not, cond}
 use mathlib.Core.List.{List, []}
 use Prim.Native.Nat.{ℕ, _≤_, _^_}
 use native.Mathlib.Omega.{arith}
-use lib.Dec.{T, lit≤}
+use lib.Dec.{T}
 use lib.Ieee.{binary64, isNan, lt, sub, mul, div, ofBits}
 use lib.ListN.{length, take, drop, length-append}
 use lib.Seq.{take-append-seam}
@@ -17,6 +17,7 @@ use Rattle.network.specs.Check.{checkRecords}
 use Rattle.network.specs.InsideLaws.{check-inside}
 use Rattle.states.specs.Live.{baseState}
 use Rattle.frames.specs.Text.{readText}
+use Rattle.frames.specs.Lengths.{decidingLength}
 use Rattle.frames.specs.Conditions.{judgementOf}
 use Rattle.frames.specs.Proof.{claim, passed}
 use Rattle.slices.specs.Written.{written}
@@ -96,10 +97,10 @@ printed-short text = go (readText text) refl
     go (accepted N) e = network-short N (passed text N e)
     go (refused number place) e = omega (arith, length-refusal number place)
 
--- a program that reads 65,536 bytes of a longer text prints what the whole text would get
-pub printed-early : (text : List ℕ) → printed (take 65536 text) ≡ printed text
+-- a program that reads `decidingLength` bytes or more of a longer text prints what the whole text would get
+pub printed-early : (n : ℕ) (text : List ℕ) → decidingLength ≤ n → printed (take n text) ≡ printed text
 unfolding printed
-printed-early text = ap printedOf (claim .early 65536 text (lit≤ tt))
+printed-early n text h = ap printedOf (claim .early n text h)
 
 -- ---- the call
 pub take-written : (bytes out : List ℕ) {n : ℕ} → length bytes ≡ n → n ≤ length out → {after : List ℕ} → after ≡ written bytes out → take n after ≡ bytes

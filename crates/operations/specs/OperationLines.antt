@@ -1,7 +1,7 @@
 -- The operations and their lines as a loop over the switches makes them.
 use mathlib.Core.Path.{_≡_, refl, sym, ap, _∙_}
 use mathlib.Core.Bool.{Bool, true, false, cond, not}
-use mathlib.Core.List.{List, [], _∷_, _++_, flatMap, append-nil}
+use mathlib.Core.List.{List, [], _∷_, _++_, map, flatMap, append-nil}
 use Prim.Native.Nat.{ℕ, zero, suc, _+_, _*_, _-_, _≤_, _<_}
 use native.Mathlib.Numerals.{add-one}
 use native.Mathlib.Nat.{add-zero, add-suc, zero-add}
@@ -12,6 +12,8 @@ use lib.Seq.{sets, length-sets}
 use borrow.Rule.Slice.PartMut.{putMid}
 use borrow.Author.Tests.{eq-eqb, ne-eqb}
 use Rattle.numbers.specs.UpTo.{upTo, upTo-more}
+use Rattle.numbers.specs.Choose.{those}
+use Rattle.numbers.specs.TableLaws.{map-snoc}
 use Rattle.numbers.specs.Counts.{count, count-yes, count-no}
 use Rattle.network.specs.declared.switch.Switch.{Switch}
 use Rattle.network.specs.Records.{Network}
@@ -96,6 +98,20 @@ module _ (N : Network) (from to : State) where
 
   pub length-operations : length (operations N from to) ≡ count (differs from to) (size N)
   length-operations = ap length (sym first-all) ∙ length-first (size N)
+
+  -- an operation for each position at which the two states differ, rising
+  first-those : (i : ℕ) → first i ≡ map (operationOf N to) (those (differs from to) i)
+  unfolding first upTo those
+  first-those zero = refl
+  first-those (suc i) = go (eqb (byte from i) (byte to i)) (first-those i)
+    where
+      go : (b : Bool) → first i ≡ map (operationOf N to) (those (differs from to) i)
+          → cond b (first i) (first i ++ (operationOf N to i ∷ [])) ≡ map (operationOf N to) (cond (not b) (those (differs from to) i ++ (i ∷ [])) (those (differs from to) i))
+      go true e = e
+      go false e = ap (λ (l : List SwitchOperation). l ++ (operationOf N to i ∷ [])) e ∙ sym (map-snoc (operationOf N to) (those (differs from to) i) i)
+
+  pub by-position : operations N from to ≡ map (operationOf N to) (those (differs from to) (size N))
+  by-position = sym first-all ∙ first-those (size N)
 
   -- ---- their lines
   text : ℕ → List ℕ
