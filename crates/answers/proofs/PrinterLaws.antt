@@ -9,9 +9,7 @@ use lib.ListN.{length, take, drop, length-append, length-drop}
 use lib.Seq.{sets, length-sets}
 use borrow.Rule.Slice.PartMut.{putMid}
 use Rattle.numbers.specs.Parts.{part-rest}
-use Rattle.states.specs.declared.configuration.NetworkConfiguration.{NetworkConfiguration}
 use Rattle.network.specs.declared.topology.PowerNetwork.{PowerNetwork}
-use Rattle.states.specs.Configuration.{configurationOf}
 use Rattle.network.specs.Records.{Network, recordsOf}
 use Rattle.network.specs.Answers.{Answer, accepted, refused, _andThen_, judge}
 use Rattle.network.specs.AnswerLaws.{same-value, then-iff, no-refusal}
@@ -19,7 +17,7 @@ use Rattle.network.specs.Check.{checkRecords}
 use Rattle.states.specs.Live.{baseState, checkState}
 use Rattle.states.specs.Listed.{state-accepted, switches-listed, few-switches}
 use Rattle.slices.specs.Written.{written}
-use Rattle.slices.specs.WrittenLaws.{written-sets, sets-append, sets-part}
+use Rattle.slices.specs.WrittenLaws.{written-sets, take-written, sets-append, sets-part}
 use Rattle.printing.specs.Lengths.{answerLength, operationLength, pairLength, operationsLength, planLength}
 use Rattle.printing.specs.Calls.{Call, called}
 use Rattle.printing.specs.CallLaws.{call-refused, call-short, call-done, call-is}
@@ -35,15 +33,13 @@ use Rattle.searches.specs.declared.answer.ReconfigResult.{ReconfigResult}
 use Rattle.searches.specs.declared.answer.SolveAnswer.the-variants as solves
 use Rattle.searches.specs.FromBase.{base-good}
 use Rattle.reconfiguration.specs.AnswersHavePlans.{best-good, solve-plan-accepted}
-use Rattle.searches.specs.States.{stateOf}
-use Rattle.searches.specs.StateLaws.{state-held}
 use Rattle.searches.specs.Results.{Result, resultBy, solvedBy, resultOf, solveAnswerOf}
 use Rattle.reconfiguration.specs.Solve.{result, best, solved}
 use Rattle.operations.specs.Operations.{operations, operationsText, operationsCall, operationsAnswerOf}
 use Rattle.operations.specs.OperationLines as Operations
 use Rattle.answers.specs.Printing.{resultText, operationLines, planLines, moveLines, networkText}
 use Rattle.answers.specs.PrintingValues.{HasBits}
-use Rattle.answers.specs.PrintingLaws.{length-result, operations-short, plan-short, base-bits, best-bits, reduction-bits, take-written}
+use Rattle.answers.specs.PrintingLaws.{length-result, operations-short, plan-short, base-bits, best-bits, reduction-bits}
 
 -- ---- accepted calls
 -- the bytes of the lines that are answered
@@ -128,12 +124,6 @@ module _ (n : PowerNetwork) (ok : checkRecords (recordsOf n) ≡ accepted tt) (s
 
   pub not-refused : {B : Type 0} {number place : ℕ} {after : List ℕ} → record { answer = solveAnswerOf (solves.Refused number place); out = after } ≡ solved (recordsOf n) space → B
   not-refused e = no-refusal (ap (λ (x : Call Result). x .answer) (solved-is e))
-
--- the base
-pub base-held : (n : PowerNetwork) → checkRecords (recordsOf n) ≡ accepted tt → {c : NetworkConfiguration} → c ≡ configurationOf (baseState (recordsOf n)) → take (n .«switch_count») (c .switches) ≡ baseState (recordsOf n)
-unfolding stateOf
-base-held n ok e =
-    ap (λ (b : NetworkConfiguration). take (n .«switch_count») (b .switches)) e ∙ state-held n (baseState (recordsOf n)) (base-good (recordsOf n) .long ∙ switches-listed n) (few-switches n ok)
 
 -- the bits of a result
 pub result-bits : (N : Network) → checkRecords N ≡ accepted tt → {r : ReconfigResult} → resultOf r ≡ result N → HasBits r

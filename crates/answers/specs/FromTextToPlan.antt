@@ -69,5 +69,5 @@ pub record MainStatement : Type 0 where
   -- and it answers so for every text that has records, wherever `printedLength` bytes are lent
   pub answers : (text out : List ℕ) (N : Network) → readText text ≡ accepted N → printedLength ≤ length out
       → (n : ℕ) × (after : List ℕ) × (record { answer = textAnswerOf (Printed n); out = after } ≡ answeredText text out)
-  -- the bytes that `feeder` prints say it too
+  -- the bytes of `printed`, which `feeder`'s print_text promises, say it too
   pub program : (text : List ℕ) (N : Network) → readText text ≡ accepted N → FromTextToPlan N (printed text)

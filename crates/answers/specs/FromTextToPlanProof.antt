@@ -20,7 +20,7 @@ use Rattle.network.specs.Answers.{Answer, accepted, refused}
 use Rattle.network.specs.AnswerLaws.{no-refusal}
 use Rattle.network.specs.Check.{checkRecords}
 use Rattle.network.specs.Inside.{Each}
-use Rattle.network.specs.Positions.{each-anywhere}
+use Rattle.network.specs.EachLaws.{each-anywhere, each-if, each-made, map-kept}
 use Rattle.states.specs.Live.{baseState}
 use Rattle.states.specs.Switches.{State, byte, size, switch, GoodState}
 use Rattle.lines.specs.Hex.{Fields}
@@ -28,12 +28,12 @@ use Rattle.lines.specs.Lines.{Line, cut}
 use Rattle.frames.specs.Text.{readText}
 use Rattle.frames.specs.Conditions.{judgementOf}
 use Rattle.frames.specs.Acceptable.{Short, SwitchRoom, Writable}
-use Rattle.frames.specs.LineLaws.{lineOf}
+use Rattle.frames.specs.LineLaws.{lineOf, cut-frame, cut-frames}
 use Rattle.frames.specs.Proof.{claim, passed}
 use Rattle.printing.specs.declared.writer.SwitchAction.{SwitchAction}
 use Rattle.printing.specs.declared.writer.SwitchAction.the-variants.{Open, Close}
 use Rattle.printing.specs.declared.writer.SwitchOperation.{SwitchOperation}
-use Rattle.printing.specs.Printed.{answer, truthByte, answerText, operation, operationText, pair, pairText}
+use Rattle.printing.specs.Printed.{answer, answerFields, answerText, operation, operationFields, operationText, pair, pairFields, pairText}
 use Rattle.printing.specs.CallLaws.{call-answered}
 use Rattle.radiality.specs.Feeder.{radialIn}
 use Rattle.radiality.specs.FeederLaws.{radial-in-tree}
@@ -48,7 +48,7 @@ use Rattle.operations.specs.OperationLines.{by-position}
 use Rattle.answers.specs.declared.printer.TextAnswer.the-variants.{Printed}
 use Rattle.answers.specs.Printing.{resultText, operationLines, planLines, moveLines, networkText, printedOf, printed, answeredText, textAnswerOf}
 use Rattle.answers.specs.ReadBack.{ofKind, readOperation, operationsIn, readPair, pairsIn}
-use Rattle.answers.specs.ReadBackLaws.{cut-frame, cut-frames, own-kind, other-kind, answer-kind, operation-kind, pair-kind, operationFields, operation-kept, pairFields, pair-kept, map-kept, each-made}
+use Rattle.answers.specs.ReadBackLaws.{own-kind, other-kind, answer-kind, operation-kind, pair-kind, operation-kept, pair-kept}
 use Rattle.answers.specs.Full.{always-printed}
 use Rattle.answers.specs.FromTextToPlan.{Done, FromTextToPlan, MainStatement}
 
@@ -71,17 +71,17 @@ text-has-records text out after n e = go (readText text) refl (call-answered _ _
     go (refused number place) r j = no-refusal j
 
 -- ---- the lines of a feeder's text
-abbrev answerFields : Result → Fields (answer .widths)
-answerFields r = (truthByte (r .radial), (toBits binary64 (r .base-loss), (toBits binary64 (r .best-loss), (toBits binary64 (r .reduction), (r .iterations, (truthByte (r .converged), tt))))))
+abbrev resultFields : Result → Fields (answer .widths)
+resultFields r = answerFields (r .radial) (toBits binary64 (r .base-loss)) (toBits binary64 (r .best-loss)) (toBits binary64 (r .reduction)) (r .iterations) (r .converged)
 
 abbrev answerLine : Result → Line
-answerLine r = lineOf answer (answerFields r)
+answerLine r = lineOf answer (resultFields r)
 
 abbrev operationLine : SwitchOperation → Line
 operationLine o = lineOf operation (operationFields o)
 
 abbrev pairLine : Moves → Line
-pairLine m = lineOf pair (pairFields m)
+pairLine m = lineOf pair (pairFields (m .closes) (m .opens))
 
 -- two ids of four digits
 abbrev Named : Moves → Type 0
@@ -101,19 +101,19 @@ module _ (r : Result) (os : List SwitchOperation) (ms : List Moves) where
   lines-cut : cut (linesText r os ms) ≡ map answerLine (r ∷ []) ++ lines82
   unfolding linesText resultText answerText operationsText operationText planText pairText cut
   lines-cut =
-      cut-frame answer (answerFields r) (operationsText os ++ planText ms)
+      cut-frame answer (resultFields r) (operationsText os ++ planText ms)
       ∙ ap (λ (ls : List Line). answerLine r ∷ ls)
       (cut-frames operation operationFields os (planText ms)
-      ∙ ap (λ (ls : List Line). map operationLine os ++ ls) (ap cut (sym (append-nil (planText ms))) ∙ cut-frames pair pairFields ms []))
+      ∙ ap (λ (ls : List Line). map operationLine os ++ ls) (ap cut (sym (append-nil (planText ms))) ∙ cut-frames pair (λ (m : Moves). pairFields (m .closes) (m .opens)) ms []))
 
   -- ---- read back
   pairs-back : Each Named ms → pairsIn (linesText r os ms) ≡ ms
   unfolding pairsIn ofKind
   pairs-back named =
       ap (ofKind 0x83 readPair) lines-cut
-      ∙ other-kind 0x83 readPair answerLine (λ x e. omega (arith, answer-kind (answerFields x))) (r ∷ []) lines82
+      ∙ other-kind 0x83 readPair answerLine (λ x e. omega (arith, answer-kind (resultFields x))) (r ∷ []) lines82
       ∙ other-kind 0x83 readPair operationLine (λ o e. omega (arith, operation-kind (operationFields o))) os lines83
-      ∙ own-kind 0x83 readPair pairLine (λ m. pair-kind (pairFields m)) ms []
+      ∙ own-kind 0x83 readPair pairLine (λ m. pair-kind (pairFields (m .closes) (m .opens))) ms []
       ∙ append-nil _
       ∙ map-kept Named (λ m. readPair (pairLine m .chars)) pair-kept ms named
 
@@ -121,9 +121,9 @@ module _ (r : Result) (os : List SwitchOperation) (ms : List Moves) where
   unfolding operationsIn ofKind
   operations-back named =
       ap (ofKind 0x82 readOperation) lines-cut
-      ∙ other-kind 0x82 readOperation answerLine (λ x e. omega (arith, answer-kind (answerFields x))) (r ∷ []) lines82
+      ∙ other-kind 0x82 readOperation answerLine (λ x e. omega (arith, answer-kind (resultFields x))) (r ∷ []) lines82
       ∙ own-kind 0x82 readOperation operationLine (λ o. operation-kind (operationFields o)) os lines83
-      ∙ ap (λ (l : List SwitchOperation). map (λ o. readOperation (operationLine o .chars)) os ++ l) (other-kind 0x82 readOperation pairLine (λ m e. omega (arith, pair-kind (pairFields m))) ms [])
+      ∙ ap (λ (l : List SwitchOperation). map (λ o. readOperation (operationLine o .chars)) os ++ l) (other-kind 0x82 readOperation pairLine (λ m e. omega (arith, pair-kind (pairFields (m .closes) (m .opens)))) ms [])
       ∙ append-nil _
       ∙ map-kept (λ o. Short (o .«switch_id»)) (λ o. readOperation (operationLine o .chars)) operation-kept os named
 
@@ -164,10 +164,6 @@ module _ (N : Network) (from to : State) where
         Memᴰ·cast same (Memᴰ·map (operationOf N to) (in-those (differs from to) (size N) i l (only .1)))
 
 -- ---- of a feeder from a text
-each-if : {A : Type 0} (P : A → Type 0) (b : Bool) (l : List A) → Each P l → Each P (cond b l [])
-each-if P true l h = h
-each-if P false l h = tt
-
 no-lines : planText [] ≡ []
 unfolding planText flatMap
 no-lines = refl

@@ -100,7 +100,8 @@ pub always-printed : (text : List ℕ) (N : Network) → Acceptable text N → (
     → answeredText text out ≡ record { answer = accepted (length (networkText N)); out = networkText N ++ drop (length (networkText N)) out }
 always-printed text N a out room = printed-in-full text N a out (omega (arith, network-short N (checked N (a .inside))))
 
--- every other text is refused with the number and place of its first faulty line, whatever room there is, and the slice keeps every byte
+-- every other text is refused with the number and place of its first faulty line, whatever room there is, and the slice keeps every byte (a text that is not accepted
+-- has such a line: `frames.specs.Claim`, first)
 pub refused-in-full : (text : List ℕ) {number place : ℕ} → judgeLines 1 (conditions (cut text)) ≡ refused number place → (out : List ℕ)
     → answeredText text out ≡ record { answer = refused number place; out = out }
 unfolding answeredText

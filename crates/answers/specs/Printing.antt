@@ -53,13 +53,13 @@ unfoldable pub answeredText : List ℕ → List ℕ → Call ℕ
 answeredText text out = called (judgementOf (readText text)) (length (printed text)) (printed text) out
 
 -- what is printed of an answer beside a slice: so many bytes of its front, or the line of the refusal
-abbrev pub linesOf : Answer ℕ → List ℕ → List ℕ
-linesOf (accepted count) out = take count out
-linesOf (refused number place) out = refusalText number place
+abbrev pub printedAnswer : Answer ℕ → List ℕ → List ℕ
+printedAnswer (accepted count) out = take count out
+printedAnswer (refused number place) out = refusalText number place
 
--- what `feeder` prints of the call: with room for every answer that is `printed` (`PrintingLaws.printed-by-call`)
+-- what `feeder` prints of the call's answer; with room for every answer it is `printed text` (`PrintingLaws.printed-by-call`)
 abbrev pub printedBy : Call ℕ → List ℕ
-printedBy c = linesOf (c .answer) (c .out)
+printedBy c = printedAnswer (c .answer) (c .out)
 
 -- document 01's values for each case of the code's answer
 abbrev pub textAnswerOf : TextAnswer → Answer ℕ

@@ -20,8 +20,6 @@ use Rattle.frames.specs.Text.{readText}
 use Rattle.frames.specs.Lengths.{decidingLength}
 use Rattle.frames.specs.Conditions.{judgementOf}
 use Rattle.frames.specs.Proof.{claim, passed}
-use Rattle.slices.specs.Written.{written}
-use Rattle.slices.specs.WrittenLaws.{written-room}
 use Rattle.printing.specs.Calls.{called}
 use Rattle.printing.specs.CallLaws.{call-refused, call-answered, in-full}
 use Rattle.printing.specs.LineTexts.{length-answer, length-refusal}
@@ -103,9 +101,6 @@ unfolding printed
 printed-early n text h = ap printedOf (claim .early n text h)
 
 -- ---- the call
-pub take-written : (bytes out : List ℕ) {n : ℕ} → length bytes ≡ n → n ≤ length out → {after : List ℕ} → after ≡ written bytes out → take n after ≡ bytes
-take-written bytes out long room e = rw (e, written-room bytes out (rw long room), ← long) (take-append-seam bytes (drop (length bytes) out))
-
 module _ (text out : List ℕ) where
   -- a text that is refused: its own number and place, whatever room there is
   pub text-refused : {number place : ℕ} → readText text ≡ refused number place → record { answer = refused number place; out = out } ≡ answeredText text out

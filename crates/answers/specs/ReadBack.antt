@@ -1,4 +1,5 @@
 -- Printed lines read back, from the bytes alone: line by line, by the kind byte, a number for each field. Nothing here knows how a line is written.
+-- A line with more characters, or without its line feed, is read all the same: `FromTextToPlan.whole` says that there is none.
 use mathlib.Core.Bool.{cond}
 use mathlib.Core.List.{List, [], _∷_}
 use Prim.Native.Nat.{ℕ}

@@ -1,64 +1,24 @@
--- Laws of reading back: a frame's text is one line, lines of other kinds give nothing, and what is read of a line of a kind is what was written into it.
+-- Laws of reading back: lines of other kinds give nothing, and what is read of a line of a kind is what was written into it.
 use mathlib.Core.Path.{_≡_, refl, sym, ap, ap₂, _∙_}
 use mathlib.Core.Logic.{_≢_}
-use mathlib.Core.Bool.{Bool, true, false, cond}
-use mathlib.Core.List.{List, [], _∷_, _++_, map, flatMap, append-assoc}
-use Prim.Native.Nat.{ℕ, zero, suc, _+_, _/_, _%_, _^_, _<_}
-use native.Mathlib.Omega.{arith}
-use lib.Dec.{ltb, lit<}
+use mathlib.Core.List.{List, [], _∷_, _++_, map}
+use Prim.Native.Nat.{ℕ, _^_, _<_}
+use lib.Dec.{lit<}
 use lib.ListN.{take, drop}
 use lib.Seq.{drop-drop}
 use borrow.Author.Tests.{eq-eqb, ne-eqb}
-use Rattle.numbers.specs.Every.{every, every-append}
-use Rattle.network.specs.Inside.{Each}
 use Rattle.lines.specs.Hex.{isDigit, value, digit, number, numberAt, digits, Fields, readFields, writeFields}
 use Rattle.lines.specs.HexLaws.{fields-kept}
-use Rattle.lines.specs.Lines.{Line, cut}
-use Rattle.lines.specs.CutLaws.{noFeed, cut-ended}
-use Rattle.lines.specs.Frames.{Frame, layout, frameText}
+use Rattle.lines.specs.Lines.{Line}
+use Rattle.lines.specs.Frames.{layout}
 use Rattle.frames.specs.Acceptable.{Short}
 use Rattle.frames.specs.LineLaws.{lineOf}
 use Rattle.printing.specs.declared.writer.SwitchAction.{SwitchAction}
 use Rattle.printing.specs.declared.writer.SwitchAction.the-variants.{Open, Close}
 use Rattle.printing.specs.declared.writer.SwitchOperation.{SwitchOperation}
-use Rattle.printing.specs.Printed.{answer, operation, actionByte, pair}
+use Rattle.printing.specs.Printed.{answer, operation, actionByte, operationFields, pair, pairFields}
 use Rattle.plan.specs.Plan.{Moves}
 use Rattle.answers.specs.ReadBack.{kindOf, ofKind, readAction, readOperation, readPair}
-
--- ---- no line feed stands in what is written of a number, whatever the number
-digit-feedless : (n : ℕ) → noFeed (digit n) ≡ true
-unfolding digit
-digit-feedless n = go (ltb n 10)
-  where
-    go : (b : Bool) → noFeed (cond b (48 + n) (55 + n)) ≡ true
-    go true = rw (ne-eqb (48 + n) 10 (λ e. omega arith))
-    go false = rw (ne-eqb (55 + n) 10 (λ e. omega arith))
-
-digits-feedless : (w n : ℕ) → every noFeed (digits w n) ≡ true
-unfolding digits every
-digits-feedless zero n = refl
-digits-feedless (suc w) n = rw (digit-feedless (n / 16 ^ w)) (digits-feedless w (n % 16 ^ w))
-
-fields-feedless : (ws : List ℕ) (f : Fields ws) → every noFeed (writeFields ws f) ≡ true
-unfolding writeFields every
-fields-feedless [] f = refl
-fields-feedless (w ∷ ws) f = every-append noFeed (digits w (f .0)) (writeFields ws (f .1)) (digits-feedless w (f .0)) (fields-feedless ws (f .1))
-
--- ---- a frame's text is one line, and the texts of many are their lines
-pub cut-frame : (F : Frame) (f : Fields (F .widths)) (rest : List ℕ) → cut (frameText F f ++ rest) ≡ lineOf F f ∷ cut rest
-unfolding frameText lineOf
-cut-frame F f rest =
-    let chars = writeFields (layout F) (F .kind, f) in
-    ap cut (append-assoc chars (10 ∷ []) rest) ∙ cut-ended chars rest (fields-feedless (layout F) (F .kind, f))
-
-pub cut-frames : {A : Type 0} (F : Frame) (fields : A → Fields (F .widths)) (l : List A) (rest : List ℕ)
-    → cut (flatMap (λ a. frameText F (fields a)) l ++ rest) ≡ map (λ a. lineOf F (fields a)) l ++ cut rest
-unfolding flatMap
-cut-frames F fields [] rest = refl
-cut-frames F fields (a ∷ l) rest =
-    let text = frameText F (fields a) in
-    let more = flatMap (λ b. frameText F (fields b)) l in
-    ap cut (append-assoc text more rest) ∙ cut-frame F (fields a) (more ++ rest) ∙ ap (λ (ls : List Line). lineOf F (fields a) ∷ ls) (cut-frames F fields l rest)
 
 -- ---- lines of the kind and of other kinds
 module _ {A B : Type 0} (kind : ℕ) (read : List ℕ → A) (line : B → Line) where
@@ -100,9 +60,6 @@ unfolding readAction
 action-kept Open = refl
 action-kept Close = refl
 
-abbrev pub operationFields : SwitchOperation → Fields (operation .widths)
-operationFields o = (o .«switch_id», (actionByte (o .action), tt))
-
 pub operation-kept : (o : SwitchOperation) → Short (o .«switch_id») → readOperation (lineOf operation (operationFields o) .chars) ≡ o
 unfolding readOperation lineOf readFields
 operation-kept o short =
@@ -112,23 +69,11 @@ operation-kept o short =
     let byte : numberAt 6 2 chars ≡ actionByte (o .action) = second-at 2 chars ∙ ap (λ (f : Fields (layout operation)). f .1 .1 .0) kept in
     ap₂ (λ (x : ℕ) (a : SwitchAction). record { «switch_id» = x; action = a }) id (ap readAction byte ∙ action-kept (o .action))
 
-abbrev pub pairFields : Moves → Fields (pair .widths)
-pairFields m = (m .closes, (m .opens, tt))
-
-pub pair-kept : (m : Moves) → Short (m .closes) × Short (m .opens) → readPair (lineOf pair (pairFields m) .chars) ≡ m
+pub pair-kept : (m : Moves) → Short (m .closes) × Short (m .opens) → readPair (lineOf pair (pairFields (m .closes) (m .opens)) .chars) ≡ m
 unfolding readPair lineOf readFields
 pair-kept m short =
-    let chars = writeFields (layout pair) (0x83, pairFields m) in
-    let kept = fields-kept (layout pair) (0x83, pairFields m) (lit< tt, (short .0, (short .1, tt))) in
+    let chars = writeFields (layout pair) (0x83, pairFields (m .closes) (m .opens)) in
+    let kept = fields-kept (layout pair) (0x83, pairFields (m .closes) (m .opens)) (lit< tt, (short .0, (short .1, tt))) in
     let closes : numberAt 2 4 chars ≡ m .closes = ap (λ (f : Fields (layout pair)). f .1 .0) kept in
     let opens : numberAt 6 4 chars ≡ m .opens = second-at 4 chars ∙ ap (λ (f : Fields (layout pair)). f .1 .1 .0) kept in
     ap₂ (λ (x y : ℕ). record { closes = x; opens = y }) closes opens
-
--- and so of each of a list, and of what a list is made into
-pub map-kept : {A : Type 0} (P : A → Type 0) (f : A → A) → ((a : A) → P a → f a ≡ a) → (l : List A) → Each P l → map f l ≡ l
-map-kept P f kept [] h = refl
-map-kept P f kept (a ∷ l) h = ap₂ (λ x xs. x ∷ xs) (kept a (h .0)) (map-kept P f kept l (h .1))
-
-pub each-made : {A B : Type 0} (P : B → Type 0) (f : A → B) → ((a : A) → P (f a)) → (l : List A) → Each P (map f l)
-each-made P f made [] = tt
-each-made P f made (a ∷ l) = (made a, each-made P f made l)

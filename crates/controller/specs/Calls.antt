@@ -70,18 +70,18 @@ unfoldable pub textLoss : List ℕ → List ℕ → Answer ℕ
 textLoss text state = numbered (toBits binary64) (onRecords (readText text) (λ N. onState N state (lossIn N state)))
 
 -- ---- a call that writes: what it answers, and what the lent slice holds then
-pub record Written (A : Type 0) : Type 0 where
+pub record CallWritten (A : Type 0) : Type 0 where
   pub answer : A
   pub out : List ℕ
 
 -- what such a call answers, in numbers, beside the slice
-abbrev pub writtenAs : {A B : Type 0} → (Answer A → B) → Call A → Written B
+abbrev pub writtenAs : {A B : Type 0} → (Answer A → B) → Call A → CallWritten B
 writtenAs inNumbers p = record { answer = inNumbers (p .answer); out = p .out }
 
-abbrev pub writtenNumbers : Call ℕ → Written CallAnswer
+abbrev pub writtenNumbers : Call ℕ → CallWritten CallAnswer
 writtenNumbers p = writtenAs numbersOf p
 
-abbrev pub writtenSolved : Call Result → Written SolvedAnswer
+abbrev pub writtenSolved : Call Result → CallWritten SolvedAnswer
 writtenSolved p = writtenAs solvedNumbers p
 
 -- a call on a text: its reading, then what the call answers on the records; "A refusal .. writes no lent byte"

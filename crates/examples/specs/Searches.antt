@@ -51,13 +51,13 @@ pub data Value : Type 0 where
   ofSearch : Call Result → Value
 
 -- a byte more than there are switches
-abbrev pub lent : Network → List ℕ
-lent N = replicate (length (N .switches) + 1) 0xFF
+abbrev pub slice : Network → List ℕ
+slice N = replicate (length (N .switches) + 1) 0xFF
 
 -- by the definitions that these calls promise, their tests of the records and of the state included
 abbrev pub valueOf : Case → Value
 valueOf (inState N s) = ofState (onState N s (radialIn N s)) (onState N s (lossIn N s))
-valueOf (searched N) = ofSearch (solved N (lent N))
+valueOf (searched N) = ofSearch (solved N (slice N))
 
 -- no refusal: radial or not, and the loss
 abbrev pub stands : Bool → Float → Value

@@ -10,10 +10,10 @@ pub const PAIR_LENGTH: usize = 11;
 pub const REFUSAL_LENGTH: usize = 9;
 
 // An operation for each switch.
-pub const OPERATIONS_LENGTH: usize = PowerNetwork::MAX_SWITCHES as usize * OPERATION_LENGTH;
+pub const OPERATIONS_LENGTH: usize = PowerNetwork::MAX_SWITCHES * OPERATION_LENGTH;
 
 // A pair for each bus but one.
-pub const PLAN_LENGTH: usize = (PowerNetwork::MAX_BUSES as usize - 1) * PAIR_LENGTH;
+pub const PLAN_LENGTH: usize = (PowerNetwork::MAX_BUSES - 1) * PAIR_LENGTH;
 
 // The longest answer to a text.
 pub const MAX_LENGTH: usize = ANSWER_LENGTH + OPERATIONS_LENGTH + PLAN_LENGTH;

@@ -6,7 +6,7 @@ use Prim.Native.Nat.{ℕ, suc, _+_, _-_, _<_, _≤_}
 use native.Mathlib.Omega.{arith}
 use native.Mathlib.Nat.{add-zero, add-suc, suc-add, zero-add}
 use lib.ListN.{length, take, drop, set, length-append, length-drop, take-append-drop, drop-of-length-le}
-use lib.Seq.{sets, sets-eq, length-sets, take-set-le, drop-set-add, take-all}
+use lib.Seq.{sets, sets-eq, length-sets, take-set-le, drop-set-add, take-all, take-append-seam}
 use lib.Dec.{leb}
 use borrow.Author.Tests.{le-leb, lt-leb, leb-true, leb-false}
 use borrow.Rule.Slice.PartMut.{putMid}
@@ -38,6 +38,10 @@ module _ {A : Type 0} where
 pub written-room : (bytes out : List ℕ) → length bytes ≤ length out → written bytes out ≡ bytes ++ drop (length bytes) out
 unfolding written
 written-room bytes out h = rw (le-leb (length bytes) (length out) h)
+
+-- and what stands at the front then
+pub take-written : (bytes out : List ℕ) {n : ℕ} → length bytes ≡ n → n ≤ length out → {after : List ℕ} → after ≡ written bytes out → take n after ≡ bytes
+take-written bytes out long room e = rw (e, written-room bytes out (rw long room), ← long) (take-append-seam bytes (drop (length bytes) out))
 
 pub written-sets : (bytes out : List ℕ) → length bytes ≤ length out → written bytes out ≡ sets out 0 bytes
 written-sets bytes out h =

@@ -26,7 +26,7 @@ use Rattle.plan.specs.Plan.{planned}
 use Rattle.searches.specs.Results.{Result, resultBy, solvedBy}
 use Rattle.reconfiguration.specs.Solve.{best, result, solved}
 use Rattle.controller.specs.Calls.{numbered, onRecords, textRadiality, textLoss, onText, textPlan}
-use Rattle.controller.specs.CallLaws.{NoNan, text-refused, text-untouched}
+use Rattle.controller.specs.CallLaws.{NoNan, reading-refused, text-untouched}
 use Rattle.timing.specs.Rounds.{valueOf, recordCount, searchValue, textSearch, asked, total}
 
 -- ---- how many records a text has
@@ -116,8 +116,8 @@ value-refused : (kind : ℕ) (t a b : List ℕ) (n p : ℕ) → readText t ≡ r
 unfolding asked onRecords textRadiality textLoss textPlan
 value-refused kind t a b n p so =
     either-nothing (eqb kind 0) _ _ (sym (count-refused t n p so))
-    (either-nothing (eqb kind 1) _ _ (ap valueOf (sym (text-refused truthByte t _ so)))
-    (either-nothing (eqb kind 2) _ _ (ap valueOf (sym (text-refused (toBits binary64) t _ so)))
+    (either-nothing (eqb kind 1) _ _ (ap valueOf (sym (reading-refused truthByte t _ so)))
+    (either-nothing (eqb kind 2) _ _ (ap valueOf (sym (reading-refused (toBits binary64) t _ so)))
     (either-nothing (eqb kind 3) _ _ (ap (λ (q : Call ℕ). valueOf (q .answer)) (sym (text-untouched t _ (replicate planLength 0) so))) refl)))
 
 same-either-way : (b : Bool) (v : ℕ) → cond b v v ≡ v

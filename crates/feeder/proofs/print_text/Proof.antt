@@ -2,11 +2,12 @@
 use mathlib.Core.Path.{_≡_, ap, _∙_}
 use native.Mathlib.Omega.{arith}
 use lib.ListN.{length}
+use Rattle.slices.specs.WrittenLaws.{take-written}
 use Rattle.printing.specs.Lengths.{refusalLength}
 use Rattle.printing.specs.Printed.{refusalText}
-use Rattle.answers.specs.Printing.{printedBy}
 use Rattle.printing.specs.LineTexts.{length-refusal}
-use Rattle.answers.specs.PrintingLaws.{printed-short, printed-count, printed-by-call, take-written}
+use Rattle.answers.specs.Printing.{printedBy}
+use Rattle.answers.specs.PrintingLaws.{printed-short, printed-count, printed-by-call}
 use borrow.Author.Needs.{needs}
 use Rattle.feeder.proofs.Laws.{counts}
 use Rattle.feeder.proofs.print_text.Statement.{statement}

@@ -2,7 +2,7 @@
 use mathlib.Core.Path.{ap, _∙_}
 use Rattle.frames.specs.ReadingLaws.{read-refused, read-accepted}
 use Rattle.controller.specs.Calls.{numbersOf, textRadiality}
-use Rattle.controller.specs.CallLaws.{text-refused, text-answered}
+use Rattle.controller.specs.CallLaws.{reading-refused, reading-answered}
 use borrow.Author.Needs.{needs}
 use Rattle.controller.proofs.calls.feeder_radiality.Statement.{statement}
 use Rattle.controller.proofs.calls.feeder_radiality.Tie as tie
@@ -21,7 +21,7 @@ unfolding textRadiality
 returns c =
     let verdict = c .before .before in
     let so = read-refused _ _ _ _ (verdict .before .before .read-text .ensures) (verdict .verdict .given .1) in
-    c .refusal .ensures ∙ ap numbersOf (text-refused _ _ _ so)
+    c .refusal .ensures ∙ ap numbersOf (reading-refused _ _ _ so)
 
 enum-told : tie.Need-enum-told
 enum-told c = search needs
@@ -37,7 +37,7 @@ unfolding textRadiality
 returns-2 c =
     let told = c .before .before in
     let so = read-accepted _ _ (told .before .before .read-text .ensures) (told .enum-told .given .1) in
-    c .radiality-numbers .ensures ∙ ap numbersOf (text-answered _ _ _ so (c .before .verify-radiality .ensures))
+    c .radiality-numbers .ensures ∙ ap numbersOf (reading-answered _ _ _ so (c .before .verify-radiality .ensures))
 
 pub feeder-radiality-spec : {M : Type 1} → statement M
 feeder-radiality-spec =

@@ -5,7 +5,8 @@ use native.Mathlib.Omega.{arith}
 use lib.ListN.{length}
 use Rattle.states.specs.Listed.{few-switches}
 use Rattle.controller.specs.Calls.{numbersOf}
-use Rattle.controller.specs.CallLaws.{base-short, base-done, numbers-beside}
+use Rattle.controller.specs.CallLaws.{numbers-beside}
+use Rattle.controller.proofs.BaseLaws.{base-short, base-done}
 use borrow.Author.Needs.{needs}
 use Rattle.controller.proofs.calls.write_base.Statement.{statement}
 use Rattle.controller.proofs.calls.write_base.Tie as tie
