@@ -4,7 +4,7 @@
  * nothing else). Their promises are the equations in crates/controller/src/calls.rt. Nothing checks this header against that file
  * but the programs of tests/interface.
  *
- * A text is document 01's frame text. A state has one byte for each switch of the text, in its order: 0 closed, 1 open. Any bytes of any
+ * A text is a feeder in the frames of docs/INTERFACE.md. A state has one byte for each switch of the text, in its order: 0 closed, 1 open. Any bytes of any
  * length may be handed over: what is not acceptable is refused.
  *
  * What the caller owes, and nothing tests: each pointer is good for as many bytes as the length behind it says (with length 0 it may
@@ -56,7 +56,7 @@ extern "C" {
 #define FEEDER_OPERATIONS_STACK 120448
 #define FEEDER_STACK 245760
 
-/* Document 01's refusals. The place of 1 to 9 is the text's line, from 1: the first faulty line is answered, and of its numbers the lowest (2 where it
+/* The refusals, as docs/INTERFACE.md has them. The place of 1 to 9 is the text's line, from 1: the first faulty line is answered, and of its numbers the lowest (2 where it
  * is over 36 characters). The place of 10 and 11 is 0 for the present, first or only state and 1 for the wanted or second one; that of 12 is the
  * switch's id, the first in list order; that of 13 is 0. A faulty text comes before 10, and 10 to 13 come in this order. */
 enum feeder_refusal {

@@ -3,13 +3,13 @@
 Tested (tests/interface/run), not proved: what is proved are the calls of the library that this module loads. `python/build` makes it;
 LUGWEFA_LIBRARY names it, else liblugwefa.so is taken from beside this file or from target/python. Nothing but Python's own library is needed.
 
-A text is a feeder in document 01's frames, as bytes or str. A state says of each switch, by its id, how it stands:
+A text is a feeder in the frames of docs/INTERFACE.md, as bytes or str. A state says of each switch, by its id, how it stands:
 
     >>> base_state(triangle)
     {10: 'closed', 11: 'open'}
 
 A state that is handed over is such a mapping, or the bytes of the calls (0 closed, 1 open, in the text's order). What is not acceptable is
-refused by the call itself, in document 01's order, and raises Refused with its number and place. python/example.py shows the rest.
+refused by the call itself, and raises Refused with the number and place that docs/INTERFACE.md has. python/example.py shows the rest.
 """
 
 import ctypes
@@ -47,7 +47,7 @@ CONDITIONS = {
 
 
 class Refused(ValueError):
-    """A refusal: document 01's number and place. `why` says what is wrong with a state that was handed over by ids, where that is known."""
+    """A refusal: its number and place. `why` says what is wrong with a state that was handed over by ids, where that is known."""
 
     def __init__(self, number, place, why=''):
         self.number, self.place, self.why = number, place, why
