@@ -240,7 +240,6 @@ joined-lines N =
     rw (joined-append b-lines (r-lines ++ s-lines), joined-append r-lines s-lines, joined-records busKind (N .buses), joined-records branchKind (N .branches), joined-records switchKind (N .switches))
     (sym (append-assoc (lineOf head (headKind .fields (check.headOf N)) .chars) (10 ∷ []) _))
 
-
 lines-digits : {A : Type 0} (K : Kind A) (xs : List A) → Each (K .Room) xs → Each DigitLine (map (recordLine K) xs)
 unfolding recordLine
 lines-digits K [] h = tt
