@@ -50,8 +50,11 @@ class Refused(ValueError):
     """A refusal: its number and place. `why` says what is wrong with a state that was handed over by ids, where that is known."""
 
     def __init__(self, number, place, why=''):
+        super().__init__(number, place, why)
         self.number, self.place, self.why = number, place, why
-        super().__init__(f'refused {number} at {self._where()}: {CONDITIONS[number]}' + (f' ({why})' if why else ''))
+
+    def __str__(self):
+        return f'refused {self.number} at {self._where()}: {CONDITIONS[self.number]}' + (f' ({self.why})' if self.why else '')
 
     def _where(self):
         if self.number <= 9:
@@ -146,7 +149,7 @@ def _library():
 
 
 def _bytes(text):
-    return text.encode() if isinstance(text, str) else bytes(iter(text))
+    return text.encode(errors='surrogatepass') if isinstance(text, str) else bytes(iter(text))
 
 
 def _call(call, slices):
