@@ -197,9 +197,9 @@ def _by_id(text, state):
 
 
 def _in_order(text, state):
-    """A state's bytes in the text's order, and what is wrong with it by its ids. A state by ids that is none gets a byte 2, and the call refuses it."""
+    """A state's bytes in the text's order, and what is wrong with it by its ids. What is no state gets a byte 2, and the call refuses it."""
     if not isinstance(state, Mapping):
-        return bytes(iter(state)), ''
+        return bytes(byte if byte in (0, 1) else 2 for byte in state), ''
     base_state(text)
     ids = _ids(text)
     missing = [f'switch {switch} is missing' for switch in ids if switch not in state]

@@ -32,11 +32,13 @@ use std::fmt::Debug;
 use std::process::ExitCode;
 
 const CASES: usize = 4000;
+const ANSWER_LENGTH: usize = 59;
 const GUARD: u8 = 0xAA;
 const MARGIN: usize = 16;
+const MAX_BUSES: usize = 256;
 const MAX_SWITCHES: usize = 512;
 const PAIR_LENGTH: usize = 11;
-const TEXT_LENGTH: usize = 59 + MAX_SWITCHES * OPERATION_LENGTH + 255 * PAIR_LENGTH;
+const TEXT_LENGTH: usize = ANSWER_LENGTH + MAX_SWITCHES * OPERATION_LENGTH + (MAX_BUSES - 1) * PAIR_LENGTH;
 
 /// The calls, and the refusals that each can answer.
 const OF_A_TEXT: [u8; 10] = [1, 2, 3, 4, 5, 6, 7, 8, 9, 13];

@@ -16,6 +16,9 @@ use printing::writer::write_refusal;
 // The list's limit: no text is longer. No output is longer than MAX_LENGTH.
 const MOST_TEXT: usize = 32767;
 
+// An entry's head: the two lengths, four digits each, and a line feed.
+const HEAD_LENGTH: usize = 9;
+
 // More entries are not read, so that the replay ends on any input.
 const MOST_ENTRIES: u64 = 65535;
 
@@ -49,7 +52,7 @@ fn digit(c: u8) -> usize
 }
 
 // The length that four digits of a head say, and 65,536 where one of them is no digit.
-fn length_at(head: [u8; 9], at: usize) -> usize
+fn length_at(head: [u8; HEAD_LENGTH], at: usize) -> usize
     requires { ⌜ at ≤ 5 ⌝ }
 {
     let a = digit(head[at]);
@@ -143,7 +146,7 @@ fn replay_entry(n: usize, m: usize) -> Entry
 
 // Reads an entry's head, and replays it.
 fn next_entry() -> Entry {
-    let mut head = [0u8; 9];
+    let mut head = [0u8; HEAD_LENGTH];
     let n = io::read_full(STDIN_FILENO, &mut head);
     if n == 0 {
         return Entry::Missing { ended: true };
