@@ -4,7 +4,7 @@
  * nothing else). Their promises are the equations in crates/controller/src/calls.rt. Nothing checks this header against that file
  * but the programs of tests/interface.
  *
- * A text is document 01's frame text. A state has one byte for each switch of the text, in its order: 0 closed, 1 open. Any bytes of any
+ * A text is a feeder in the frames of docs/INTERFACE.md. A state has one byte for each switch of the text, in its order: 0 closed, 1 open. Any bytes of any
  * length may be handed over: what is not acceptable is refused.
  *
  * What the caller owes, and nothing tests: each pointer is good for as many bytes as the length behind it says (with length 0 it may
@@ -21,38 +21,80 @@
 extern "C" {
 #endif
 
-/* Bytes of an 83 line, and of the longest plan: 255 pairs. */
+#define FEEDER_VERSION "0.2"
+
+/* What a text may list, how many iterations its head may ask for, and how many of its switches may be normally open with method 02. */
+#define FEEDER_MAX_BUSES 256
+#define FEEDER_MAX_BRANCHES 512
+#define FEEDER_MAX_SWITCHES 512
+#define FEEDER_MAX_ITERATIONS 1000
+#define FEEDER_MAX_TIES 10
+
+/* Bytes of the longest text that is accepted: the head, and every bus, branch and switch that there is room for, with their line feeds. */
+#define FEEDER_LONGEST_TEXT (37 + FEEDER_MAX_BUSES * 23 + FEEDER_MAX_BRANCHES * 29 + FEEDER_MAX_SWITCHES * 13)
+
+/* Bytes of an 81, an 82 and an 83 line. */
+#define FEEDER_ANSWER_LENGTH 59
+#define FEEDER_OPERATION_LENGTH 9
 #define FEEDER_PAIR_LENGTH 11
-#define FEEDER_PLAN_LENGTH 2805
 
-/* Bytes of the longest answer to a text. */
-#define FEEDER_TEXT_LENGTH 7472
+/* Bytes of out that are enough for every text and every state: for feeder_operations; for feeder_plan, as a plan has fewer pairs than there are
+ * buses; for feeder_answer_text. FEEDER_MAX_SWITCHES are enough for feeder_base_state and feeder_solve. */
+#define FEEDER_OPERATIONS_LENGTH (FEEDER_MAX_SWITCHES * FEEDER_OPERATION_LENGTH)
+#define FEEDER_PLAN_LENGTH ((FEEDER_MAX_BUSES - 1) * FEEDER_PAIR_LENGTH)
+#define FEEDER_TEXT_LENGTH (FEEDER_ANSWER_LENGTH + FEEDER_OPERATIONS_LENGTH + FEEDER_PLAN_LENGTH)
 
-/* Stack that is enough for every call of tests/interface, those on the largest feeder included; tested, not proved. */
-#define FEEDER_STACK 1048576
+/* Bytes of stack that each call needs, the same for three buses and for 256: measured to 64 bytes on a stack that ends at a page which faults
+ * (tests/interface/stack.c, which fails where a call needs more), on what `rt staticlib controller` writes; tested, not proved. FEEDER_STACK is for a thread
+ * that makes any of the calls: the greatest of them and a quarter, in whole pages. */
+#define FEEDER_RADIALITY_STACK 133760
+#define FEEDER_LOSS_STACK 131712
+#define FEEDER_PLAN_STACK 120448
+#define FEEDER_ANSWER_TEXT_STACK 194752
+#define FEEDER_BASE_STATE_STACK 136320
+#define FEEDER_SOLVE_STACK 169280
+#define FEEDER_OPERATIONS_STACK 120448
+#define FEEDER_STACK 245760
 
-/* number 0: not refused, and value is what was asked for (place is 0).
- * Else number and place are document 01's refusal, and value is 0:
- *   1   an unended line, an odd number of digits, another character
- *   2   a line of the wrong kind or length, missing or too many; any line over 36 characters
- *   3   a method, status or flags byte without a meaning, or over 1,000 iterations
- *   4   a count of the head over its limit
- *   5   a float outside its range, or not finite
- *   6   a branch end that is not listed, or a branch position not below the count
- *   7   a bus id twice among the buses, or a switch id twice among the switches
- *   8   a second switch on a branch
- *   9   an eleventh normally open switch with method 02
- *   10  a state isn't one byte 0 or 1 for each switch, place 0 for the present or only state, 1 for the wanted one
- *   11  a plan's state isn't radial, place likewise
- *   12  the plan would move a locked switch, place is the first such id in list order
- *   13  out is shorter than the answer, place 0
- * The place of 1 to 9 is the text's line, from 1: the first faulty line is answered, and of its numbers the lowest (2 where it is over 36
- * characters). A faulty text comes before 10, and 10 to 13 come in this order. */
+/* The refusals, as docs/INTERFACE.md has them. The place of 1 to 9 is the text's line, from 1: the first faulty line is answered, and of its numbers the lowest (2 where it
+ * is over 36 characters). The place of 10 and 11 is 0 for the present, first or only state and 1 for the wanted or second one; that of 12 is the
+ * switch's id, the first in list order; that of 13 is 0. A faulty text comes before 10, and 10 to 13 come in this order. */
+enum feeder_refusal {
+    FEEDER_BAD_CHARACTERS = 1, /* an unended line, an odd number of digits, another character */
+    FEEDER_BAD_LINE = 2,       /* a line of the wrong kind or length, missing or too many; any line over 36 characters */
+    FEEDER_NO_MEANING = 3,     /* a method, status or flags byte without a meaning, or more than FEEDER_MAX_ITERATIONS */
+    FEEDER_OVER_LIMIT = 4,     /* a count of the head over its limit */
+    FEEDER_OUT_OF_RANGE = 5,   /* a float outside its range, or not finite */
+    FEEDER_NOT_LISTED = 6,     /* a branch end that is not listed, or a branch position not below the count */
+    FEEDER_ID_TWICE = 7,       /* a bus id twice among the buses, or a switch id twice among the switches */
+    FEEDER_SECOND_SWITCH = 8,  /* a second switch on a branch */
+    FEEDER_TOO_MANY_TIES = 9,  /* more than FEEDER_MAX_TIES normally open switches with method 02 */
+    FEEDER_BAD_STATE = 10,     /* a state isn't one byte 0 or 1 for each switch */
+    FEEDER_NOT_RADIAL = 11,    /* a plan's state isn't radial */
+    FEEDER_LOCKED = 12,        /* the plan would move a locked switch */
+    FEEDER_NO_ROOM = 13        /* out is shorter than the answer */
+};
+
+/* number 0: not refused, and value is what was asked for (place is 0). Else number is an enum feeder_refusal, place is its place, and value is 0. */
 struct feeder_answer {
     uint8_t number;
     uint16_t place;
     uint64_t value;
 };
+
+/* What feeder_solve answers. number 0: not refused (place is 0). Else number is an enum feeder_refusal, place is its place, and the others are 0. */
+struct feeder_solved {
+    uint8_t number;
+    uint16_t place;
+    uint8_t radial;      /* 1 where the best state is radial, else 0 */
+    uint8_t converged;   /* 1 or 0 */
+    uint16_t iterations;
+    double base_loss;    /* in MW */
+    double best_loss;    /* in MW */
+    double reduction;    /* of the base's loss, in percent; below 0 where the best state loses more */
+};
+
+/* A call that is lent out writes its bytes to the front of it; what is behind them stays. A refusal writes nothing. */
 
 /* Is the state radial? value is 1 or 0. Refusals 1 to 10. */
 struct feeder_answer feeder_radiality(const uint8_t *text, size_t text_length, const uint8_t *state, size_t state_length);
@@ -60,15 +102,27 @@ struct feeder_answer feeder_radiality(const uint8_t *text, size_t text_length, c
 /* The loss of the state in MW, which need not be radial: value is the bits of a double. Refusals 1 to 10. */
 struct feeder_answer feeder_loss(const uint8_t *text, size_t text_length, const uint8_t *state, size_t state_length);
 
-/* The plan from the present state to the wanted one: value is the number of pairs. At the front of out stands an 83 line for each pair,
- * "83", id closed, id opened (4 digits each) and a line feed; what is behind them stays. A refusal writes nothing. Refusals 1 to 13. */
+/* The plan from the present state to the wanted one: value is the number of pairs. In out stands an 83 line for each pair, "83", id closed, id opened
+ * (4 digits each) and a line feed. Refusals 1 to 13. */
 struct feeder_answer feeder_plan(const uint8_t *text, size_t text_length, const uint8_t *present, size_t present_length,
                                  const uint8_t *wanted, size_t wanted_length, uint8_t *out, size_t out_length);
 
-/* What the program feeder prints for the text: value is the number of bytes, which stand at the front of out; what is behind them stays. A text
- * that is refused has its line "8F", number (2 digits), place (4 digits) and a line feed printed: so only 13 is answered here, and it writes
- * nothing. FEEDER_TEXT_LENGTH bytes are enough for every text. */
+/* What the program feeder prints for an accepted text: value is the number of bytes. In out stand the search's 81 line, an 82 line for each switch that
+ * stands otherwise than in the base and, where the base is radial, the plan's 83 lines. Refusals 1 to 9 and 13. */
 struct feeder_answer feeder_answer_text(const uint8_t *text, size_t text_length, uint8_t *out, size_t out_length);
+
+/* The base, in which exactly the normally open switches are open: value is the number of switches. In out stands a byte for each. Refusals 1 to 9
+ * and 13. */
+struct feeder_answer feeder_base_state(const uint8_t *text, size_t text_length, uint8_t *out, size_t out_length);
+
+/* The search that the text's head asks for. In out stands a byte for each switch: the best state. Refusals 1 to 9 and 13. */
+struct feeder_solved feeder_solve(const uint8_t *text, size_t text_length, uint8_t *out, size_t out_length);
+
+/* The operations that lead from one state to another: value is their number. In out stands an 82 line for each, "82", switch id (4 digits), 00 to open or
+ * 01 to close, and a line feed. They stand in the order of the switches, which is no order to switch in: that is the plan's. Refusals 1 to 10 and
+ * 13. */
+struct feeder_answer feeder_operations(const uint8_t *text, size_t text_length, const uint8_t *from, size_t from_length, const uint8_t *to,
+                                       size_t to_length, uint8_t *out, size_t out_length);
 
 #ifdef __cplusplus
 }

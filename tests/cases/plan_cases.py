@@ -17,6 +17,8 @@ import re
 
 ROOT = os.path.join(os.path.dirname(os.path.abspath(__file__)), '..', '..', 'crates', 'plan_cases')
 CHANGES = {'iterations 1001': 'A', 'switch 10 a tie': 'F', '': '-'}
+# bytes of an 83 line
+PAIR_LENGTH = 11
 cases, told_apart = [], set()
 
 
@@ -109,7 +111,7 @@ def answer(feeder, change, present, wanted, room):
         if k in differing and not flags & 2:
             return 12, number
     pairs = plan(feeder, present, wanted)
-    return pairs if 11 * len(pairs) <= room else (13, 0)
+    return pairs if PAIR_LENGTH * len(pairs) <= room else (13, 0)
 
 
 def case(name, feeder, present, wanted, room, known=None, change=''):
@@ -137,7 +139,7 @@ def bytes_of(feeder, live):
 
 
 def between(name, feeder, present, wanted, known):
-    case(name, feeder, bytes_of(feeder, present), bytes_of(feeder, wanted), 11 * len(known), known)
+    case(name, feeder, bytes_of(feeder, present), bytes_of(feeder, wanted), PAIR_LENGTH * len(known), known)
 
 
 def slices():
@@ -248,7 +250,7 @@ def drawn(name, draw, n, share):
     feeder.switches = [(number, k, draw.randrange(2) + 2 * (k in always_operable or draw.random() < 0.8))
                        for number, k in zip(draw.sample(range(65536), len(positions)), positions)]
     states = [''.join(draw.choice('01') if branches[k][2] == 0 else '01'[k not in live] for k in positions) for live in (first, second)]
-    case(name, feeder, *states, 11 * len(first - second) + draw.choice([0, 0, 1, 7]))
+    case(name, feeder, *states, PAIR_LENGTH * len(first - second) + draw.choice([0, 0, 1, 7]))
 
 
 def full_size():
@@ -259,9 +261,9 @@ def full_size():
     positions = draw.sample(range(510), 510)
     feeder = Feeder(buses, branches, [(1000 + i, k, 2) for i, k in enumerate(positions)])
     states = [''.join('01'[(k < 255) == second] for k in positions) for second in (False, True)]
-    assert len(answer(feeder, '', *states, 2805)) == 255
-    case('255-pairs', feeder, *states, 2805)
-    case('255-pairs-one-byte-short', feeder, *states, 2804, (13, 0))
+    assert len(answer(feeder, '', *states, 255 * PAIR_LENGTH)) == 255
+    case('255-pairs', feeder, *states, 255 * PAIR_LENGTH)
+    case('255-pairs-one-byte-short', feeder, *states, 255 * PAIR_LENGTH - 1, (13, 0))
 
 
 def back():
@@ -271,7 +273,7 @@ def back():
         question = feeder.text(), change, wanted, present
         if isinstance(found, list) and question not in asked:
             asked.add(question)
-            case(name + '-back', feeder, wanted, present, 11 * len(found), change=change)
+            case(name + '-back', feeder, wanted, present, PAIR_LENGTH * len(found), change=change)
             assert isinstance(cases[-1][-1], list), name
 
 

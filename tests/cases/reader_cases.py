@@ -77,6 +77,10 @@ def examples():
     case('row-5-pd-infinite', small(second=bus(2, INFINITY)), (5, 3))
     case('row-6-end-0009', small(branch=branch(1, 9)), (6, 4))
     case('row-6-from-0009', small(branch=branch(9, 1)), (6, 4))
+    # a branch out of service is judged as any other
+    case('row-6-end-0009-out-of-service', [head(1, 1, 0), bus(1), branch(1, 9, ZERO, 0)], (6, 3))
+    case('row-6-from-0009-out-of-service', [head(1, 1, 0), bus(1), branch(9, 1, ZERO, 0)], (6, 3))
+    case('row-5-r-infinite-out-of-service', [head(1, 1, 0), bus(1), branch(1, 1, INFINITY, 0)], (5, 3))
     case('row-6-position-1-of-1', small(switch=switch(10, 1)), (6, 5))
     case('row-7-bus-0001-again', small(second=bus(1)), (7, 3))
     two = [head(2, 2, 2), bus(1), bus(2), branch(1, 2), branch(1, 2)]

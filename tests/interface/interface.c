@@ -5,14 +5,15 @@
 #include <stdio.h>
 #include <string.h>
 
-#define HEAD_OF(method) "010003000300023FF0000000000000" method "0064\n"
-#define HEAD HEAD_OF("00")
+#define HEAD_OF(method_and_iterations) "010003000300023FF0000000000000" method_and_iterations "\n"
+#define HEAD HEAD_OF("000064")
 #define RECORDS                                                                                                        \
     "0200010000000000000000\n0200023FF0000000000000\n0200034000000000000000\n"                                         \
     "03000100023FD000000000000001\n03000200033FDC00000000000001\n03000100033FC800000000000001\n"
 #define SWITCHES "04000A000102\n04000B000203\n"
 #define TRIANGLE HEAD RECORDS SWITCHES
 #define LOCKED HEAD RECORDS "04000A000100\n04000B000203\n"
+#define NO_TIES HEAD RECORDS "04000A000102\n04000B000202\n"
 #define NO_BUSES "010000000000003FF0000000000000000064\n"
 
 enum { GUARD = 0xAA, ROOM = 64, MARGIN = 16 };
@@ -79,16 +80,16 @@ static void losses(void) {
 }
 
 /* `written` is what must stand at the front of the slice. */
-static void lay_slice(const char *written) {
+static void lay_slice(const char *written, size_t length) {
     memset(bytes, GUARD, sizeof bytes);
     memset(right, GUARD, sizeof right);
-    memcpy(right + MARGIN, written, strlen(written));
+    memcpy(right + MARGIN, written, length);
 }
 
 /* A plan into the middle of guarded bytes. */
 static void plan(const char *text, const char *present, size_t present_length, const char *wanted, size_t wanted_length, size_t room,
                  unsigned number, unsigned place, uint64_t value, const char *written, const char *what) {
-    lay_slice(written);
+    lay_slice(written, strlen(written));
     expect_answer(feeder_plan((const uint8_t *)text, strlen(text), (const uint8_t *)present, present_length,
                               (const uint8_t *)wanted, wanted_length, bytes + MARGIN, room),
                   number, place, value, what);
@@ -115,23 +116,108 @@ static void plans(void) {
 #define BASE_KEPT "8101401000000000000040100000000000000000000000000000"
 
 /* A text's answer into the middle of guarded bytes. */
-static void answer_text(const char *text, size_t room, unsigned number, const char *written, const char *what) {
-    lay_slice(written);
-    expect_answer(feeder_answer_text((const uint8_t *)text, strlen(text), bytes + MARGIN, room), number, 0, strlen(written), what);
+static void answer_text(const char *text, size_t room, unsigned number, unsigned place, const char *written, const char *what) {
+    lay_slice(written, strlen(written));
+    expect_answer(feeder_answer_text((const uint8_t *)text, strlen(text), bytes + MARGIN, room), number, place, strlen(written), what);
     expect(memcmp(bytes, right, sizeof bytes) == 0, what);
 }
 
 static void texts(void) {
     size_t length = strlen(PRINTED);
-    answer_text(TRIANGLE, 2 * ROOM, 0, PRINTED, "the triangle's answer, the rest of the slice kept");
-    answer_text(TRIANGLE, length, 0, PRINTED, "the triangle's answer, an exactly full slice");
-    answer_text(TRIANGLE, length - 1, 13, "", "one byte short");
-    answer_text(HEAD_OF("01") RECORDS SWITCHES, FEEDER_TEXT_LENGTH, 0, BASE_KEPT "006401\n", "the triangle's answer by tabu");
-    answer_text(HEAD_OF("02") RECORDS SWITCHES, FEEDER_TEXT_LENGTH, 0, BASE_KEPT "000101\n", "the triangle's answer by exhaustion");
-    answer_text("", ROOM, 0, "8F020001\n", "an empty text");
-    answer_text("0G", 9, 0, "8F010001\n", "another character, an exactly full slice");
-    answer_text("0G", 8, 13, "", "no room for a refusal's line");
-    answer_text(TRIANGLE "04", ROOM, 0, "8F01000A\n", "an unended line too many");
+    answer_text(TRIANGLE, 2 * ROOM, 0, 0, PRINTED, "the triangle's answer, the rest of the slice kept");
+    answer_text(TRIANGLE, length, 0, 0, PRINTED, "the triangle's answer, an exactly full slice");
+    answer_text(TRIANGLE, length - 1, FEEDER_NO_ROOM, 0, "", "one byte short");
+    answer_text(HEAD_OF("010064") RECORDS SWITCHES, FEEDER_TEXT_LENGTH, 0, 0, BASE_KEPT "006401\n", "the triangle's answer by tabu");
+    answer_text(HEAD_OF("020064") RECORDS SWITCHES, FEEDER_TEXT_LENGTH, 0, 0, BASE_KEPT "000101\n", "the triangle's answer by exhaustion");
+    answer_text("", ROOM, FEEDER_BAD_LINE, 1, "", "an empty text");
+    answer_text("0G", FEEDER_TEXT_LENGTH, FEEDER_BAD_CHARACTERS, 1, "", "another character, with room for any answer");
+    answer_text("0G", 0, FEEDER_BAD_CHARACTERS, 1, "", "another character, before the room");
+    answer_text(TRIANGLE "04", ROOM, FEEDER_BAD_CHARACTERS, 10, "", "an unended line too many");
+}
+
+/* A base into the middle of guarded bytes. */
+static void base_state(const char *text, size_t room, unsigned number, unsigned place, const char *state, size_t length, const char *what) {
+    lay_slice(state, length);
+    expect_answer(feeder_base_state((const uint8_t *)text, strlen(text), bytes + MARGIN, room), number, place, length, what);
+    expect(memcmp(bytes, right, sizeof bytes) == 0, what);
+}
+
+static void bases(void) {
+    base_state(TRIANGLE, ROOM, 0, 0, "\0\1", 2, "the triangle's base, the rest of the slice kept");
+    base_state(TRIANGLE, 2, 0, 0, "\0\1", 2, "the triangle's base, an exactly full slice");
+    base_state(TRIANGLE, 1, FEEDER_NO_ROOM, 0, "", 0, "a base, one byte short");
+    base_state(NO_TIES, ROOM, 0, 0, "\0\0", 2, "a base without ties");
+    base_state(NO_BUSES, 0, 0, 0, "", 0, "the base of no switches, no room needed");
+    base_state("", 0, FEEDER_BAD_LINE, 1, "", 0, "a base, an empty text, before the room");
+    base_state(HEAD RECORDS "04000A000302\n", ROOM, FEEDER_NOT_LISTED, 8, "", 0, "a base, a switch on no branch");
+    base_state(HEAD RECORDS "04000A000102\n04000B000103\n", ROOM, FEEDER_SECOND_SWITCH, 9, "", 0, "a base, a second switch on a branch");
+}
+
+static void expect_solved(struct feeder_solved a, struct feeder_solved b, const char *what) {
+    expect(a.number == b.number && a.place == b.place && a.radial == b.radial && a.converged == b.converged
+               && a.iterations == b.iterations && bits(a.base_loss) == bits(b.base_loss) && bits(a.best_loss) == bits(b.best_loss)
+               && bits(a.reduction) == bits(b.reduction),
+           what);
+}
+
+static struct feeder_solved not_solved(unsigned number, unsigned place) {
+    struct feeder_solved refused = {0, 0, 0, 0, 0, 0.0, 0.0, 0.0};
+    refused.number = (uint8_t)number;
+    refused.place = (uint16_t)place;
+    return refused;
+}
+
+/* A best state into the middle of guarded bytes. */
+static void solve(const char *text, size_t room, struct feeder_solved answer, const char *state, size_t length, const char *what) {
+    lay_slice(state, length);
+    expect_solved(feeder_solve((const uint8_t *)text, strlen(text), bytes + MARGIN, room), answer, what);
+    expect(memcmp(bytes, right, sizeof bytes) == 0, what);
+}
+
+static void searches(void) {
+    struct feeder_solved exchanged = {0, 0, 1, 1, 2, 4.0, 1.0, 75.0};
+    struct feeder_solved no_round = {0, 0, 1, 0, 0, 4.0, 4.0, 0.0};
+    struct feeder_solved one_round = {0, 0, 1, 0, 1, 4.0, 1.0, 75.0};
+    struct feeder_solved moved = {0, 0, 1, 1, 100, 4.0, 4.0, 0.0};
+    struct feeder_solved tried = {0, 0, 1, 1, 1, 4.0, 4.0, 0.0};
+    struct feeder_solved a_loop = {0, 0, 0, 1, 1, 5.6875, 5.6875, 0.0};
+    solve(TRIANGLE, ROOM, exchanged, "\1\0", 2, "the triangle by exchange, the rest of the slice kept");
+    solve(TRIANGLE, 2, exchanged, "\1\0", 2, "the triangle by exchange, an exactly full slice");
+    solve(TRIANGLE, 1, not_solved(FEEDER_NO_ROOM, 0), "", 0, "a search, one byte short");
+    solve(HEAD_OF("000000") RECORDS SWITCHES, 2, no_round, "\0\1", 2, "the triangle by exchange, no round");
+    solve(HEAD_OF("000001") RECORDS SWITCHES, 2, one_round, "\1\0", 2, "the triangle by exchange, one round");
+    solve(HEAD_OF("010064") RECORDS SWITCHES, ROOM, moved, "\0\1", 2, "the triangle by tabu");
+    solve(HEAD_OF("020064") RECORDS SWITCHES, ROOM, tried, "\0\1", 2, "the triangle by exhaustion");
+    solve(NO_TIES, ROOM, a_loop, "\0\0", 2, "a loop without a tie");
+    solve("0G", 0, not_solved(FEEDER_BAD_CHARACTERS, 1), "", 0, "a search, another character, before the room");
+    solve(HEAD_OF("0003E9") RECORDS SWITCHES, ROOM, not_solved(FEEDER_NO_MEANING, 1), "", 0, "a search, 1,001 iterations");
+    solve(HEAD RECORDS "04000A000102\n04000A000203\n", ROOM, not_solved(FEEDER_ID_TWICE, 9), "", 0, "a search, a switch id twice");
+}
+
+/* A list of operations into the middle of guarded bytes. */
+static void operations(const char *text, const char *from, size_t from_length, const char *to, size_t to_length, size_t room,
+                       unsigned number, unsigned place, uint64_t value, const char *written, const char *what) {
+    lay_slice(written, strlen(written));
+    expect_answer(feeder_operations((const uint8_t *)text, strlen(text), (const uint8_t *)from, from_length, (const uint8_t *)to, to_length,
+                                    bytes + MARGIN, room),
+                  number, place, value, what);
+    expect(memcmp(bytes, right, sizeof bytes) == 0, what);
+}
+
+#define BOTH_MOVE "82000A00\n82000B01\n"
+
+static void operation_lists(void) {
+    operations(TRIANGLE, "\0\1", 2, "\1\0", 2, ROOM, 0, 0, 2, BOTH_MOVE, "both switches, the rest of the slice kept");
+    operations(TRIANGLE, "\0\1", 2, "\1\0", 2, 18, 0, 0, 2, BOTH_MOVE, "both switches, an exactly full slice");
+    operations(TRIANGLE, "\0\1", 2, "\1\0", 2, 17, FEEDER_NO_ROOM, 0, 0, "", "two operations, one byte short");
+    operations(TRIANGLE, "\1\0", 2, "\0\1", 2, ROOM, 0, 0, 2, "82000A01\n82000B00\n", "both switches, the way back");
+    operations(TRIANGLE, "\0\0", 2, "\0\1", 2, 9, 0, 0, 1, "82000B00\n", "one switch, from a state that is not radial");
+    operations(LOCKED, "\0\1", 2, "\1\1", 2, 9, 0, 0, 1, "82000A00\n", "a locked switch");
+    operations(TRIANGLE, "\1\1", 2, "\1\1", 2, 0, 0, 0, 0, "", "no operation, no room needed");
+    operations(TRIANGLE, "\0\2", 2, "\1", 1, 0, FEEDER_BAD_STATE, 0, 0, "", "a faulty first state before a short second one");
+    operations(TRIANGLE, "\0\1", 2, "\1", 1, 0, FEEDER_BAD_STATE, 1, 0, "", "a short second state before the room");
+    operations(TRIANGLE, "\0\1\0", 3, "\1\0", 2, ROOM, FEEDER_BAD_STATE, 0, 0, "", "a first state one byte long");
+    operations("", "\2", 1, "\2", 1, 0, FEEDER_BAD_LINE, 1, 0, "", "an empty text before the states");
 }
 
 /* Each slice may be null with length 0. */
@@ -139,15 +225,24 @@ static void nulls(void) {
     const uint8_t *text = (const uint8_t *)NO_BUSES;
     const uint8_t *triangle = (const uint8_t *)TRIANGLE;
     size_t length = strlen(NO_BUSES);
+    struct feeder_solved nothing = {0, 0, 1, 1, 1, 0.0, 0.0, 0.0};
     expect_answer(feeder_radiality(NULL, 0, NULL, 0), 2, 1, 0, "radiality, a null text");
     expect_answer(feeder_loss(NULL, 0, NULL, 0), 2, 1, 0, "loss, a null text");
     expect_answer(feeder_plan(NULL, 0, NULL, 0, NULL, 0, NULL, 0), 2, 1, 0, "plan, a null text");
-    expect_answer(feeder_answer_text(NULL, 0, NULL, 0), 13, 0, 0, "answer, a null text and no room for its line");
+    expect_answer(feeder_answer_text(NULL, 0, NULL, 0), 2, 1, 0, "answer, a null text");
+    expect_answer(feeder_base_state(NULL, 0, NULL, 0), 2, 1, 0, "base, a null text");
+    expect_solved(feeder_solve(NULL, 0, NULL, 0), not_solved(2, 1), "search, a null text");
+    expect_answer(feeder_operations(NULL, 0, NULL, 0, NULL, 0, NULL, 0), 2, 1, 0, "operations, a null text");
     expect_answer(feeder_radiality(text, length, NULL, 0), 0, 0, 1, "radiality, a null state");
     expect_answer(feeder_loss(text, length, NULL, 0), 0, 0, 0, "loss, a null state");
     expect_answer(feeder_plan(text, length, NULL, 0, NULL, 0, NULL, 0), 0, 0, 0, "plan, null states and a null slice");
     expect_answer(feeder_plan(triangle, strlen(TRIANGLE), NULL, 0, NULL, 0, NULL, 0), 10, 0, 0, "plan, a null state for two switches");
     expect_answer(feeder_answer_text(text, length, NULL, 0), 13, 0, 0, "answer, a null slice");
+    expect_answer(feeder_base_state(text, length, NULL, 0), 0, 0, 0, "base of no switches, a null slice");
+    expect_answer(feeder_base_state(triangle, strlen(TRIANGLE), NULL, 0), 13, 0, 0, "base, a null slice for two switches");
+    expect_solved(feeder_solve(text, length, NULL, 0), nothing, "search of no switches, a null slice");
+    expect_solved(feeder_solve(triangle, strlen(TRIANGLE), NULL, 0), not_solved(13, 0), "search, a null slice for two switches");
+    expect_answer(feeder_operations(text, length, NULL, 0, NULL, 0, NULL, 0), 0, 0, 0, "operations, null states and a null slice");
 }
 
 #define ONE "3FF0000000000000"
@@ -155,8 +250,8 @@ static void nulls(void) {
 
 /* The largest feeder: buses 1 to 256 in a row, 1 MW at the last. Branches 0 to 254 are the row, 255 to 509 lie beside them and lose nothing, 510
  * and 511 lie beside branch 0. The switch on branch k has the id 1000 + k. */
-enum { BUSES = 256, BRANCHES = 512, ROW = BUSES - 1, FIRST_ID = 1000, TEN = 10 };
-static char largest[27430];
+enum { BUSES = FEEDER_MAX_BUSES, BRANCHES = FEEDER_MAX_BRANCHES, ROW = BUSES - 1, FIRST_ID = 1000, TEN = FEEDER_MAX_TIES };
+static char largest[FEEDER_LONGEST_TEXT + 1];
 
 /* Normally open is what lies beside the row; but for tabu (01) the last branch is closed, a loop, and for exhaustion (02) the ends of the row are
  * the ten ties, and what lies beside is out of service. */
@@ -186,14 +281,16 @@ static char *head_of_answer(char *at, double base, double best, double reduction
 }
 
 static void largest_feeder(void) {
-    static char row[BRANCHES], beside[BRANCHES], written[FEEDER_TEXT_LENGTH + 1];
+    static char row[BRANCHES], beside[BRANCHES], all_closed[BRANCHES], all_open[BRANCHES], written[FEEDER_TEXT_LENGTH + 1];
+    struct feeder_solved best = {0, 0, 1, 0, 1, 255.0, 254.0, 0.0};
     char *at = written;
     for (int k = 0; k < BRANCHES; k++) {
         row[k] = k >= ROW;
         beside[k] = !(ROW <= k && k < 2 * ROW);
+        all_open[k] = 1;
     }
     make_largest(0, 1);
-    expect(strlen(largest) == sizeof largest - 1, "the largest text has 27,429 bytes");
+    expect(strlen(largest) == sizeof largest - 1, "the largest text has as many bytes as the header says");
     expect_answer(radiality(largest, row, BRANCHES), 0, 0, 1, "the row is radial");
     expect_answer(radiality(largest, beside, BRANCHES), 0, 0, 1, "what lies beside is radial");
     expect_answer(loss(largest, row, BRANCHES), 0, 0, bits(255.0), "the row's loss");
@@ -203,20 +300,35 @@ static void largest_feeder(void) {
     plan(largest, row, BRANCHES, beside, BRANCHES, FEEDER_PLAN_LENGTH, 0, 0, ROW, written, "the longest plan, an exactly full slice");
     plan(largest, row, BRANCHES, beside, BRANCHES, FEEDER_PLAN_LENGTH - 1, 13, 0, 0, "", "the longest plan, one byte short");
 
-    at = head_of_answer(written, 255.0, 254.0, (255.0 - 254.0) / 255.0 * 100.0, 1, 0);
+    base_state(largest, FEEDER_MAX_SWITCHES, 0, 0, row, BRANCHES, "the largest base, an exactly full slice");
+    base_state(largest, FEEDER_MAX_SWITCHES - 1, FEEDER_NO_ROOM, 0, "", 0, "the largest base, one byte short");
+    at = written;
+    for (int k = 0; k < BRANCHES; k++)
+        at += sprintf(at, "82%04X00\n", FIRST_ID + k);
+    operations(largest, all_closed, BRANCHES, all_open, BRANCHES, FEEDER_OPERATIONS_LENGTH, 0, 0, BRANCHES, written,
+               "the longest list of operations, an exactly full slice");
+    operations(largest, all_closed, BRANCHES, all_open, BRANCHES, FEEDER_OPERATIONS_LENGTH - 1, FEEDER_NO_ROOM, 0, 0, "",
+               "the longest list of operations, one byte short");
+
+    best.reduction = (255.0 - 254.0) / 255.0 * 100.0;
+    at = head_of_answer(written, best.base_loss, best.best_loss, best.reduction, best.iterations, best.converged);
     sprintf(at, "82%04X00\n82%04X01\n83%04X%04X\n", FIRST_ID + 254, FIRST_ID + 509, FIRST_ID + 509, FIRST_ID + 254);
-    answer_text(largest, FEEDER_TEXT_LENGTH, 0, written, "the largest feeder's answer by exchange: the last tie that improves");
+    answer_text(largest, FEEDER_TEXT_LENGTH, 0, 0, written, "the largest feeder's answer by exchange: the last tie that improves");
+    row[254] = 1;
+    row[509] = 0;
+    solve(largest, FEEDER_MAX_SWITCHES, best, row, BRANCHES, "the largest feeder's best state, an exactly full slice");
+    solve(largest, FEEDER_MAX_SWITCHES - 1, not_solved(FEEDER_NO_ROOM, 0), "", 0, "the largest feeder's best state, one byte short");
 
     make_largest(1, 2);
     at = head_of_answer(written, 256.0, 255.0, 100.0 / 256.0, 2, 1);
     sprintf(at, "82%04X00\n", FIRST_ID);
-    answer_text(largest, FEEDER_TEXT_LENGTH, 0, written, "the largest feeder's answer by tabu: the first that breaks the loop");
+    answer_text(largest, FEEDER_TEXT_LENGTH, 0, 0, written, "the largest feeder's answer by tabu: the first that breaks the loop");
 
     make_largest(2, 0);
     at = head_of_answer(written, 0.0, 255.0, 0.0, 1, 1);
     for (int k = ROW - TEN; k < ROW; k++)
         at += sprintf(at, "82%04X01\n", FIRST_ID + k);
-    answer_text(largest, FEEDER_TEXT_LENGTH, 0, written, "the largest feeder's answer by exhaustion: all ten ties closed");
+    answer_text(largest, FEEDER_TEXT_LENGTH, 0, 0, written, "the largest feeder's answer by exhaustion: all ten ties closed");
 }
 
 static void *run(void *unused) {
@@ -225,6 +337,9 @@ static void *run(void *unused) {
     losses();
     plans();
     texts();
+    bases();
+    searches();
+    operation_lists();
     nulls();
     largest_feeder();
     return NULL;
@@ -234,6 +349,7 @@ int main(void) {
     pthread_attr_t attributes;
     pthread_t thread;
     expect(sizeof(struct feeder_answer) == 16, "the answer has 16 bytes");
+    expect(sizeof(struct feeder_solved) == 32, "a search's answer has 32 bytes");
     if (pthread_attr_init(&attributes) != 0 || pthread_attr_setstacksize(&attributes, FEEDER_STACK) != 0
         || pthread_create(&thread, &attributes, run, NULL) != 0 || pthread_join(thread, NULL) != 0) {
         printf("interface: C: no thread\n");

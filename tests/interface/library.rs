@@ -8,6 +8,33 @@ pub struct Answer {
     pub value: u64,
 }
 
+#[repr(C)]
+#[derive(Debug, Clone, Copy)]
+pub struct Solved {
+    pub number: u8,
+    pub place: u16,
+    pub radial: u8,
+    pub converged: u8,
+    pub iterations: u16,
+    pub base_loss: f64,
+    pub best_loss: f64,
+    pub reduction: f64,
+}
+
+impl Solved {
+    /// The floats by their bits.
+    fn fields(self) -> (u8, u16, u8, u8, u16, [u64; 3]) {
+        let floats = [self.base_loss, self.best_loss, self.reduction].map(f64::to_bits);
+        (self.number, self.place, self.radial, self.converged, self.iterations, floats)
+    }
+}
+
+impl PartialEq for Solved {
+    fn eq(&self, other: &Self) -> bool {
+        self.fields() == other.fields()
+    }
+}
+
 extern "C" {
     fn feeder_radiality(text: *const u8, text_length: usize, state: *const u8, state_length: usize) -> Answer;
     fn feeder_loss(text: *const u8, text_length: usize, state: *const u8, state_length: usize) -> Answer;
@@ -22,6 +49,18 @@ extern "C" {
         out_length: usize,
     ) -> Answer;
     fn feeder_answer_text(text: *const u8, text_length: usize, out: *mut u8, out_length: usize) -> Answer;
+    fn feeder_base_state(text: *const u8, text_length: usize, out: *mut u8, out_length: usize) -> Answer;
+    fn feeder_solve(text: *const u8, text_length: usize, out: *mut u8, out_length: usize) -> Solved;
+    fn feeder_operations(
+        text: *const u8,
+        text_length: usize,
+        from: *const u8,
+        from_length: usize,
+        to: *const u8,
+        to_length: usize,
+        out: *mut u8,
+        out_length: usize,
+    ) -> Answer;
 }
 
 // Safe: slices are good for their lengths, a `&mut` one overlaps no other, and the calls ask for nothing else.
@@ -51,4 +90,18 @@ pub fn plan(text: &[u8], present: &[u8], wanted: &[u8], out: &mut [u8]) -> Answe
 
 pub fn answer_text(text: &[u8], out: &mut [u8]) -> Answer {
     unsafe { feeder_answer_text(text.as_ptr(), text.len(), out.as_mut_ptr(), out.len()) }
+}
+
+pub fn base_state(text: &[u8], out: &mut [u8]) -> Answer {
+    unsafe { feeder_base_state(text.as_ptr(), text.len(), out.as_mut_ptr(), out.len()) }
+}
+
+pub fn solve(text: &[u8], out: &mut [u8]) -> Solved {
+    unsafe { feeder_solve(text.as_ptr(), text.len(), out.as_mut_ptr(), out.len()) }
+}
+
+pub fn operations(text: &[u8], from: &[u8], to: &[u8], out: &mut [u8]) -> Answer {
+    unsafe {
+        feeder_operations(text.as_ptr(), text.len(), from.as_ptr(), from.len(), to.as_ptr(), to.len(), out.as_mut_ptr(), out.len())
+    }
 }

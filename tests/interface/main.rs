@@ -21,23 +21,39 @@ mod states;
 #[path = "../oracle/src/values.rs"]
 mod values;
 
-use library::Answer;
+use library::{Answer, Solved};
 use random::Random;
+use states::OPERATION_LENGTH;
 use reckoning::plan::{lines, plan, radial, well_formed};
-use reckoning::searches::Searches;
+use reckoning::searches::{operations, Searches};
 use reckoning::{reader, Network, Refusal};
 use std::collections::BTreeMap;
-use std::ops::RangeInclusive;
+use std::fmt::Debug;
 use std::process::ExitCode;
 
 const CASES: usize = 4000;
+const ANSWER_LENGTH: usize = 59;
 const GUARD: u8 = 0xAA;
 const MARGIN: usize = 16;
+const MAX_BUSES: usize = 256;
+const MAX_SWITCHES: usize = 512;
 const PAIR_LENGTH: usize = 11;
-const TEXT_LENGTH: usize = 7472;
+const TEXT_LENGTH: usize = ANSWER_LENGTH + MAX_SWITCHES * OPERATION_LENGTH + (MAX_BUSES - 1) * PAIR_LENGTH;
 
 /// The calls, and the refusals that each can answer.
-const CALLS: [(&str, RangeInclusive<u8>); 4] = [("radiality", 1..=10), ("loss", 1..=10), ("plan", 1..=13), ("answer", 13..=13)];
+const OF_A_TEXT: [u8; 10] = [1, 2, 3, 4, 5, 6, 7, 8, 9, 13];
+const OF_A_STATE: [u8; 10] = [1, 2, 3, 4, 5, 6, 7, 8, 9, 10];
+const OF_TWO_STATES: [u8; 11] = [1, 2, 3, 4, 5, 6, 7, 8, 9, 10, 13];
+const OF_A_PLAN: [u8; 13] = [1, 2, 3, 4, 5, 6, 7, 8, 9, 10, 11, 12, 13];
+const CALLS: [(&str, &[u8]); 7] = [
+    ("radiality", &OF_A_STATE),
+    ("loss", &OF_A_STATE),
+    ("plan", &OF_A_PLAN),
+    ("answer", &OF_A_TEXT),
+    ("base", &OF_A_TEXT),
+    ("solve", &OF_A_TEXT),
+    ("operations", &OF_TWO_STATES),
+];
 
 #[derive(Default)]
 struct Checks {
@@ -50,9 +66,9 @@ impl Checks {
     fn all_met(&self) -> bool {
         let mut all_met = true;
         for (call, numbers) in CALLS {
-            let times = |number| self.refused.get(&(call, number)).copied().unwrap_or(0);
-            let counts: Vec<usize> = numbers.clone().map(times).collect();
-            println!("interface: Rust: {call}: refused with {} to {}: {counts:?}", numbers.start(), numbers.end());
+            let times = |&number: &u8| self.refused.get(&(call, number)).copied().unwrap_or(0);
+            let counts: Vec<usize> = numbers.iter().map(times).collect();
+            println!("interface: Rust: {call}: refused with {numbers:?}: {counts:?}");
             all_met &= counts.iter().all(|&count| count > 0);
         }
         all_met
@@ -77,8 +93,10 @@ fn timed_feeders(checks: &mut Checks) -> bool {
         let network = reader::read(&text).expect("acceptable");
         let (a, b) = (&timed.first[..], &timed.second[..]);
         let room = PAIR_LENGTH * plan(&network, a, b, usize::MAX).expect("two radial states").len();
+        let list = operations(&network, a, b).len();
         [a, b].iter().all(|state| state_answers(checks, &text, state))
             && [room, room - 1].iter().all(|&room| plan_answer(checks, &text, a, b, room) && plan_answer(checks, &text, b, a, room))
+            && [list, list - 1].iter().all(|&room| operations_answer(checks, &text, a, b, room))
     })
 }
 
@@ -89,40 +107,75 @@ fn any_case(checks: &mut Checks, number: usize) -> bool {
     let network = reader::read(&text).or(reader::read(&feeder.text())).expect("shapes are acceptable");
     let state = states::any_state(random, &network);
     let (present, wanted, room) = states::any_plan(random, &network);
-    state_answers(checks, &text, &state) && plan_answer(checks, &text, &present, &wanted, room) && text_answers(checks, &text)
+    let list = states::near(random, operations(&network, &state, &wanted).len());
+    state_answers(checks, &text, &state)
+        && plan_answer(checks, &text, &present, &wanted, room)
+        && operations_answer(checks, &text, &state, &wanted, list)
+        && text_answers(checks, &text)
 }
 
-/// With room for every answer, in a slice that is exactly full, and one byte less.
+/// The calls on a text alone: with room for every answer, in a slice that is exactly full, and one byte less.
 fn text_answers(checks: &mut Checks, text: &[u8]) -> bool {
-    let printed = printed(text);
-    [TEXT_LENGTH, printed.len(), printed.len() - 1].into_iter().all(|room| {
-        let fits = printed.len() <= room;
-        let expected = if fits { Ok((printed.len() as u64, printed.clone())) } else { Err(Refusal { number: 13, place: 0 }) };
-        lent(checks, "answer", text, room, expected, |out| library::answer_text(text, out))
+    let answered = reader::read(text).map(|network| answers(&network));
+    let printed = answered.clone().map(|answers| (answers.printed.len() as u64, answers.printed));
+    let base = answered.clone().map(|answers| (answers.base.len() as u64, answers.base));
+    let solved = answered.map(|answers| (answers.solved, answers.best));
+    let length = printed.as_ref().map_or(0, |(_, printed)| printed.len());
+    let switches = base.as_ref().map_or(0, |(_, base)| base.len());
+    rooms(length, TEXT_LENGTH).all(|room| {
+        lent(checks, "answer", text, room, in_room(room, printed.clone()), numbers, |out| library::answer_text(text, out))
+    }) && rooms(switches, MAX_SWITCHES).all(|room| {
+        lent(checks, "base", text, room, in_room(room, base.clone()), numbers, |out| library::base_state(text, out))
+            && lent(checks, "solve", text, room, in_room(room, solved.clone()), solved_numbers, |out| library::solve(text, out))
     })
 }
 
-/// What document 01 prints for a text: the 8F line of a refusal; else the 81 and 82 lines and, from a radial base, the 83 lines.
-fn printed(text: &[u8]) -> Vec<u8> {
-    let network = match reader::read(text) {
-        Err(refusal) => return refusal.line().into_bytes(),
-        Ok(network) => network,
-    };
-    let (base, searches) = (network.base(), Searches::new(&network, None));
+/// Room for the longest, exactly enough, and one byte less where there is one.
+fn rooms(length: usize, longest: usize) -> impl Iterator<Item = usize> {
+    [Some(longest), Some(length), length.checked_sub(1)].into_iter().flatten()
+}
+
+/// What is answered with the bytes that are written: 13 comes after the text's refusal.
+fn in_room<V>(room: usize, expected: Result<(V, Vec<u8>), Refusal>) -> Result<(V, Vec<u8>), Refusal> {
+    expected.and_then(|(value, written)| if written.len() <= room { Ok((value, written)) } else { Err(Refusal { number: 13, place: 0 }) })
+}
+
+/// What document 01 answers for an accepted text.
+#[derive(Clone)]
+struct Answers {
+    base: Vec<u8>,
+    best: Vec<u8>,
+    solved: Solved,
+    printed: Vec<u8>,
+}
+
+/// The values of the 81 line, and what is printed: the 81 and 82 lines and, from a radial base, the 83 lines.
+fn answers(network: &Network) -> Answers {
+    let (base, searches) = (network.base(), Searches::new(network, None));
     let answer = searches.solve();
+    let solved = Solved {
+        number: 0,
+        place: 0,
+        radial: radial(network, &network.live(&answer.best)) as u8,
+        converged: answer.converged as u8,
+        iterations: answer.iterations,
+        base_loss: answer.base_loss,
+        best_loss: answer.best_loss,
+        reduction: answer.reduction,
+    };
     let mut printed = searches.lines(&answer);
-    if radial(&network, &network.live(&base)) {
-        let pairs = plan(&network, &base, &answer.best, usize::MAX).expect("from a radial base only refusal 13 can come");
-        printed += &lines(&network, &pairs);
+    if radial(network, &network.live(&base)) {
+        let pairs = plan(network, &base, &answer.best, usize::MAX).expect("from a radial base only refusal 13 can come");
+        printed += &lines(network, &pairs);
     }
-    printed.into_bytes()
+    Answers { base, best: answer.best, solved, printed: printed.into_bytes() }
 }
 
 fn state_answers(checks: &mut Checks, text: &[u8], state: &[u8]) -> bool {
     let is_radial = |network: &Network| radial(network, &network.live(state)) as u64;
     let loss = |network: &Network| Searches::new(network, None).loss(state).to_bits();
-    compare(checks, "radiality", text, on_state(text, state, is_radial), library::radiality(text, state))
-        && compare(checks, "loss", text, on_state(text, state, loss), library::loss(text, state))
+    compare(checks, "radiality", text, on_state(text, state, is_radial), numbers, library::radiality(text, state))
+        && compare(checks, "loss", text, on_state(text, state, loss), numbers, library::loss(text, state))
 }
 
 /// What document 01 answers on a state of a text's network.
@@ -136,17 +189,51 @@ fn plan_answer(checks: &mut Checks, text: &[u8], present: &[u8], wanted: &[u8], 
         let pairs = plan(&network, present, wanted, room / PAIR_LENGTH)?;
         Ok((pairs.len() as u64, lines(&network, &pairs).into_bytes()))
     });
-    lent(checks, "plan", text, room, expected, |out| library::plan(text, present, wanted, out))
+    lent(checks, "plan", text, room, expected, numbers, |out| library::plan(text, present, wanted, out))
+}
+
+fn operations_answer(checks: &mut Checks, text: &[u8], from: &[u8], to: &[u8], room: usize) -> bool {
+    let expected = reader::read(text).and_then(|network| {
+        for (place, state) in [(0, from), (1, to)] {
+            if !well_formed(&network, state) {
+                return Err(Refusal { number: 10, place });
+            }
+        }
+        let list = operations(&network, from, to).into_bytes();
+        Ok(((list.len() / OPERATION_LENGTH) as u64, list))
+    });
+    lent(checks, "operations", text, room, in_room(room, expected), numbers, |out| library::operations(text, from, to, out))
+}
+
+fn numbers(expected: Result<u64, Refusal>) -> Answer {
+    match expected {
+        Ok(value) => Answer { number: 0, place: 0, value },
+        Err(Refusal { number, place }) => Answer { number, place, value: 0 },
+    }
+}
+
+fn solved_numbers(expected: Result<Solved, Refusal>) -> Solved {
+    expected.unwrap_or_else(|Refusal { number, place }| Solved {
+        number,
+        place,
+        radial: 0,
+        converged: 0,
+        iterations: 0,
+        base_loss: 0.0,
+        best_loss: 0.0,
+        reduction: 0.0,
+    })
 }
 
 /// A call that is lent a slice: it lies between guard bytes and is full of them. Expected is the value with what stands at the slice's front.
-fn lent(
+fn lent<V, A: PartialEq + Debug>(
     checks: &mut Checks,
     call: &'static str,
     text: &[u8],
     room: usize,
-    expected: Result<(u64, Vec<u8>), Refusal>,
-    ask: impl FnOnce(&mut [u8]) -> Answer,
+    expected: Result<(V, Vec<u8>), Refusal>,
+    in_numbers: fn(Result<V, Refusal>) -> A,
+    ask: impl FnOnce(&mut [u8]) -> A,
 ) -> bool {
     let mut bytes = vec![GUARD; MARGIN + room + MARGIN];
     let mut right = bytes.clone();
@@ -157,16 +244,21 @@ fn lent(
     if bytes != right {
         println!("interface: Rust: {call}: the lent bytes are wrong, text:\n{}", String::from_utf8_lossy(text));
     }
-    bytes == right && compare(checks, call, text, expected.map(|(value, _)| value), answer)
+    bytes == right && compare(checks, call, text, expected.map(|(value, _)| value), in_numbers, answer)
 }
 
-fn compare(checks: &mut Checks, call: &'static str, text: &[u8], expected: Result<u64, Refusal>, answer: Answer) -> bool {
-    let right = match expected {
-        Ok(value) => Answer { number: 0, place: 0, value },
-        Err(Refusal { number, place }) => Answer { number, place, value: 0 },
-    };
+fn compare<V, A: PartialEq + Debug>(
+    checks: &mut Checks,
+    call: &'static str,
+    text: &[u8],
+    expected: Result<V, Refusal>,
+    in_numbers: fn(Result<V, Refusal>) -> A,
+    answer: A,
+) -> bool {
+    let refused = expected.as_ref().map_or_else(|refusal| refusal.number, |_| 0);
+    let right = in_numbers(expected);
     checks.count += 1;
-    *checks.refused.entry((call, right.number)).or_default() += 1;
+    *checks.refused.entry((call, refused)).or_default() += 1;
     if answer != right {
         println!("interface: Rust: {call}: {answer:?} for {right:?}, text:\n{}", String::from_utf8_lossy(text));
     }

@@ -46,7 +46,28 @@ pub fn long() -> Vec<(&'static str, Timed)> {
         let branch = tabu.feeder.switches[i].branch;
         tabu.feeder.branches[usize::from(branch)].status = 0;
     }
-    vec![("exchange, to its end, 257 ties", exchange), ("tabu, 1,000 rounds, 257 ties out of service", tabu)]
+    vec![
+        ("exchange, to its end, 257 ties", exchange),
+        ("exchange, 256 rounds, 257 ties: the longest", many_rounds()),
+        ("tabu, 1,000 rounds, 257 ties out of service", tabu),
+    ]
+}
+
+/// The longest exchange. Beside each of 255 sections lies a tie that loses less, so that each round but the last one improves, by the last open tie of the list; no round improves
+/// without opening a section. It is a chain whose branches lead to its middle, so that each walk of a loss goes over the longer side. Two ties more lie beside the
+/// section that is opened last.
+fn many_rounds() -> Timed {
+    let chain: Vec<(u16, u16)> = (1..256).map(|bus| if bus < 128 { (bus, bus + 1) } else { (bus + 1, bus) }).collect();
+    let sections = chain.len();
+    let ends = [&chain[..], &chain, &[chain[0], chain[0]]].concat();
+    let mut feeder = feeder_of(256, &ends, sections, 100.0);
+    feeder.iterations = 1000;
+    for branch in sections..2 * sections {
+        feeder.branches[branch].r = feeder.branches[branch - sections].r / 2.0;
+    }
+    let first = state(&feeder, |branch| branch < sections);
+    let second = state(&feeder, |branch| sections <= branch && branch < 2 * sections);
+    Timed { name: "256 buses", feeder, first, second }
 }
 
 /// From the eleventh tie on, branches are out of service and their switches closed.

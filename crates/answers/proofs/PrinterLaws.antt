@@ -6,27 +6,19 @@ use Prim.Native.Nat.{ℕ, _+_, _-_, _*_, _≤_, _<_}
 use native.Mathlib.Omega.{arith}
 use native.Mathlib.Nat.{zero-add}
 use lib.ListN.{length, take, drop, length-append, length-drop}
-use lib.Seq.{sets, length-sets, take-append-seam}
-use borrow.Author.Tests.{le-leb}
+use lib.Seq.{sets, length-sets}
 use borrow.Rule.Slice.PartMut.{putMid}
 use Rattle.numbers.specs.Parts.{part-rest}
-use Rattle.network.specs.declared.error.Verdict.the-variants.{Accepted, Refused}
-use Rattle.states.specs.declared.configuration.NetworkConfiguration.{NetworkConfiguration}
 use Rattle.network.specs.declared.topology.PowerNetwork.{PowerNetwork}
-use Rattle.states.specs.Configuration.{configurationOf}
 use Rattle.network.specs.Records.{Network, recordsOf}
 use Rattle.network.specs.Answers.{Answer, accepted, refused, _andThen_, judge}
 use Rattle.network.specs.AnswerLaws.{same-value, then-iff, no-refusal}
 use Rattle.network.specs.Check.{checkRecords}
 use Rattle.states.specs.Live.{baseState, checkState}
 use Rattle.states.specs.Listed.{state-accepted, switches-listed, few-switches}
-use Rattle.frames.specs.declared.reader.Reading.{Reading}
-use Rattle.frames.specs.Text.{readText}
-use Rattle.frames.specs.Reading.{readingOf}
-use Rattle.frames.specs.ReadingLaws.{read-accepted, read-refused}
 use Rattle.slices.specs.Written.{written}
-use Rattle.printing.specs.Printed.{refusalText}
-use Rattle.slices.specs.WrittenLaws.{written-sets, sets-append, sets-part}
+use Rattle.slices.specs.WrittenLaws.{written-sets, take-written, sets-append, sets-part}
+use Rattle.printing.specs.Lengths.{answerLength, operationLength, pairLength, operationsLength, planLength}
 use Rattle.printing.specs.Calls.{Call, called}
 use Rattle.printing.specs.CallLaws.{call-refused, call-short, call-done, call-is}
 use Rattle.radiality.specs.Feeder.{radialIn}
@@ -41,28 +33,22 @@ use Rattle.searches.specs.declared.answer.ReconfigResult.{ReconfigResult}
 use Rattle.searches.specs.declared.answer.SolveAnswer.the-variants as solves
 use Rattle.searches.specs.FromBase.{base-good}
 use Rattle.reconfiguration.specs.AnswersHavePlans.{best-good, solve-plan-accepted}
-use Rattle.searches.specs.States.{stateOf}
-use Rattle.searches.specs.StateLaws.{state-held}
 use Rattle.searches.specs.Results.{Result, resultBy, solvedBy, resultOf, solveAnswerOf}
 use Rattle.reconfiguration.specs.Solve.{result, best, solved}
 use Rattle.operations.specs.Operations.{operations, operationsText, operationsCall, operationsAnswerOf}
 use Rattle.operations.specs.OperationLines as Operations
-use Rattle.answers.specs.Printing.{resultText, operationLines, planLines, moveLines, networkText, printedOf, printed, answeredText}
+use Rattle.answers.specs.Printing.{resultText, operationLines, planLines, moveLines, networkText}
 use Rattle.answers.specs.PrintingValues.{HasBits}
-use Rattle.answers.specs.PrintingLaws.{length-result, operations-short, plan-short, printed-short, base-bits, best-bits, reduction-bits}
+use Rattle.answers.specs.PrintingLaws.{length-result, operations-short, plan-short, base-bits, best-bits, reduction-bits}
 
 -- ---- accepted calls
-take-written : (bytes out : List ℕ) → length bytes ≤ length out → take (length bytes) (written bytes out) ≡ bytes
-unfolding written
-take-written bytes out room = rw (le-leb (length bytes) (length out) room) (take-append-seam bytes (drop (length bytes) out))
-
 -- the bytes of the lines that are answered
 abbrev pub operationBytes : OperationsAnswer → ℕ
-operationBytes (lists.Operations count) = 9 * count
+operationBytes (lists.Operations count) = operationLength * count
 operationBytes (lists.Refused number place) = 0
 
 abbrev pub planBytes : PlanAnswer → ℕ
-planBytes (plans.Pairs count) = 11 * count
+planBytes (plans.Pairs count) = pairLength * count
 planBytes (plans.Refused number place) = 0
 
 module _ (n : PowerNetwork) (ok : checkRecords (recordsOf n) ≡ accepted tt) (out : List ℕ) where
@@ -73,7 +59,7 @@ module _ (n : PowerNetwork) (ok : checkRecords (recordsOf n) ≡ accepted tt) (o
   states-pass = then-iff _ _ .1 (ok, then-iff _ _ .1 (state-accepted N (baseState N) 0 .1 (base-good N), state-accepted N (best N .state) 1 .1 (best-good N)))
 
   -- ---- the operations
-  pub operations-printed : 4608 ≤ length out → (a : OperationsAnswer) {after : List ℕ} {from to : List ℕ} → from ≡ baseState N → to ≡ best N .state
+  pub operations-printed : operationsLength ≤ length out → (a : OperationsAnswer) {after : List ℕ} {from to : List ℕ} → from ≡ baseState N → to ≡ best N .state
       → record { answer = operationsAnswerOf a; out = after } ≡ operationsCall N from to out → (operationBytes a ≡ length (operationLines N)) × (after ≡ written (operationLines N) out)
   unfolding operationLines operationsCall
   operations-printed room a {after} f t e =
@@ -82,7 +68,7 @@ module _ (n : PowerNetwork) (ok : checkRecords (recordsOf n) ≡ accepted tt) (o
       (go a (ap (λ (x : Call ℕ). x .answer) c), ap (λ (x : Call ℕ). x .out) c)
     where
       go : (b : OperationsAnswer) → operationsAnswerOf b ≡ accepted (length (operations N (baseState N) (best N .state))) → operationBytes b ≡ length (operationLines N)
-      go (lists.Operations count) q = ap (λ (k : ℕ). 9 * k) (same-value q) ∙ sym (Operations.length-text (operations N (baseState N) (best N .state)))
+      go (lists.Operations count) q = ap (λ (k : ℕ). operationLength * k) (same-value q) ∙ sym (Operations.length-text (operations N (baseState N) (best N .state)))
       go (lists.Refused number place) q = no-refusal q
 
   -- ---- the plan
@@ -90,12 +76,12 @@ module _ (n : PowerNetwork) (ok : checkRecords (recordsOf n) ≡ accepted tt) (o
   unfolding checkPlan _andThen_ checkRadial judge
   not-planned r = rw (ok, state-accepted N (baseState N) 0 .1 (base-good N), state-accepted N (best N .state) 1 .1 (best-good N), r)
 
-  pub plan-printed : 2805 ≤ length out → (a : PlanAnswer) {after : List ℕ} {present wanted : List ℕ} → present ≡ baseState N → wanted ≡ best N .state
+  pub plan-printed : planLength ≤ length out → (a : PlanAnswer) {after : List ℕ} {present wanted : List ℕ} → present ≡ baseState N → wanted ≡ best N .state
       → record { answer = planAnswerOf a; out = after } ≡ planned N present wanted out → (planBytes a ≡ length (planLines N)) × (after ≡ written (planLines N) out)
   plan-printed room a {after} p w e = go (radialIn N (baseState N)) refl (rw (p, w) at e)
     where
       pairs : (b : PlanAnswer) → planAnswerOf b ≡ accepted (length (plan N (baseState N) (best N .state))) → planBytes b ≡ length (planText (plan N (baseState N) (best N .state)))
-      pairs (plans.Pairs count) q = ap (λ (k : ℕ). 11 * k) (same-value q) ∙ sym (PlanLength.length-text (plan N (baseState N) (best N .state)))
+      pairs (plans.Pairs count) q = ap (λ (k : ℕ). pairLength * k) (same-value q) ∙ sym (PlanLength.length-text (plan N (baseState N) (best N .state)))
       pairs (plans.Refused number place) q = no-refusal q
 
       none : (b : PlanAnswer) → planAnswerOf b ≡ refused 11 0 → planBytes b ≡ 0
@@ -111,7 +97,7 @@ module _ (n : PowerNetwork) (ok : checkRecords (recordsOf n) ≡ accepted tt) (o
           let short = plan-short N ok in
           let same = lines true r in
           let moves = plan N (baseState N) (best N .state) in
-          let fits : length (planText moves) ≤ 2805 = rw same at short in
+          let fits : length (planText moves) ≤ planLength = rw same at short in
           let made : record { answer = planAnswerOf a; out = after } ≡ called (checkPlan N (baseState N) (best N .state)) (length moves) (planText moves) out = unfold planned in q in
           let c = call-is (length moves) (planText moves) out (solve-plan-accepted N ok r) (omega arith) made in
           rw same (pairs a (ap (λ (x : Call ℕ). x .answer) c), ap (λ (x : Call ℕ). x .out) c)
@@ -132,19 +118,12 @@ module _ (n : PowerNetwork) (ok : checkRecords (recordsOf n) ≡ accepted tt) (s
   solved-result e = same-value (ap (λ (x : Call Result). x .answer) (solved-is e))
 
   pub solved-state : {a : Answer Result} {after : List ℕ} → record { answer = a; out = after } ≡ solved (recordsOf n) space → take (n .«switch_count») after ≡ best (recordsOf n) .state
-  solved-state {after = after} e =
+  solved-state e =
       let long : length (best (recordsOf n) .state) ≡ n .«switch_count» = best-good (recordsOf n) .long ∙ switches-listed n in
-      ap (λ (k : ℕ). take k after) (sym long) ∙ ap (λ (x : Call Result). take (length (best (recordsOf n) .state)) (x .out)) (solved-is e)
-      ∙ take-written (best (recordsOf n) .state) space (omega (arith, few-switches n ok))
+      take-written (best (recordsOf n) .state) space long (omega (arith, few-switches n ok)) (ap (λ (x : Call Result). x .out) (solved-is e))
 
   pub not-refused : {B : Type 0} {number place : ℕ} {after : List ℕ} → record { answer = solveAnswerOf (solves.Refused number place); out = after } ≡ solved (recordsOf n) space → B
   not-refused e = no-refusal (ap (λ (x : Call Result). x .answer) (solved-is e))
-
--- the base
-pub base-held : (n : PowerNetwork) → checkRecords (recordsOf n) ≡ accepted tt → {c : NetworkConfiguration} → c ≡ configurationOf (baseState (recordsOf n)) → take (n .«switch_count») (c .switches) ≡ baseState (recordsOf n)
-unfolding stateOf
-base-held n ok e =
-    ap (λ (b : NetworkConfiguration). take (n .«switch_count») (b .switches)) e ∙ state-held n (baseState (recordsOf n)) (base-good (recordsOf n) .long ∙ switches-listed n) (few-switches n ok)
 
 -- the bits of a result
 pub result-bits : (N : Network) → checkRecords N ≡ accepted tt → {r : ReconfigResult} → resultOf r ≡ result N → HasBits r
@@ -157,34 +136,34 @@ result-bits N ok e = (
 
 -- ---- one behind the other
 -- lines behind the 81 line keep the length
-pub moves-room : (l operations : List ℕ) → 59 + length operations ≤ length l → {part : List ℕ} → part ≡ written operations (take (length l - 59) (drop 59 l))
-    → length (putMid 59 (length l - 59) l part) ≡ length l
-moves-room l operations room p = ap length (sets-part l 59 operations (p ∙ written-sets operations _ (rw part-rest (omega (arith, length-drop 59 l))))) ∙ length-sets l 59 operations
+pub moves-room : (l operations : List ℕ) → answerLength + length operations ≤ length l → {part : List ℕ} → part ≡ written operations (take (length l - answerLength) (drop answerLength l))
+    → length (putMid answerLength (length l - answerLength) l part) ≡ length l
+moves-room l operations room p = ap length (sets-part l answerLength operations (p ∙ written-sets operations _ (rw part-rest (omega (arith, length-drop answerLength l))))) ∙ length-sets l answerLength operations
 
-pub moves-stored : (l operations plans : List ℕ) (m : ℕ) → length operations ≡ m → 59 + m + length plans ≤ length l
-    → {part : List ℕ} → part ≡ written operations (take (length l - 59) (drop 59 l))
-    → {rest : List ℕ} → rest ≡ written plans (take (length (putMid 59 (length l - 59) l part) - (59 + m)) (drop (59 + m) (putMid 59 (length l - 59) l part)))
-    → putMid (59 + m) (length (putMid 59 (length l - 59) l part) - (59 + m)) (putMid 59 (length l - 59) l part) rest ≡ sets l 59 (operations ++ plans)
+pub moves-stored : (l operations plans : List ℕ) (m : ℕ) → length operations ≡ m → answerLength + m + length plans ≤ length l
+    → {part : List ℕ} → part ≡ written operations (take (length l - answerLength) (drop answerLength l))
+    → {rest : List ℕ} → rest ≡ written plans (take (length (putMid answerLength (length l - answerLength) l part) - (answerLength + m)) (drop (answerLength + m) (putMid answerLength (length l - answerLength) l part)))
+    → putMid (answerLength + m) (length (putMid answerLength (length l - answerLength) l part) - (answerLength + m)) (putMid answerLength (length l - answerLength) l part) rest ≡ sets l answerLength (operations ++ plans)
 moves-stored l operations plans m e room p q =
-    let first = sets-part l 59 operations (p ∙ written-sets operations _ (rw part-rest (omega (arith, length-drop 59 l)))) in
-    let same = length-sets l 59 operations in
-    let behind : length plans ≤ length (take (length (sets l 59 operations) - (59 + m)) (drop (59 + m) (sets l 59 operations))) = rw part-rest (omega (arith, length-drop (59 + m) (sets l 59 operations))) in
+    let first = sets-part l answerLength operations (p ∙ written-sets operations _ (rw part-rest (omega (arith, length-drop answerLength l)))) in
+    let same = length-sets l answerLength operations in
+    let behind : length plans ≤ length (take (length (sets l answerLength operations) - (answerLength + m)) (drop (answerLength + m) (sets l answerLength operations))) = rw part-rest (omega (arith, length-drop (answerLength + m) (sets l answerLength operations))) in
     let part = rw first at q in
-    let second = sets-part (sets l 59 operations) (59 + m) plans (part ∙ written-sets plans _ behind) in
-    let all : sets (sets l 59 operations) (59 + m) plans ≡ sets l 59 (operations ++ plans) = rw (← e) (sets-append l 59 operations plans) in
+    let second = sets-part (sets l answerLength operations) (answerLength + m) plans (part ∙ written-sets plans _ behind) in
+    let all : sets (sets l answerLength operations) (answerLength + m) plans ≡ sets l answerLength (operations ++ plans) = rw (← e) (sets-append l answerLength operations plans) in
     rw first (second ∙ all)
 
 -- as many bytes as the 81 line, the operations and the plan have
-pub moves-long : (N : Network) {m k : ℕ} → m ≡ length (operationLines N) → k ≡ length (planLines N) → 59 + m + k ≡ 59 + length (moveLines N)
+pub moves-long : (N : Network) {m k : ℕ} → m ≡ length (operationLines N) → k ≡ length (planLines N) → answerLength + m + k ≡ answerLength + length (moveLines N)
 unfolding moveLines
 moves-long N e f = simp length-append (omega arith)
 
-pub network-long : (N : Network) → 59 + length (moveLines N) ≡ length (networkText N)
+pub network-long : (N : Network) → answerLength + length (moveLines N) ≡ length (networkText N)
 unfolding networkText
 network-long N = sym (length-append (resultText (result N)) (moveLines N) ∙ ap (λ (k : ℕ). k + length (moveLines N)) (length-result (result N)))
 
 pub lines-stored : (l : List ℕ) (r : Result) (moves : List ℕ) → length (resultText r ++ moves) ≤ length l
-    → {front : List ℕ} → front ≡ written (resultText r) l → {after : List ℕ} → after ≡ sets front 59 moves → after ≡ written (resultText r ++ moves) l
+    → {front : List ℕ} → front ≡ written (resultText r) l → {after : List ℕ} → after ≡ sets front answerLength moves → after ≡ written (resultText r ++ moves) l
 lines-stored l r moves room f a =
     let long = length-result r in
     let both = length-append (resultText r) moves in
@@ -192,23 +171,13 @@ lines-stored l r moves room f a =
     a ∙ rw (f, written-sets (resultText r) l (omega arith)) (rw (zero-add, long) at stored) ∙ sym (written-sets (resultText r ++ moves) l room)
 
 -- ---- the call
-module _ (text out : List ℕ) {n : ℕ} (long : n ≡ length (printed text)) where
-  pub no-room : length out < n → record { answer = refused 13 0; out = out } ≡ answeredText text out
-  unfolding answeredText
-  no-room h = call-short (length (printed text)) (printed text) out refl (sym long) h
+module _ (N : Network) (out : List ℕ) {n : ℕ} (long : n ≡ length (networkText N)) where
+  pub no-room : length out < n → record { answer = refused 13 0; out = out } ≡ called (accepted tt) (length (networkText N)) (networkText N) out
+  no-room h = call-short (length (networkText N)) (networkText N) out refl (sym long) h
 
   -- what was made in memory of the call's own is copied
-  pub all-printed : n ≤ length out → (space : List ℕ) {lines : List ℕ} → length space ≡ 7472 → lines ≡ written (printed text) space
-      → {after : List ℕ} → after ≡ written (take n lines) out → record { answer = accepted n; out = after } ≡ answeredText text out
-  unfolding answeredText
-  all-printed h space {lines} room w e =
-      let same : take n lines ≡ printed text = rw (long, w) (take-written (printed text) space (omega (arith, printed-short text))) in
-      rw long (call-done (length (printed text)) (printed text) out refl (sym long) h (e ∙ ap (λ (b : List ℕ). written b out) same))
-
-pub text-printed : (text : List ℕ) {r : Reading} → r ≡ readingOf (readText text) → r .verdict ≡ Accepted → printed text ≡ networkText (recordsOf (r .network))
-unfolding printed
-text-printed text e v = ap printedOf (read-accepted (readText text) _ e v)
-
-pub text-refused : (text : List ℕ) {r : Reading} → r ≡ readingOf (readText text) → {number place : ℕ} → r .verdict ≡ Refused number place → printed text ≡ refusalText number place
-unfolding printed
-text-refused text e v = ap printedOf (read-refused (readText text) _ _ _ e v)
+  pub all-copied : n ≤ length out → (space : List ℕ) {lines : List ℕ} → n ≤ length space → lines ≡ written (networkText N) space
+      → {after : List ℕ} → after ≡ written (take n lines) out → record { answer = accepted n; out = after } ≡ called (accepted tt) (length (networkText N)) (networkText N) out
+  all-copied h space room w e =
+      let same = take-written (networkText N) space (sym long) room w in
+      rw long (call-done (length (networkText N)) (networkText N) out refl (sym long) h (e ∙ ap (λ (b : List ℕ). written b out) same))

@@ -1,22 +1,25 @@
 -- Demand 1's first sentence, call by call: with records inside the limits, states of one byte 00 or 01 for each switch and room in the lent slice, nothing is refused,
 -- and the answer is the full one: the value, and the bytes at the front of the slice, which keeps its tail. What a text says is `frames.specs.Claim.accepted-texts`; the
--- calls that take a text and states are in `controller.specs.Full`.
-use mathlib.Core.Path.{_≡_, refl, ap, _∙_}
+-- calls that take a text and states are in `controller.specs.Full`. The last law is on every other text.
+use mathlib.Core.Path.{_≡_, refl, sym, _∙_}
 use mathlib.Core.List.{List, _++_}
 use Prim.Native.Nat.{ℕ, _*_, _≤_}
 use native.Mathlib.Omega.{arith}
 use lib.ListN.{length, drop}
 use Rattle.network.specs.Records.{Network}
 use Rattle.network.specs.declared.switch.ReconfigAlgorithm.{ReconfigAlgorithm}
-use Rattle.network.specs.Answers.{accepted, _andThen_}
+use Rattle.network.specs.Answers.{accepted, refused, _andThen_}
 use Rattle.network.specs.AnswerLaws.{then-iff}
 use Rattle.network.specs.Check.{checkRecords}
 use Rattle.network.specs.Inside.{Inside}
 use Rattle.network.specs.InsideLaws.{check-inside}
 use Rattle.states.specs.Live.{checkState, onState}
+use Rattle.lines.specs.Lines.{cut}
 use Rattle.frames.specs.Acceptable.{Acceptable}
+use Rattle.frames.specs.Conditions.{conditions, judgeLines}
 use Rattle.frames.specs.Proof.{claim}
-use Rattle.printing.specs.CallLaws.{in-full}
+use Rattle.printing.specs.Lengths.{operationLength, pairLength, printedLength}
+use Rattle.printing.specs.CallLaws.{call-refused, in-full}
 use Rattle.graph.specs.Graph.{Tree}
 use Rattle.radiality.specs.Feeder.{feeder, LiveIn, radialIn}
 use Rattle.radiality.specs.FeederLaws.{radial-in-tree}
@@ -32,8 +35,8 @@ use Rattle.reconfiguration.specs.Solve.{bestBy, best, result, solved}
 use Rattle.reconfiguration.specs.AnswersHavePlans.{search-sound}
 use Rattle.operations.specs.Operations.{operations, operationsText, operationsCall}
 use Rattle.operations.specs.OperationLines as Operations
-use Rattle.answers.specs.Printing.{networkText, printedOf, printed, answeredText}
-use Rattle.answers.specs.PrintingLaws.{printed-short}
+use Rattle.answers.specs.Printing.{networkText, printed, answeredText}
+use Rattle.answers.specs.PrintingLaws.{network-short, text-answered}
 
 module _ (N : Network) (inside : Inside N) where
   checked : checkRecords N ≡ accepted tt
@@ -66,21 +69,21 @@ module _ (N : Network) (inside : Inside N) where
   unfolding solved result best solvedBy resultBy
   solved-in-full = searched-in-full (N .algorithm)
 
-  -- `compute_switch_operations`: 9 bytes for each operation
+  -- `compute_switch_operations`: a line for each operation
   pub operations-in-full : (from to : State) → GoodState N from → GoodState N to → (out : List ℕ)
       → let l = operations N from to in
-      9 * length l ≤ length out → operationsCall N from to out ≡ record { answer = accepted (length l); out = operationsText l ++ drop (9 * length l) out }
+      operationLength * length l ≤ length out → operationsCall N from to out ≡ record { answer = accepted (length l); out = operationsText l ++ drop (operationLength * length l) out }
   unfolding operationsCall
   operations-in-full from to f t out room =
       let l = operations N from to in
       let passed = then-iff (checkRecords N) _ .1 (checked, then-iff (checkState N from 0) (checkState N to 1) .1 (state-accepted N from 0 .1 f, state-accepted N to 1 .1 t)) in
       in-full (length l) (operationsText l) out passed (rw (Operations.length-text l) room) ∙ rw (Operations.length-text l)
 
-  -- `plan`, between radial states whose switches that must move are operable: 11 bytes for each pair
+  -- `plan`, between radial states whose switches that must move are operable: a line for each pair
   pub planned-in-full : (present wanted : State) → GoodState N present → GoodState N wanted → Tree (feeder N) (LiveIn N present) → Tree (feeder N) (LiveIn N wanted)
       → Free N present wanted → (out : List ℕ)
       → let moves = plan N present wanted in
-      11 * length moves ≤ length out → planned N present wanted out ≡ record { answer = accepted (length moves); out = planText moves ++ drop (11 * length moves) out }
+      pairLength * length moves ≤ length out → planned N present wanted out ≡ record { answer = accepted (length moves); out = planText moves ++ drop (pairLength * length moves) out }
   unfolding planned
   planned-in-full present wanted p w r v free out room =
       let moves = plan N present wanted in
@@ -90,13 +93,16 @@ module _ (N : Network) (inside : Inside N) where
 -- `answer_text`: the lines of the text's records
 pub printed-in-full : (text : List ℕ) (N : Network) → Acceptable text N → (out : List ℕ) → length (networkText N) ≤ length out
     → answeredText text out ≡ record { answer = accepted (length (networkText N)); out = networkText N ++ drop (length (networkText N)) out }
-unfolding answeredText
-printed-in-full text N a out room =
-    let so : printed text ≡ networkText N = unfold printed in ap printedOf (claim .accepted-texts text N .1 a) in
-    rw so (in-full (length (networkText N)) (networkText N) out refl room)
+printed-in-full text N a out room = sym (text-answered text out (claim .accepted-texts text N .1 a)) ∙ in-full (length (networkText N)) (networkText N) out refl room
 
--- and 7,472 bytes are room for every text, a refused one too
-pub always-printed : (text out : List ℕ) → 7472 ≤ length out
-    → answeredText text out ≡ record { answer = accepted (length (printed text)); out = printed text ++ drop (length (printed text)) out }
+-- and `printedLength` bytes are room for every such text
+pub always-printed : (text : List ℕ) (N : Network) → Acceptable text N → (out : List ℕ) → printedLength ≤ length out
+    → answeredText text out ≡ record { answer = accepted (length (networkText N)); out = networkText N ++ drop (length (networkText N)) out }
+always-printed text N a out room = printed-in-full text N a out (omega (arith, network-short N (checked N (a .inside))))
+
+-- every other text is refused with the number and place of its first faulty line, whatever room there is, and the slice keeps every byte (a text that is not accepted
+-- has such a line: `frames.specs.Claim`, first)
+pub refused-in-full : (text : List ℕ) {number place : ℕ} → judgeLines 1 (conditions (cut text)) ≡ refused number place → (out : List ℕ)
+    → answeredText text out ≡ record { answer = refused number place; out = out }
 unfolding answeredText
-always-printed text out room = in-full (length (printed text)) (printed text) out refl (omega (arith, printed-short text))
+refused-in-full text e out = sym (call-refused (length (printed text)) (printed text) out (claim .first text ∙ e))

@@ -3,11 +3,12 @@ use mathlib.Core.Bool.{cond}
 use mathlib.Core.List.{List, [], _++_}
 use Prim.Native.Nat.{ℕ}
 use lib.Ieee.{binary64, toBits}
-use lib.ListN.{length}
+use lib.ListN.{length, take}
 use Rattle.network.specs.Records.{Network}
 use Rattle.network.specs.Answers.{Answer, accepted, refused}
 use Rattle.states.specs.Live.{baseState}
 use Rattle.frames.specs.Text.{readText}
+use Rattle.frames.specs.Conditions.{judgementOf}
 use Rattle.printing.specs.Printed.{answerText, refusalText}
 use Rattle.printing.specs.Calls.{Call, called}
 use Rattle.radiality.specs.Feeder.{radialIn}
@@ -46,9 +47,19 @@ printedOf (refused number place) = refusalText number place
 unfoldable pub printed : List ℕ → List ℕ
 printed text = printedOf (readText text)
 
--- the call: how many bytes, and the bytes at the front of the slice. Of the refusals only 13 is answered, for the others are what is printed
+-- the call, "Calls test the network, then .. 13": the text's own refusal with its number and place, then 13, then how many bytes, with the bytes at the front of the
+-- slice. "A refusal .. writes no lent byte"
 unfoldable pub answeredText : List ℕ → List ℕ → Call ℕ
-answeredText text out = called (accepted tt) (length (printed text)) (printed text) out
+answeredText text out = called (judgementOf (readText text)) (length (printed text)) (printed text) out
+
+-- what is printed of an answer beside a slice: so many bytes of its front, or the line of the refusal
+abbrev pub printedAnswer : Answer ℕ → List ℕ → List ℕ
+printedAnswer (accepted count) out = take count out
+printedAnswer (refused number place) out = refusalText number place
+
+-- what `feeder` prints of the call's answer; with room for every answer it is `printed text` (`PrintingLaws.printed-by-call`)
+abbrev pub printedBy : Call ℕ → List ℕ
+printedBy c = printedAnswer (c .answer) (c .out)
 
 -- document 01's values for each case of the code's answer
 abbrev pub textAnswerOf : TextAnswer → Answer ℕ

@@ -1,4 +1,4 @@
-// What is printed for a text: the search's answer, the operations and the plan, or a refusal.
+// What is answered to a text: the lines of the search's answer, the operations and the plan, or a refusal.
 ghost use mathlib.Core.Path.{_≡_};
 ghost use Prim.Native.Nat.{_+_, _≤_};
 ghost use lib.ListN.{length};
@@ -7,8 +7,10 @@ ghost use Rattle.network.specs.Answers.{accepted};
 ghost use Rattle.network.specs.Check.{checkRecords};
 ghost use Rattle.network.specs.Records.{recordsOf};
 ghost use Rattle.slices.specs.Written.{written};
+ghost use Rattle.printing.specs.Lengths.{answerLength, operationsLength, planLength, printedLength};
+ghost use Rattle.printing.specs.Calls.{called};
 ghost use Rattle.searches.specs.Results.{resultOf};
-ghost use Rattle.answers.specs.Printing.{resultText, operationLines, planLines, moveLines, networkText, printed, answeredText, textAnswerOf};
+ghost use Rattle.answers.specs.Printing.{resultText, operationLines, planLines, moveLines, networkText, answeredText, textAnswerOf};
 ghost use Rattle.answers.specs.PrintingValues.{Searched, HasBits};
 use frames::reader::read_text;
 use network::error::Verdict;
@@ -18,20 +20,17 @@ use operations::operations::OperationsAnswer;
 use operations::operations::compute_switch_operations;
 use plan::planner::PlanAnswer;
 use plan::planner::plan;
-use printing::writer::ANSWER_LENGTH;
-use printing::writer::OPERATION_LENGTH;
-use printing::writer::PAIR_LENGTH;
-use printing::writer::REFUSAL_LENGTH;
+use printing::lengths::ANSWER_LENGTH;
+use printing::lengths::MAX_LENGTH;
+use printing::lengths::OPERATION_LENGTH;
+use printing::lengths::PAIR_LENGTH;
 use printing::writer::write_answer;
-use printing::writer::write_refusal;
 use reconfiguration::solve::solve;
 use searches::answer::ReconfigResult;
 use searches::answer::SolveAnswer;
 use slices::writer::write_bytes;
+use states::configuration::NetworkConfiguration;
 use states::configuration::build_base_configuration;
-
-// The longest answer: an 81 line, an 82 line for each of 512 switches, an 83 line for each of 255 pairs.
-pub const MAX_LENGTH: usize = 7472;
 
 // How many bytes are printed, or document 01's refusal number and place.
 pub enum TextAnswer {
@@ -59,10 +58,10 @@ fn write_result(out: &mut [u8], result: ReconfigResult)
 fn write_operations(
     out: &mut [u8],
     network: PowerNetwork,
-    base: [u8; 512],
-    best: [u8; 512],
+    base: [u8; NetworkConfiguration::MAX_SWITCHES],
+    best: [u8; NetworkConfiguration::MAX_SWITCHES],
 ) -> usize
-    requires { ⌜ Searched network base best × (4608 ≤ length (now out)) ⌝ }
+    requires { ⌜ Searched network base best × (operationsLength ≤ length (now out)) ⌝ }
     ensures { λ r. ⌜ (r ≡ length (operationLines (recordsOf network))) × (now (out .exit) ≡ written (operationLines (recordsOf network)) (now (out .entry))) ⌝ }
 {
     let n = wide16(network.switch_count);
@@ -73,8 +72,13 @@ fn write_operations(
 }
 
 // The 83 lines from a radial base to the best state, and how many bytes they are. The planner refuses a base that is not radial: it has none.
-fn write_plan(out: &mut [u8], network: PowerNetwork, base: [u8; 512], best: [u8; 512]) -> usize
-    requires { ⌜ Searched network base best × (2805 ≤ length (now out)) ⌝ }
+fn write_plan(
+    out: &mut [u8],
+    network: PowerNetwork,
+    base: [u8; NetworkConfiguration::MAX_SWITCHES],
+    best: [u8; NetworkConfiguration::MAX_SWITCHES],
+) -> usize
+    requires { ⌜ Searched network base best × (planLength ≤ length (now out)) ⌝ }
     ensures { λ r. ⌜ (r ≡ length (planLines (recordsOf network))) × (now (out .exit) ≡ written (planLines (recordsOf network)) (now (out .entry))) ⌝ }
 {
     let n = wide16(network.switch_count);
@@ -85,9 +89,14 @@ fn write_plan(out: &mut [u8], network: PowerNetwork, base: [u8; 512], best: [u8;
 }
 
 // The lines behind the 81 line, and how many bytes are printed with it: each writer gets the output from behind the lines before.
-fn write_moves(out: &mut [u8], network: PowerNetwork, base: [u8; 512], best: [u8; 512]) -> usize
-    requires { ⌜ Searched network base best × (7472 ≤ length (now out)) ⌝ }
-    ensures { λ r. ⌜ (r ≡ 59 + length (moveLines (recordsOf network))) × (now (out .exit) ≡ sets (now (out .entry)) 59 (moveLines (recordsOf network))) ⌝ }
+fn write_moves(
+    out: &mut [u8],
+    network: PowerNetwork,
+    base: [u8; NetworkConfiguration::MAX_SWITCHES],
+    best: [u8; NetworkConfiguration::MAX_SWITCHES],
+) -> usize
+    requires { ⌜ Searched network base best × (printedLength ≤ length (now out)) ⌝ }
+    ensures { λ r. ⌜ (r ≡ answerLength + length (moveLines (recordsOf network))) × (now (out .exit) ≡ sets (now (out .entry)) answerLength (moveLines (recordsOf network))) ⌝ }
 {
     let operations = write_operations(&mut out[ANSWER_LENGTH..], network, base, best);
     let n = ANSWER_LENGTH + operations;
@@ -96,12 +105,12 @@ fn write_moves(out: &mut [u8], network: PowerNetwork, base: [u8; 512], best: [u8
 
 // All lines for a network. A search that is refused prints nothing: a checked network's is not.
 fn print_network(out: &mut [u8], network: PowerNetwork) -> usize
-    requires { ⌜ (checkRecords (recordsOf network) ≡ accepted tt) × (7472 ≤ length (now out)) ⌝ }
+    requires { ⌜ (checkRecords (recordsOf network) ≡ accepted tt) × (printedLength ≤ length (now out)) ⌝ }
     ensures { λ r. ⌜ (r ≡ length (networkText (recordsOf network))) × (now (out .exit) ≡ written (networkText (recordsOf network)) (now (out .entry))) ⌝ }
 {
     let configuration = build_base_configuration(network);
     let base = configuration.switches;
-    let mut best = [0u8; 512];
+    let mut best = [0u8; NetworkConfiguration::MAX_SWITCHES];
     match solve(network, &mut best) {
         SolveAnswer::Solved(result) => {
             write_result(out, result);
@@ -111,32 +120,15 @@ fn print_network(out: &mut [u8], network: PowerNetwork) -> usize
     }
 }
 
-// All lines for a text, and how many bytes they are.
-fn print_text(out: &mut [u8], text: &[u8]) -> usize
-    requires { ⌜ 7472 ≤ length (now out) ⌝ }
-    ensures { λ r. ⌜ (r ≡ length (printed (now (text .entry)))) × (now (out .exit) ≡ written (printed (now (text .entry))) (now (out .entry))) ⌝ }
-{
-    let reading = read_text(text);
-    let verdict = reading.verdict;
-    match verdict {
-        Verdict::Accepted => {
-            let network = reading.network;
-            print_network(out, network)
-        }
-        Verdict::Refused { number, place } => {
-            write_refusal(out, number, place);
-            REFUSAL_LENGTH
-        }
-    }
-}
-
-// What is printed for a text, at the front of the slice. How long it is shows only when it is made, and a refusal writes no lent byte: so it is made in
+// A network's lines, at the front of the slice. How long they are shows only when they are made, and a refusal writes no lent byte: so they are made in
 // memory of this call's own.
-pub fn answer_text(text: &[u8], out: &mut [u8]) -> TextAnswer
-    ensures { λ r. ⌜ record { answer = textAnswerOf r; out = now (out .exit) } ≡ answeredText (now (text .entry)) (now (out .entry)) ⌝ }
+fn answer_network(network: PowerNetwork, out: &mut [u8]) -> TextAnswer
+    requires { ⌜ checkRecords (recordsOf network) ≡ accepted tt ⌝ }
+    ensures { λ r. ⌜ record { answer = textAnswerOf r; out = now (out .exit) }
+        ≡ called (accepted tt) (length (networkText (recordsOf network))) (networkText (recordsOf network)) (now (out .entry)) ⌝ }
 {
     let mut lines = [0u8; MAX_LENGTH];
-    let n = print_text(&mut lines, text);
+    let n = print_network(&mut lines, network);
     if out.len() < n {
         return TextAnswer::Refused {
             number: 13,
@@ -145,4 +137,18 @@ pub fn answer_text(text: &[u8], out: &mut [u8]) -> TextAnswer
     }
     write_bytes(out, &lines[0..n]);
     TextAnswer::Printed(n as u16)
+}
+
+// The lines for a text, at the front of the slice, which keeps what is behind them. A text that is refused has its own number and place answered, whatever
+// the slice is, and a refusal writes no lent byte: the 8F line is the caller's to print.
+pub fn answer_text(text: &[u8], out: &mut [u8]) -> TextAnswer
+    ensures { λ r. ⌜ record { answer = textAnswerOf r; out = now (out .exit) } ≡ answeredText (now (text .entry)) (now (out .entry)) ⌝ }
+{
+    let reading = read_text(text);
+    let verdict = reading.verdict;
+    if let Verdict::Refused { number, place } = verdict {
+        return TextAnswer::Refused { number, place };
+    }
+    let network = reading.network;
+    answer_network(network, out)
 }

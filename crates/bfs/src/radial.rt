@@ -9,10 +9,10 @@ use numbers::at_most;
 use numbers::wide16;
 
 // How many branches are live.
-fn live_count(live: [bool; 512], branch_count: u16) -> u16
+fn live_count(live: [bool; Graph::MAX_BRANCHES], branch_count: u16) -> u16
     ensures { λ r. ⌜ r ≡ count (flag live) «branch_count» ⌝ }
 {
-    let n = at_most(wide16(branch_count), 512);
+    let n = at_most(wide16(branch_count), Graph::MAX_BRANCHES);
     let mut total = 0u16;
     let mut k = 0usize;
     while k < n {
@@ -25,7 +25,7 @@ fn live_count(live: [bool; 512], branch_count: u16) -> u16
 }
 
 // True for zero buses; else one live branch less than buses, and all buses reached.
-pub fn is_radial(graph: Graph, live: [bool; 512]) -> bool
+pub fn is_radial(graph: Graph, live: [bool; Graph::MAX_BRANCHES]) -> bool
     ensures { λ r. ⌜ r ≡ rowRadial graph live ⌝ }
 {
     let n = graph.bus_count;

@@ -13,9 +13,9 @@ use numbers::wide16;
 
 // Bus x is put behind those reached, with branch k, unless the branch is not live or the bus is marked, as those reached are.
 fn enter(
-    seen: &mut [bool; 256],
-    bus: &mut [u8; 256],
-    by: &mut [u16; 256],
+    seen: &mut [bool; Graph::MAX_BUSES],
+    bus: &mut [u8; Graph::MAX_BUSES],
+    by: &mut [u16; Graph::MAX_BUSES],
     count: u16,
     live: bool,
     x: u8,
@@ -39,15 +39,15 @@ fn enter(
     count + 1
 }
 
-// The far ends of the row that begins with half-branch first are entered, by rising branch position: 1,024 at most, so that any row ends.
+// The far ends of the row that begins with half-branch first are entered, by rising branch position: MAX_HALVES at most, so that any row ends.
 fn expand(
-    far: &[u8; 1024],
-    next: &[u16; 1024],
-    live: &[bool; 512],
+    far: &[u8; Graph::MAX_HALVES],
+    next: &[u16; Graph::MAX_HALVES],
+    live: &[bool; Graph::MAX_BRANCHES],
     first: u16,
-    seen: &mut [bool; 256],
-    bus: &mut [u8; 256],
-    by: &mut [u16; 256],
+    seen: &mut [bool; Graph::MAX_BUSES],
+    bus: &mut [u8; Graph::MAX_BUSES],
+    by: &mut [u16; Graph::MAX_BUSES],
     count: u16,
 ) -> u16
     requires { ⌜ ((barred : ℕ) × (o : List Visit) × Walking barred o (now seen) (now bus) (now by) count) ⌝ }
@@ -57,9 +57,9 @@ fn expand(
 {
     let mut end = count;
     let mut h = first;
-    let mut i = 0u16;
-    while i < 1024 {
-        if 1024 <= h {
+    let mut i = 0usize;
+    while i < Graph::MAX_HALVES {
+        if Graph::NO_HALF <= h {
             return end;
         }
         let half = wide16(h);
@@ -74,17 +74,17 @@ fn expand(
 
 // The walk by the rows of a graph.
 fn walk_rows(
-    far: &[u8; 1024],
-    first: &[u16; 256],
-    next: &[u16; 1024],
-    live: &[bool; 512],
+    far: &[u8; Graph::MAX_HALVES],
+    first: &[u16; Graph::MAX_BUSES],
+    next: &[u16; Graph::MAX_HALVES],
+    live: &[bool; Graph::MAX_BRANCHES],
     start: u8,
 ) -> Walk
     ensures { λ r. ⌜ r ≡ walked (walkBy (rowLeads (now (far .entry)) (now (first .entry)) (now (next .entry)) (now (live .entry))) start start) ⌝ }
 {
-    let mut seen = [false; 256];
-    let mut bus = [0u8; 256];
-    let mut by = [0u16; 256];
+    let mut seen = [false; Graph::MAX_BUSES];
+    let mut bus = [0u8; Graph::MAX_BUSES];
+    let mut by = [0u16; Graph::MAX_BUSES];
     let at = wide8(start);
     seen[at] = true;
     bus[0] = start;
@@ -109,7 +109,7 @@ fn walk_rows(
 }
 
 // The buses that a walk from start reaches, in the order in which it reaches them, each with its branch.
-pub fn walk(graph: Graph, live: [bool; 512], start: u8) -> Walk
+pub fn walk(graph: Graph, live: [bool; Graph::MAX_BRANCHES], start: u8) -> Walk
     ensures { λ r. ⌜ r ≡ walked (walkBy (rowNeighbours graph live) start start) ⌝ }
 {
     let far = graph.far;

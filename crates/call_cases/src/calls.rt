@@ -10,6 +10,7 @@ use crate::output::print_numbers;
 use crate::output::print_refusal;
 use crate::output::print_result;
 use crate::output::print_slice;
+use cases::MAX_STATE;
 use cases::first_case;
 use cases::line_behind;
 use cases::part_of;
@@ -111,8 +112,8 @@ fn print_call(text: &[u8], line: &[u8], wanted: &[u8], room: usize)
     }
     let from = state_bytes(&line[3..]);
     let to = state_bytes(wanted);
-    let n = at_most(line.len() - 3, 1024);
-    let m = at_most(wanted.len(), 1024);
+    let n = at_most(line.len() - 3, MAX_STATE);
+    let m = at_most(wanted.len(), MAX_STATE);
     match line[0] {
         83 => print_state(text, &from[0..n]),
         80 => print_plan(text, &from[0..n], &to[0..m], room),

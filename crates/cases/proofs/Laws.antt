@@ -1,14 +1,15 @@
--- Lines, digits and numbers character after character, for the loops that pass them, and the parts that are made of them.
+-- A line as it is found, digits and numbers character after character, for the loops that pass them, and the parts that are made of them.
 use mathlib.Core.Path.{_≡_, refl, sym, ap, _∙_}
 use mathlib.Core.Bool.{and-false, or-true}
 use mathlib.Core.List.{List}
 use Prim.Native.Nat.{ℕ, _+_, _*_, _-_, _≤_, _<_, min}
 use native.Mathlib.Numerals.{add-one}
+use native.Mathlib.Nat.{zero-add}
 use native.Mathlib.Omega.{arith}
 use lib.ListN.{length, take, drop, getD, length-take, length-drop, drop-of-length-le}
-use lib.Seq.{drop-cons, ext-getD, getD-take}
+use lib.Seq.{drop-cons, ext-getD, getD-take, take-all}
 use borrow.Author.Tests.{le-leb, lt-leb, eq-eqb, ne-eqb}
-use Rattle.numbers.specs.Choose.{indexOf}
+use Rattle.bytes.specs.Bytes.{indexOf, slice}
 use Rattle.numbers.specs.Parts.{part-rest}
 use Rattle.cases.specs.Cases.{Inside, partOf, lineLength, lineBehind, digitOf, numberFrom, firstCase}
 use Rattle.cases.specs.declared.Case.{Case}
@@ -16,34 +17,9 @@ use Rattle.cases.specs.declared.Number.{Number}
 use Rattle.cases.specs.declared.Part.{Part}
 
 -- ---- a line
--- the first i characters are no line feed
-pub record Passed (t : List ℕ) (i : ℕ) : Type 0 where
-  pub within : i ≤ length t
-  pub rest : lineLength t ≡ i + lineLength (drop i t)
-
-pub none-passed : (t : List ℕ) → Passed t 0
-none-passed t = record { within = omega arith; rest = omega arith }
-
-module _ {t : List ℕ} {i : ℕ} (p : Passed t i) where
-  pub feed-found : i < length t → getD t i 0 ≡ 10 → (i ≡ lineLength t) × (i ≤ length t)
-  unfolding lineLength indexOf
-  feed-found h e =
-      let none : lineLength (drop i t) ≡ 0 = rw (drop-cons t i 0 h, eq-eqb 10 (getD t i 0) (cc)) in
-      (omega (arith, p .rest), omega arith)
-
-  pub other-passed : i < length t → (getD t i 0 ≡ 10 → ⊥) → Passed t (i + 1)
-  unfolding lineLength indexOf
-  other-passed h n =
-      let more : lineLength (drop i t) ≡ lineLength (drop (i + 1) t) + 1 =
-      rw (add-one i, drop-cons t i 0 h, ne-eqb 10 (getD t i 0) (λ e. n (cc))) (omega arith)
-      in
-      record { within = omega arith; rest = omega (arith, p .rest) }
-
-  pub text-passed : length t ≤ i → (i ≡ lineLength t) × (i ≤ length t)
-  unfolding lineLength indexOf
-  text-passed h =
-      let none : lineLength (drop i t) ≡ 0 = rw (drop-of-length-le t {i = i} h) in
-      (omega (arith, p .rest), p .within)
+pub line-is : (t : List ℕ) (n : ℕ) → n ≡ 0 + indexOf 10 (slice 0 (length t) t) → n ≡ lineLength t
+unfolding slice lineLength
+line-is t n e = e ∙ rw (take-all (length t) t (omega arith)) (zero-add _)
 
 -- ---- a digit
 module _ (c : ℕ) where

@@ -4,7 +4,7 @@ use mathlib.Core.List.{List, [], _∷_}
 use Prim.Native.Nat.{ℕ, suc, _+_, _*_, _-_, _≤_, min}
 use lib.Dec.{eqb, leb}
 use lib.ListN.{length, take, drop, getD}
-use Rattle.numbers.specs.Choose.{indexOf}
+use Rattle.bytes.specs.Bytes.{indexOf}
 use Rattle.numbers.specs.UpTo.{table}
 use Rattle.cases.specs.declared.Case.{Case}
 use Rattle.cases.specs.declared.Number.{Number}

@@ -4,6 +4,7 @@ ghost use Prim.Native.Nat.{_≤_};
 ghost use lib.ListN.{length};
 ghost use Rattle.numbers.specs.UpTo.{table};
 ghost use Rattle.cases.specs.Cases.{Inside, partOf, lineLength, lineBehind, digitOf, leadingNumber, firstCase, stateBytes};
+use bytes::scan::find;
 use numbers::at_most;
 
 // From one position of an input to another.
@@ -37,14 +38,7 @@ pub fn part_of(input: &[u8], part: Part) -> &[u8]
 fn line_length(text: &[u8]) -> usize
     ensures { λ r. ⌜ (r ≡ lineLength (now (text .entry))) × (r ≤ length (now (text .entry))) ⌝ }
 {
-    let mut i = 0usize;
-    while i < text.len() {
-        if text[i] == 10 {
-            return i;
-        }
-        i += 1;
-    }
-    i
+    find(text, 0, text.len(), 10)
 }
 
 // The line that begins behind position `at`.
@@ -105,18 +99,21 @@ pub fn first_case(input: &[u8]) -> Case
     }
 }
 
-// 1,024 bytes 00.
-fn no_bytes() -> [u8; 1024]
+// How many bytes of a case's state are read: more than a state may have, so that cases with too many can be written.
+pub const MAX_STATE: usize = 1024;
+
+// Bytes 00.
+fn no_bytes() -> [u8; MAX_STATE]
     ensures { λ r. ⌜ r ≡ table (λ i. 0) 1024 ⌝ }
 {
-    [0; 1024]
+    [0; MAX_STATE]
 }
 
-// The bytes of a state of at most 1,024, each written as a digit.
-pub fn state_bytes(digits: &[u8]) -> [u8; 1024]
+// The bytes of a state, each written as a digit, and 00 behind them.
+pub fn state_bytes(digits: &[u8]) -> [u8; MAX_STATE]
     ensures { λ r. ⌜ r ≡ stateBytes (now (digits .entry)) ⌝ }
 {
-    let count = at_most(digits.len(), 1024);
+    let count = at_most(digits.len(), MAX_STATE);
     let mut state = no_bytes();
     let mut i = 0usize;
     while i < count {

@@ -24,8 +24,8 @@ use states::configuration::live_branches;
 pub struct Change {
     pub verdict: Verdict,
     pub graph: Graph,
-    pub present_live: [bool; 512],
-    pub wanted_live: [bool; 512],
+    pub present_live: [bool; PowerNetwork::MAX_BRANCHES],
+    pub wanted_live: [bool; PowerNetwork::MAX_BRANCHES],
 }
 
 // Whether exactly one of the two is so.
@@ -85,8 +85,8 @@ fn check_change(
     present: &[u8],
     wanted: &[u8],
     graph: Graph,
-    present_live: [bool; 512],
-    wanted_live: [bool; 512],
+    present_live: [bool; PowerNetwork::MAX_BRANCHES],
+    wanted_live: [bool; PowerNetwork::MAX_BRANCHES],
 ) -> Verdict
     requires { ⌜ Checked network (now present) (now wanted) × (graph ≡ feederGraph network)
         × («present_live» ≡ liveFlags (recordsOf network) (now present)) × («wanted_live» ≡ liveFlags (recordsOf network) (now wanted)) ⌝ }
@@ -115,8 +115,8 @@ fn verdict_of(
     present: &[u8],
     wanted: &[u8],
     graph: Graph,
-    present_live: [bool; 512],
-    wanted_live: [bool; 512],
+    present_live: [bool; PowerNetwork::MAX_BRANCHES],
+    wanted_live: [bool; PowerNetwork::MAX_BRANCHES],
 ) -> Verdict
     requires { ⌜ (graph ≡ feederGraph network) × («present_live» ≡ flagsIn network (now present)) × («wanted_live» ≡ flagsIn network (now wanted)) ⌝ }
     ensures { λ r. ⌜ answerOf r ≡ checkPlan (recordsOf network) (now (present .entry)) (now (wanted .entry)) ⌝ }
@@ -137,7 +137,7 @@ fn verdict_of(
 }
 
 // A flag for each branch live in a state.
-fn flags_in(network: PowerNetwork, state: &[u8]) -> [bool; 512]
+fn flags_in(network: PowerNetwork, state: &[u8]) -> [bool; PowerNetwork::MAX_BRANCHES]
     ensures { λ r. ⌜ r ≡ flagsIn network (now (state .entry)) ⌝ }
 {
     live_branches(network, NetworkConfiguration::of(state))

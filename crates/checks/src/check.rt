@@ -14,6 +14,7 @@ ghost use Rattle.network.specs.Faults.{busFaults, branchFaults, switchFaults};
 ghost use Rattle.checks.specs.Flags.{flags};
 ghost use Rattle.ids.specs.Ids.{rows, idRows};
 ghost use Rattle.network.specs.Records.{noBus, noBranch, noSwitch, listed, recordsOf};
+use ids::rows::IdRows;
 use ids::rows::bus_rows;
 use ids::rows::position_of;
 use ids::rows::switch_rows;
@@ -31,11 +32,11 @@ use refusals::record::judge_switch;
 
 // The buses in list order, the first at place 2; their ids are in rows.
 fn check_bus_list<'a>(
-    buses: [Bus; 256],
+    buses: [Bus; PowerNetwork::MAX_BUSES],
     count: usize,
-    ids: &'a [u16; 512],
-    first: &'a [u16; 256],
-    next: &'a [u16; 512],
+    ids: &'a [u16; IdRows::MAX_IDS],
+    first: &'a [u16; IdRows::BUCKETS],
+    next: &'a [u16; IdRows::MAX_IDS],
 ) -> Verdict
     requires { ⌜ (count ≤ 256) × (rows (now ids) (now first) (now next) ≡ idRows (map busId (listed noBus buses count))) ⌝ }
     ensures { λ r. ⌜ answerOf r ≡ checkRun busFaults [] 2 (listed noBus buses count) ⌝ }
@@ -57,13 +58,13 @@ fn check_bus_list<'a>(
 
 // The branches in list order, the first at this place; the ids of bus_count buses are in rows.
 fn check_branch_list<'a>(
-    branches: [Branch; 512],
+    branches: [Branch; PowerNetwork::MAX_BRANCHES],
     count: usize,
     start: u16,
     bus_count: usize,
-    ids: &'a [u16; 512],
-    first: &'a [u16; 256],
-    next: &'a [u16; 512],
+    ids: &'a [u16; IdRows::MAX_IDS],
+    first: &'a [u16; IdRows::BUCKETS],
+    next: &'a [u16; IdRows::MAX_IDS],
 ) -> Verdict
     requires { ⌜ (count ≤ 512) × (start ≤ 1000) × («bus_count» ≤ 256) ⌝ }
     ensures { λ r. ⌜ ((bus : ℕ → Bus) → rows (now (ids .entry)) (now (first .entry)) (now (next .entry)) ≡ idRows (map busId (table bus «bus_count»))
@@ -116,17 +117,17 @@ fn ties_with(ties: u16, normally_open: bool) -> u16
 }
 
 // A flag for each branch position: no switch is on it yet.
-fn no_switches() -> [bool; 512]
+fn no_switches() -> [bool; PowerNetwork::MAX_BRANCHES]
     ensures { λ r. ⌜ r ≡ flags 512 [] ⌝ }
 {
-    [false; 512]
+    [false; PowerNetwork::MAX_BRANCHES]
 }
 
-// Whether a branch position has its flag. One from 512 on has none.
-fn has_flag(flags: &[bool; 512], at: usize) -> bool
+// Whether a branch position has its flag. One from MAX_BRANCHES on has none.
+fn has_flag(flags: &[bool; PowerNetwork::MAX_BRANCHES], at: usize) -> bool
     ensures { λ r. ⌜ r ≡ (ltb at 512 && getD (now (flags .entry)) at false) ⌝ }
 {
-    if at < PowerNetwork::MAX_BRANCHES as usize {
+    if at < PowerNetwork::MAX_BRANCHES {
         return flags[at];
     }
     false
@@ -134,14 +135,14 @@ fn has_flag(flags: &[bool; 512], at: usize) -> bool
 
 // The switches in list order, the first at this place; their ids are in rows. A branch position that is refused needs no flag.
 fn check_switch_list<'a>(
-    switches: [Switch; 512],
+    switches: [Switch; PowerNetwork::MAX_SWITCHES],
     count: usize,
     start: u16,
     branch_count: u16,
     algorithm: ReconfigAlgorithm,
-    ids: &'a [u16; 512],
-    first: &'a [u16; 256],
-    next: &'a [u16; 512],
+    ids: &'a [u16; IdRows::MAX_IDS],
+    first: &'a [u16; IdRows::BUCKETS],
+    next: &'a [u16; IdRows::MAX_IDS],
 ) -> Verdict
     requires { ⌜ (count ≤ 512) × (start ≤ 1000) × («branch_count» ≤ 512)
         × (rows (now ids) (now first) (now next) ≡ idRows (map switchId (listed noSwitch switches count))) ⌝ }

@@ -2,16 +2,22 @@
 use mathlib.Core.List.{List}
 use Prim.Native.Nat.{ℕ}
 use lib.Ieee.{binary64, toBits}
+use Rattle.numbers.specs.Constants.{zero64}
 use Rattle.network.specs.Answers.{Answer, accepted, refused}
-use Rattle.states.specs.Live.{onState}
+use Rattle.states.specs.Live.{onState, baseState}
+use Rattle.states.specs.Switches.{size}
 use Rattle.network.specs.Records.{Network}
-use Rattle.printing.specs.Calls.{Call}
+use Rattle.printing.specs.Calls.{Call, called}
 use Rattle.printing.specs.Printed.{truthByte}
 use Rattle.frames.specs.Text.{readText}
 use Rattle.radiality.specs.Feeder.{radialIn}
 use Rattle.losses.specs.Loss.{lossIn}
 use Rattle.plan.specs.Plan.{planned}
+use Rattle.searches.specs.Results.{Result}
+use Rattle.reconfiguration.specs.Solve.{solved}
+use Rattle.operations.specs.Operations.{operationsCall}
 use Rattle.controller.specs.declared.answer.CallAnswer.{CallAnswer}
+use Rattle.controller.specs.declared.answer.SolvedAnswer.{SolvedAnswer}
 
 -- what was asked for, as a number; a refusal stays
 unfoldable pub numbered : {A : Type 0} → (A → ℕ) → Answer A → Answer ℕ
@@ -23,33 +29,81 @@ abbrev pub numbersOf : Answer ℕ → CallAnswer
 numbersOf (accepted value) = record { number = 0; place = 0; value = value }
 numbersOf (refused number place) = record { number = number; place = place; value = 0 }
 
+-- the same of a search's answer, whose values are the 81 line's: "radial byte of the best state, base loss, best loss, reduction percent, iterations (u16), converged"; beside a
+-- refusal each is 0
+abbrev pub solvedNumbers : Answer Result → SolvedAnswer
+solvedNumbers (accepted r) =
+    record {
+      number = 0;
+      place = 0;
+      radial = truthByte (r .radial);
+      converged = truthByte (r .converged);
+      iterations = r .iterations;
+      «base_loss» = r .base-loss;
+      «best_loss» = r .best-loss;
+      reduction = r .reduction;
+    }
+solvedNumbers (refused number place) =
+    record {
+      number = number;
+      place = place;
+      radial = 0;
+      converged = 0;
+      iterations = 0;
+      «base_loss» = zero64;
+      «best_loss» = zero64;
+      reduction = zero64;
+    }
+
 -- "Calls test the network": for a text that is its reading, and then comes what the call answers on its records, whose own check they have passed
 -- (`frames.specs.Proof.passed`)
-unfoldable pub onRecords : Answer Network → (Network → Answer ℕ) → Answer ℕ
+unfoldable pub onRecords : {A : Type 0} → Answer Network → (Network → Answer A) → Answer A
 onRecords (accepted N) call = call N
 onRecords (refused number place) call = refused number place
 
 -- 1 where the state is radial, else 0, after refusal 10
 unfoldable pub textRadiality : List ℕ → List ℕ → Answer ℕ
-textRadiality text state = onRecords (readText text) (λ N. numbered truthByte (onState N state (radialIn N state)))
+textRadiality text state = numbered truthByte (onRecords (readText text) (λ N. onState N state (radialIn N state)))
 
 -- the bits of the loss in MW, after refusal 10
 unfoldable pub textLoss : List ℕ → List ℕ → Answer ℕ
-textLoss text state = onRecords (readText text) (λ N. numbered (toBits binary64) (onState N state (lossIn N state)))
+textLoss text state = numbered (toBits binary64) (onRecords (readText text) (λ N. onState N state (lossIn N state)))
 
 -- ---- a call that writes: what it answers, and what the lent slice holds then
-pub record CallWritten : Type 0 where
-  pub answer : CallAnswer
+pub record CallWritten (A : Type 0) : Type 0 where
+  pub answer : A
   pub out : List ℕ
 
--- how many pairs, after refusals 10 to 13, and the slice; "A refusal .. writes no lent byte"
-unfoldable pub planOn : Answer Network → List ℕ → List ℕ → List ℕ → Call ℕ
-planOn (accepted N) present wanted out = planned N present wanted out
-planOn (refused number place) present wanted out = record { answer = refused number place; out = out }
+-- what such a call answers, in numbers, beside the slice
+abbrev pub writtenAs : {A B : Type 0} → (Answer A → B) → Call A → CallWritten B
+writtenAs inNumbers p = record { answer = inNumbers (p .answer); out = p .out }
 
+abbrev pub writtenNumbers : Call ℕ → CallWritten CallAnswer
+writtenNumbers p = writtenAs numbersOf p
+
+abbrev pub writtenSolved : Call Result → CallWritten SolvedAnswer
+writtenSolved p = writtenAs solvedNumbers p
+
+-- a call on a text: its reading, then what the call answers on the records; "A refusal .. writes no lent byte"
+unfoldable pub onText : {A : Type 0} → Answer Network → (Network → List ℕ → Call A) → List ℕ → Call A
+onText (accepted N) call out = call N out
+onText (refused number place) call out = record { answer = refused number place; out = out }
+
+-- how many pairs, after refusals 10 to 13, and an 83 line for each
 unfoldable pub textPlan : List ℕ → List ℕ → List ℕ → List ℕ → Call ℕ
-textPlan text present wanted out = planOn (readText text) present wanted out
+textPlan text present wanted out = onText (readText text) (λ N. planned N present wanted) out
 
--- what a call that writes answers, in numbers, beside the slice
-abbrev pub writtenNumbers : Call ℕ → CallWritten
-writtenNumbers p = record { answer = numbersOf (p .answer); out = p .out }
+-- how many operations, after refusals 10 and 13, and an 82 line for each
+unfoldable pub textOperations : List ℕ → List ℕ → List ℕ → List ℕ → Call ℕ
+textOperations text from to out = onText (readText text) (λ N. operationsCall N from to) out
+
+-- what the search that the head asks for answers, after refusal 13, and the best state's bytes
+unfoldable pub textSolved : List ℕ → List ℕ → Call Result
+textSolved text out = onText (readText text) solved out
+
+-- how many switches, after refusal 13, and the base's byte for each: "The base opens exactly the normally open switches"
+unfoldable pub baseCall : Network → List ℕ → Call ℕ
+baseCall N out = called (accepted tt) (size N) (baseState N) out
+
+unfoldable pub textBase : List ℕ → List ℕ → Call ℕ
+textBase text out = onText (readText text) baseCall out

@@ -1,24 +1,30 @@
--- Demand 1's first sentence for the calls that take a text and states: a text of records inside the limits, with states of one byte 00 or 01 for each switch and room
--- in the lent slice, is answered in full. The calls on records, and the one that takes a text alone, are in `answers.specs.Full`.
-use mathlib.Core.Path.{_≡_}
+-- Demand 1's first sentence for the calls that take a text: a text of records inside the limits, with states of one byte 00 or 01 for each switch and room in the lent
+-- slice, is answered in full. The calls on records, and `answer_text`, are in `answers.specs.Full`.
+use mathlib.Core.Path.{_≡_, refl, _∙_}
 use mathlib.Core.List.{List, _++_}
 use Prim.Native.Nat.{ℕ, _*_, _≤_}
 use lib.Ieee.{binary64, toBits}
 use lib.ListN.{length, drop}
 use Rattle.network.specs.Answers.{accepted}
 use Rattle.network.specs.Records.{Network}
-use Rattle.states.specs.Switches.{State, GoodState}
+use Rattle.states.specs.Live.{baseState}
+use Rattle.states.specs.Switches.{State, GoodState, size}
 use Rattle.frames.specs.Acceptable.{Acceptable}
 use Rattle.frames.specs.Proof.{claim}
 use Rattle.frames.specs.Text.{readText}
+use Rattle.printing.specs.CallLaws.{in-full}
+use Rattle.printing.specs.Lengths.{operationLength, pairLength}
 use Rattle.printing.specs.Printed.{truthByte}
 use Rattle.graph.specs.Graph.{Tree}
 use Rattle.radiality.specs.Feeder.{feeder, LiveIn, radialIn}
 use Rattle.losses.specs.Loss.{lossIn}
 use Rattle.plan.specs.Plan.{plan, planText}
 use Rattle.plan.specs.Plannable.{Free}
-use Rattle.answers.specs.Full.{radiality-in-full, loss-in-full, planned-in-full}
-use Rattle.controller.specs.Calls.{numbered, onRecords, textRadiality, textLoss, planOn, textPlan}
+use Rattle.searches.specs.FromBase.{base-good}
+use Rattle.reconfiguration.specs.Solve.{best, result}
+use Rattle.operations.specs.Operations.{operations, operationsText}
+use Rattle.answers.specs.Full.{radiality-in-full, loss-in-full, solved-in-full, operations-in-full, planned-in-full}
+use Rattle.controller.specs.Calls.{numbered, onRecords, textRadiality, textLoss, onText, textPlan, textOperations, textSolved, baseCall, textBase}
 
 module _ (t : List ℕ) (N : Network) (a : Acceptable t N) where
   has-records : readText t ≡ accepted N
@@ -34,11 +40,30 @@ module _ (t : List ℕ) (N : Network) (a : Acceptable t N) where
   unfolding textLoss onRecords numbered
   text-loss-in-full s good = rw (has-records, loss-in-full N (a .inside) s good)
 
-  -- `feeder_plan`, between radial states whose switches that must move are operable: 11 bytes for each pair
+  -- `feeder_plan`, between radial states whose switches that must move are operable: a line for each pair
   pub text-plan-in-full : (present wanted : State) → GoodState N present → GoodState N wanted → Tree (feeder N) (LiveIn N present) → Tree (feeder N) (LiveIn N wanted)
       → Free N present wanted → (out : List ℕ)
       → let moves = plan N present wanted in
-      11 * length moves ≤ length out
-      → textPlan t present wanted out ≡ record { answer = accepted (length moves); out = planText moves ++ drop (11 * length moves) out }
-  unfolding textPlan planOn
+      pairLength * length moves ≤ length out
+      → textPlan t present wanted out ≡ record { answer = accepted (length moves); out = planText moves ++ drop (pairLength * length moves) out }
+  unfolding textPlan onText
   text-plan-in-full present wanted p w r v free out room = rw has-records (planned-in-full N (a .inside) present wanted p w r v free out room)
+
+  -- `feeder_operations`, between any two states: `operationLength` bytes for each operation
+  pub text-operations-in-full : (from to : State) → GoodState N from → GoodState N to → (out : List ℕ)
+      → let l = operations N from to in
+      operationLength * length l ≤ length out → textOperations t from to out ≡ record { answer = accepted (length l); out = operationsText l ++ drop (operationLength * length l) out }
+  unfolding textOperations onText
+  text-operations-in-full from to f g out room = rw has-records (operations-in-full N (a .inside) from to f g out room)
+
+  -- `feeder_solve`: a byte for each switch
+  pub text-solved-in-full : (out : List ℕ) → size N ≤ length out → textSolved t out ≡ record { answer = accepted (result N); out = best N .state ++ drop (size N) out }
+  unfolding textSolved onText
+  text-solved-in-full out room = rw has-records (solved-in-full N (a .inside) out room)
+
+  -- `feeder_base_state`: a byte for each switch
+  pub text-base-in-full : (out : List ℕ) → size N ≤ length out → textBase t out ≡ record { answer = accepted (size N); out = baseState N ++ drop (size N) out }
+  unfolding textBase onText baseCall
+  text-base-in-full out room =
+      let long : length (baseState N) ≡ size N = base-good N .long in
+      rw has-records (in-full (size N) (baseState N) out refl (rw long room) ∙ rw long)

@@ -6,14 +6,18 @@ ghost use Rattle.printing.specs.Printed.{truthByte};
 ghost use Rattle.radiality.specs.Answers.{radialityOf};
 ghost use Rattle.losses.specs.Answers.{lossAnswerOf};
 ghost use Rattle.plan.specs.Plan.{planAnswerOf};
+ghost use Rattle.searches.specs.Results.{solveAnswerOf};
+ghost use Rattle.operations.specs.Operations.{operationsAnswerOf};
 ghost use Rattle.answers.specs.Printing.{textAnswerOf};
-ghost use Rattle.controller.specs.Calls.{numbered, numbersOf};
+ghost use Rattle.controller.specs.Calls.{numbered, numbersOf, solvedNumbers};
 ghost use Rattle.controller.specs.CallLaws.{NoNan};
 use answers::printer::TextAnswer;
 use losses::evaluation::LossAnswer;
+use operations::operations::OperationsAnswer;
 use plan::planner::PlanAnswer;
 use printing::writer::truth_byte;
 use radiality::radiality::Radiality;
+use searches::answer::SolveAnswer;
 
 // Number 0 with what was asked for, or document 01's refusal number and place.
 #[repr(C)]
@@ -23,7 +27,20 @@ pub struct CallAnswer {
     pub value: u64,
 }
 
-fn answered(value: u64) -> CallAnswer
+// Number 0 with the values of the 81 line, or document 01's refusal number and place beside zeros.
+#[repr(C)]
+pub struct SolvedAnswer {
+    pub number: u8,
+    pub place: u16,
+    pub radial: u8,
+    pub converged: u8,
+    pub iterations: u16,
+    pub base_loss: f64,
+    pub best_loss: f64,
+    pub reduction: f64,
+}
+
+pub(crate) fn answered(value: u64) -> CallAnswer
     ensures { λ r. ⌜ r ≡ numbersOf (accepted value) ⌝ }
 {
     CallAnswer {
@@ -72,11 +89,53 @@ pub(crate) fn plan_numbers(answer: PlanAnswer) -> CallAnswer
     }
 }
 
+pub(crate) fn operations_numbers(answer: OperationsAnswer) -> CallAnswer
+    ensures { λ r. ⌜ r ≡ numbersOf (operationsAnswerOf answer) ⌝ }
+{
+    match answer {
+        OperationsAnswer::Refused { number, place } => refusal(number, place),
+        OperationsAnswer::Operations(count) => answered(count as u64),
+    }
+}
+
 pub(crate) fn text_numbers(answer: TextAnswer) -> CallAnswer
     ensures { λ r. ⌜ r ≡ numbersOf (textAnswerOf answer) ⌝ }
 {
     match answer {
         TextAnswer::Refused { number, place } => refusal(number, place),
         TextAnswer::Printed(count) => answered(count as u64),
+    }
+}
+
+pub(crate) fn not_solved(number: u8, place: u16) -> SolvedAnswer
+    ensures { λ r. ⌜ r ≡ solvedNumbers (refused number place) ⌝ }
+{
+    SolvedAnswer {
+        number,
+        place,
+        radial: 0,
+        converged: 0,
+        iterations: 0,
+        base_loss: 0.0,
+        best_loss: 0.0,
+        reduction: 0.0,
+    }
+}
+
+pub(crate) fn solved_numbers(answer: SolveAnswer) -> SolvedAnswer
+    ensures { λ r. ⌜ r ≡ solvedNumbers (solveAnswerOf answer) ⌝ }
+{
+    match answer {
+        SolveAnswer::Refused { number, place } => not_solved(number, place),
+        SolveAnswer::Solved(result) => SolvedAnswer {
+            number: 0,
+            place: 0,
+            radial: truth_byte(result.is_radial),
+            converged: truth_byte(result.converged),
+            iterations: result.n_iterations,
+            base_loss: result.base_losses_mw,
+            best_loss: result.optimized_losses_mw,
+            reduction: result.loss_reduction_pct,
+        },
     }
 }

@@ -1,19 +1,33 @@
 // The calls on a frame text. A refusal of the text comes first, then those of the call itself.
 ghost use mathlib.Core.Path.{_≡_};
+ghost use Rattle.network.specs.Answers.{accepted};
+ghost use Rattle.network.specs.Check.{checkRecords};
+ghost use Rattle.network.specs.Records.{recordsOf};
 ghost use Rattle.answers.specs.Printing.{answeredText};
-ghost use Rattle.controller.specs.Calls.{numbersOf, textRadiality, textLoss, textPlan, writtenNumbers};
+ghost use Rattle.controller.specs.Calls.{numbersOf, textRadiality, textLoss, textPlan, textOperations, textSolved, baseCall, textBase, writtenNumbers, writtenSolved};
 use crate::answer::CallAnswer;
+use crate::answer::SolvedAnswer;
+use crate::answer::answered;
 use crate::answer::loss_numbers;
+use crate::answer::not_solved;
+use crate::answer::operations_numbers;
 use crate::answer::plan_numbers;
 use crate::answer::radiality_numbers;
 use crate::answer::refusal;
+use crate::answer::solved_numbers;
 use crate::answer::text_numbers;
 use answers::printer::answer_text;
 use frames::reader::read_text;
 use losses::evaluation::evaluate_config;
 use network::error::Verdict;
+use network::topology::PowerNetwork;
+use numbers::wide16;
+use operations::operations::compute_switch_operations;
 use plan::planner::plan;
 use radiality::radiality::verify_radiality;
+use reconfiguration::solve::solve;
+use slices::writer::write_bytes;
+use states::configuration::build_base_configuration;
 
 // Whether a state is radial: the value is 1 where it is, else 0.
 #[no_mangle]
@@ -25,8 +39,7 @@ pub extern "C" fn feeder_radiality(text: &[u8], state: &[u8]) -> CallAnswer
     if let Verdict::Refused { number, place } = verdict {
         return refusal(number, place);
     }
-    let network = reading.network;
-    radiality_numbers(verify_radiality(network, state))
+    radiality_numbers(verify_radiality(reading.network, state))
 }
 
 // The loss of a state, which need not be radial: the value is the bits of the f64, in MW.
@@ -39,8 +52,7 @@ pub extern "C" fn feeder_loss(text: &[u8], state: &[u8]) -> CallAnswer
     if let Verdict::Refused { number, place } = verdict {
         return refusal(number, place);
     }
-    let network = reading.network;
-    loss_numbers(evaluate_config(network, state))
+    loss_numbers(evaluate_config(reading.network, state))
 }
 
 // The plan from the present state to the wanted one: the value is the number of pairs, and an 83 line for each stands at the front of the slice,
@@ -60,15 +72,77 @@ pub extern "C" fn feeder_plan(
     if let Verdict::Refused { number, place } = verdict {
         return refusal(number, place);
     }
-    let network = reading.network;
-    plan_numbers(plan(network, present, wanted, out))
+    plan_numbers(plan(reading.network, present, wanted, out))
 }
 
-// What the program `feeder` prints for the text: the value is how many bytes, and they stand at the front of the slice, which keeps what is behind them. A
-// text that is refused has its 8F line printed, so that of the refusals only 13 is answered.
+// The lines that the program `feeder` prints for the text: the value is how many bytes, and they stand at the front of the slice, which keeps what is behind
+// them. A refusal, the text's own or 13, writes nothing: the 8F line is the caller's to make.
 #[no_mangle]
 pub extern "C" fn feeder_answer_text(text: &[u8], out: &mut [u8]) -> CallAnswer
     ensures { λ r. ⌜ record { answer = r; out = now (out .exit) } ≡ writtenNumbers (answeredText (now (text .entry)) (now (out .entry))) ⌝ }
 {
     text_numbers(answer_text(text, out))
+}
+
+// The base's bytes at the front of the slice, or 13. A checked network has no more switches than a state has bytes.
+fn write_base(network: PowerNetwork, out: &mut [u8]) -> CallAnswer
+    requires { ⌜ checkRecords (recordsOf network) ≡ accepted tt ⌝ }
+    ensures { λ r. ⌜ record { answer = r; out = now (out .exit) } ≡ writtenNumbers (baseCall (recordsOf network) (now (out .entry))) ⌝ }
+{
+    let count = wide16(network.switch_count);
+    if out.len() < count {
+        return refusal(13, 0);
+    }
+    let base = build_base_configuration(network);
+    let state = base.switches;
+    write_bytes(out, &state[0..count]);
+    answered(count as u64)
+}
+
+// The base of the text's feeder: the value is the number of switches, and a byte for each stands at the front of the slice, which keeps what is
+// behind them. A refusal writes nothing.
+#[no_mangle]
+pub extern "C" fn feeder_base_state(text: &[u8], out: &mut [u8]) -> CallAnswer
+    ensures { λ r. ⌜ record { answer = r; out = now (out .exit) } ≡ writtenNumbers (textBase (now (text .entry)) (now (out .entry))) ⌝ }
+{
+    let reading = read_text(text);
+    let verdict = reading.verdict;
+    if let Verdict::Refused { number, place } = verdict {
+        return refusal(number, place);
+    }
+    write_base(reading.network, out)
+}
+
+// The search that the text asks for: the best state's bytes stand at the front of the slice, which keeps what is behind them, and the answer has
+// the values of the 81 line. A refusal writes nothing.
+#[no_mangle]
+pub extern "C" fn feeder_solve(text: &[u8], out: &mut [u8]) -> SolvedAnswer
+    ensures { λ r. ⌜ record { answer = r; out = now (out .exit) } ≡ writtenSolved (textSolved (now (text .entry)) (now (out .entry))) ⌝ }
+{
+    let reading = read_text(text);
+    let verdict = reading.verdict;
+    if let Verdict::Refused { number, place } = verdict {
+        return not_solved(number, place);
+    }
+    solved_numbers(solve(reading.network, out))
+}
+
+// The operations that lead from one state to another, in switch order and not in the order in which switches may move (that is the plan's): the
+// value is their number, and an 82 line for each stands at the front of the slice, which keeps what is behind them. A refusal writes nothing.
+#[no_mangle]
+pub extern "C" fn feeder_operations(
+    text: &[u8],
+    from: &[u8],
+    to: &[u8],
+    out: &mut [u8],
+) -> CallAnswer
+    ensures { λ r. ⌜ record { answer = r; out = now (out .exit) }
+        ≡ writtenNumbers (textOperations (now (text .entry)) (now (from .entry)) (now (to .entry)) (now (out .entry))) ⌝ }
+{
+    let reading = read_text(text);
+    let verdict = reading.verdict;
+    if let Verdict::Refused { number, place } = verdict {
+        return refusal(number, place);
+    }
+    operations_numbers(compute_switch_operations(reading.network, from, to, out))
 }

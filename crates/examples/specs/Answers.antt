@@ -1,11 +1,13 @@
 -- Document 01's worked example: what is printed for the triangle's text, and a refusal's line.
 use mathlib.Core.Bool.{true}
-use mathlib.Core.List.{[], _∷_, _++_, flatMap}
-use mathlib.Core.Path.{_≡_, refl}
+use mathlib.Core.List.{List, [], _∷_, _++_, flatMap}
+use mathlib.Core.Path.{_≡_, refl, sym}
+use Prim.Native.Nat.{ℕ}
 use lib.Ieee.{ofBits, toBits, le, lt, neg, add, sub, mul, div}
 use Rattle.numbers.specs.UpTo.{upTo, table}
 use Rattle.numbers.specs.Counts.{count}
 use Rattle.numbers.specs.Choose.{those, least, firstSome, firstOf, indexOf, _orElse_, lastSome}
+use Rattle.network.specs.Answers.{refused}
 use Rattle.states.specs.Live.{live, openOn, baseState}
 use Rattle.lines.specs.Hex.{digit, digits, writeFields}
 use Rattle.lines.specs.Frames.{frameText}
@@ -26,9 +28,10 @@ use Rattle.searches.specs.Rounds.{untilEnded}
 use Rattle.reconfiguration.specs.Solve.{bestBy, best, result}
 use Rattle.reconfiguration.specs.AnswersHavePlans.{solve-has-plan}
 use Rattle.operations.specs.Operations.{operationTo, operations, operationsText}
-use Rattle.answers.specs.Printing.{resultText, operationLines, planLines, moveLines, networkText, printed}
+use Rattle.answers.specs.Printing.{resultText, operationLines, planLines, moveLines, networkText, printed, answeredText}
+use Rattle.answers.specs.PrintingLaws.{text-refused}
 
-triangle-printed : printed triangleText
+pub triangle-printed : printed triangleText
     ≡ line 58 0x810140100000000000003FF00000000000004052C00000000000000201
     ++ (line 8 0x82000A00
     ++ (line 8 0x82000B01
@@ -40,6 +43,10 @@ triangle-printed = rw triangle-read
 refusal-printed : printed (48 ∷ 71 ∷ []) ≡ line 8 0x8F010001
 unfolding printed refusalText frameText writeFields digits digit
 refusal-printed = rw (table-rows .0)
+
+-- the call answers that refusal and writes nothing, whatever it is lent
+refusal-answered : (out : List ℕ) → answeredText (48 ∷ 71 ∷ []) out ≡ record { answer = refused 1 1; out = out }
+refusal-answered out = sym (text-refused (48 ∷ 71 ∷ []) out (table-rows .0))
 
 -- so the hypotheses of `solve-has-plan` can be met
 triangle-radial : radialIn triangle (baseState triangle) ≡ true

@@ -3,3 +3,4 @@ pub mod Texts
 pub mod Plans
 pub mod Searches
 pub mod Answers
+pub mod ReadBack

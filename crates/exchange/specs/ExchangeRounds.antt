@@ -28,15 +28,15 @@ use Rattle.exchange.specs.ExchangeLaws.{Swap, round-swaps}
 use Rattle.exchange.specs.ExchangeValues.{trialOf, exchangeOf}
 
 -- ---- the rounds
-pub counted : (N : Network) (x : Exchange) (best : Option State) (y : BranchExchange) (step : Trial) (r : BranchExchange) → y ≡ exchangeOf x → step ≡ trialOf N (y .configuration) best
+pub counted : (N : Network) (x : Exchange) (last : Option State) (y : BranchExchange) (step : Trial) (r : BranchExchange) → y ≡ exchangeOf x → step ≡ trialOf N (y .configuration) last
     → (step .found ≡ true → r ≡ record { configuration = step .configuration; loss = step .loss; rounds = y .rounds + 1; ended = false })
     → (step .found ≡ false → r ≡ record { configuration = y .configuration; loss = y .loss; rounds = y .rounds + 1; ended = true })
-    → r ≡ exchangeOf (afterRound N x best)
+    → r ≡ exchangeOf (afterRound N x last)
 unfolding exchangeOf afterRound trialOf
 counted N x none y step r e q t f = f (ap (λ z. z .found) q) ∙ rw (e, add-one)
 counted N x (some s) y step r e q t f = t (ap (λ z. z .found) q) ∙ rw (q, e, add-one)
 
-round-counts : (N : Network) (x : Exchange) (best : Option State) → afterRound N x best .rounds ≡ suc (x .rounds)
+round-counts : (N : Network) (x : Exchange) (last : Option State) → afterRound N x last .rounds ≡ suc (x .rounds)
 unfolding afterRound
 round-counts N x none = refl
 round-counts N x (some t) = refl
@@ -45,7 +45,7 @@ round-long : (N : Network) (x : Exchange) → length (next N x .state) ≡ lengt
 unfolding afterRound swapped
 round-long N x = go (roundOf N (x .state) (x .loss)) (round-swaps N (x .state) (x .loss))
   where
-    go : (best : Option State) → IfSome (Swap N (x .state)) best → length (afterRound N x best .state) ≡ length (x .state)
+    go : (last : Option State) → IfSome (Swap N (x .state)) last → length (afterRound N x last .state) ≡ length (x .state)
     go none w = refl
     go (some t) w = ap length (w .result) ∙ length-set (set (x .state) (w .tie) 0) (w .section) 1 ∙ length-set (x .state) (w .tie) 0
 
@@ -101,7 +101,7 @@ module _ (n : PowerNetwork) (ok : checkRecords (recordsOf n) ≡ accepted tt) wh
           ∙ ap (λ s. trialOf (recordsOf n) (y .configuration) (roundOf (recordsOf n) s (w .at .loss))) (state-held n (w .at .state) (w .long) few)
 
       pub standing-next : (r : BranchExchange)
-          → ((N : Network) (x : Exchange) (best : Option State) → y ≡ exchangeOf x → step ≡ trialOf N (y .configuration) best → r ≡ exchangeOf (afterRound N x best)) → Standing n r
+          → ((N : Network) (x : Exchange) (last : Option State) → y ≡ exchangeOf x → step ≡ trialOf N (y .configuration) last → r ≡ exchangeOf (afterRound N x last)) → Standing n r
       unfolding afterRound
       standing-next r h =
           let x = w .at in
@@ -113,7 +113,7 @@ module _ (n : PowerNetwork) (ok : checkRecords (recordsOf n) ≡ accepted tt) wh
           }
 
       pub rounds-rise : (r : BranchExchange)
-          → ((N : Network) (x : Exchange) (best : Option State) → y ≡ exchangeOf x → step ≡ trialOf N (y .configuration) best → r ≡ exchangeOf (afterRound N x best))
+          → ((N : Network) (x : Exchange) (last : Option State) → y ≡ exchangeOf x → step ≡ trialOf N (y .configuration) last → r ≡ exchangeOf (afterRound N x last))
           → r .rounds ≡ suc (y .rounds)
       unfolding exchangeOf
       rounds-rise r h =

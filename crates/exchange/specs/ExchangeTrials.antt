@@ -24,7 +24,7 @@ use Rattle.states.specs.Configuration.{configurationOf}
 use Rattle.network.specs.InsideLaws.{check-inside}
 use Rattle.network.specs.Positions.{on-a-branch}
 use Rattle.graph.specs.declared.rows.Graph.{Graph}
-use Rattle.graph.specs.declared.walks.Path.{Path}
+use Rattle.graph.specs.declared.walks.PathBranches.{PathBranches}
 use Rattle.graph.specs.Rows.{pathOf, rowEndsPath, rowRadial}
 use Rattle.radiality.specs.Feeder.{feeder}
 use Rattle.radiality.specs.FeederRows.{feederGraph, liveFlags}
@@ -130,7 +130,7 @@ module _ (f : ℕ → Option ℕ) (array : List ℕ) (count i : ℕ) (section : 
   along-found {k} h q = ap sectionAt (sym (first-found f path i k inside (here (some k) (section-some _ section e h))) ∙ q)
 
 -- ---- a path as the code holds it
-pub path-list : (l : List ℕ) (p : Path) → p ≡ pathOf l → take (p .count) (p .branch) ≡ l
+pub path-list : (l : List ℕ) (p : PathBranches) → p ≡ pathOf l → take (p .count) (p .branch) ≡ l
 unfolding pathOf
 path-list l p e = rw e (padded-front 256 0 l)
 
@@ -213,21 +213,21 @@ seen-read n ok c i sw served at b e =
     ∙ ap (λ x. sw .«normally_open» && (sw .«can_operate» && eqb x 1)) (byte-at n c i (at .below))
     ∙ sym e
 
-module _ (N : Network) (c : NetworkConfiguration) (s : State) (current : Float) (b : Option State) (best : Trial) (q : best ≡ trialOf N c b) (i : ℕ) where
-  pub see-unseen : seen N s i ≡ false → best ≡ trialOf N c (improving N s current i orElse b)
+module _ (N : Network) (c : NetworkConfiguration) (s : State) (current : Float) (b : Option State) (last : Trial) (q : last ≡ trialOf N c b) (i : ℕ) where
+  pub see-unseen : seen N s i ≡ false → last ≡ trialOf N c (improving N s current i orElse b)
   unfolding _orElse_
   see-unseen f = rw f q
 
   module _ (t : seen N s i ≡ true) where
-    pub see-none : trial N s i ≡ none → best ≡ trialOf N c (improving N s current i orElse b)
+    pub see-none : trial N s i ≡ none → last ≡ trialOf N c (improving N s current i orElse b)
     unfolding improved _orElse_
     see-none e = rw (t, e) q
 
     pub see-tried : (u : State) → trial N s i ≡ some u → (loss : Float) → loss ≡ lossIn N u → (d : NetworkConfiguration) → d ≡ configurationOf u
-        → cond (lt loss (sub binary64 current billionth)) (record { found = true; configuration = d; loss = loss }) best ≡ trialOf N c (improving N s current i orElse b)
+        → cond (lt loss (sub binary64 current billionth)) (record { found = true; configuration = d; loss = loss }) last ≡ trialOf N c (improving N s current i orElse b)
     unfolding improved improves trialOf _orElse_
     see-tried u e loss l d p = rw (t, e, l, p) (go (lt (lossIn N u) (sub binary64 current billionth)))
       where
-        go : (better : Bool) → cond better (record { found = true; configuration = configurationOf u; loss = lossIn N u }) best ≡ trialOf N c (cond better (some u) none orElse b)
+        go : (better : Bool) → cond better (record { found = true; configuration = configurationOf u; loss = lossIn N u }) last ≡ trialOf N c (cond better (some u) none orElse b)
         go true = refl
         go false = q

@@ -22,7 +22,7 @@ ghost use Rattle.exchange.specs.Exchange.{Exchange, roundOf, afterRound,
 ghost use Rattle.exchange.specs.ExchangeValues.{sectionIn, sectionAt, sectionsOf, rowSwap, rowTrial, trialOf, exchangeOf};
 use bfs::radial::is_radial;
 use graph::rows::Graph;
-use graph::walks::Path;
+use graph::walks::PathBranches;
 use losses::estimate::compute_losses_estimate;
 use network::bus::Power;
 use network::error::Verdict;
@@ -67,13 +67,16 @@ fn is_section(switch: Switch) -> bool
     !switch.normally_open && switch.can_operate
 }
 
-// For each branch the position of its operable section switch, 512 where it has none: an array of enums cannot be lent. A branch has one switch at most.
-fn sections_of(network: PowerNetwork) -> [u16; 512]
+// In place of a switch position where a branch has no section: one more than the last.
+const NO_SECTION: u16 = PowerNetwork::MAX_SWITCHES as u16;
+
+// For each branch the position of its operable section switch, NO_SECTION where it has none: an array of enums cannot be lent. A branch has one switch at most.
+fn sections_of(network: PowerNetwork) -> [u16; PowerNetwork::MAX_BRANCHES]
     requires { ⌜ checkRecords (recordsOf network) ≡ accepted tt ⌝ }
     ensures { λ r. ⌜ r ≡ sectionsOf (recordsOf network) ⌝ }
 {
     let count = network.switch_count;
-    let mut sections = [512u16; 512];
+    let mut sections = [NO_SECTION; PowerNetwork::MAX_BRANCHES];
     let mut i = 0u16;
     while i < count {
         let at = wide16(i);
@@ -88,14 +91,14 @@ fn sections_of(network: PowerNetwork) -> [u16; 512]
 }
 
 // The section of branch k.
-fn section_on(sections: &[u16; 512], k: u16) -> Section
+fn section_on(sections: &[u16; PowerNetwork::MAX_BRANCHES], k: u16) -> Section
     requires { ⌜ length (now sections) ≡ 512 ⌝ }
     ensures { λ r. ⌜ r ≡ sectionAt (sectionIn (now (sections .entry)) k) ⌝ }
 {
-    if k < PowerNetwork::MAX_BRANCHES {
-        let at = wide16(k);
+    let at = wide16(k);
+    if at < PowerNetwork::MAX_BRANCHES {
         let section = sections[at];
-        if section < PowerNetwork::MAX_SWITCHES {
+        if section < NO_SECTION {
             return Section::At(section);
         }
     }
@@ -105,9 +108,9 @@ fn section_on(sections: &[u16; 512], k: u16) -> Section
 // The section of branch k, where it is closed and the swap with it radial: with the tie closed these branches are live.
 fn swap_with(
     graph: Graph,
-    sections: &[u16; 512],
-    state: &[u8; 512],
-    live: [bool; 512],
+    sections: &[u16; PowerNetwork::MAX_BRANCHES],
+    state: &[u8; NetworkConfiguration::MAX_SWITCHES],
+    live: [bool; PowerNetwork::MAX_BRANCHES],
     k: u16,
 ) -> Section
     requires { ⌜ (length (now sections) ≡ 512) × (length (now state) ≡ 512) ⌝ }
@@ -130,10 +133,10 @@ fn swap_with(
 // The first section along a path that a tie can be swapped with.
 fn first_swap(
     graph: Graph,
-    sections: &[u16; 512],
-    state: &[u8; 512],
-    live: [bool; 512],
-    path: Path,
+    sections: &[u16; PowerNetwork::MAX_BRANCHES],
+    state: &[u8; NetworkConfiguration::MAX_SWITCHES],
+    live: [bool; PowerNetwork::MAX_BRANCHES],
+    path: PathBranches,
 ) -> Section
     requires { ⌜ (length (now sections) ≡ 512) × (length (now state) ≡ 512) × (path .count ≤ 256) ⌝ }
     ensures { λ r. ⌜ r ≡ sectionAt (firstSome (rowSwap graph (now (sections .entry)) (now (state .entry)) live) (take (path .count) (path .branch))) ⌝ }
@@ -150,7 +153,11 @@ fn first_swap(
 }
 
 // The branches that a closed tie on this branch would make a loop with: the path from its from bus to its to bus.
-fn find_loop_branches_closed_tie(graph: Graph, live: [bool; 512], branch: u16) -> Path
+fn find_loop_branches_closed_tie(
+    graph: Graph,
+    live: [bool; PowerNetwork::MAX_BRANCHES],
+    branch: u16,
+) -> PathBranches
     ensures { λ r. ⌜ r ≡ pathOf (rowEndsPath graph live branch) ⌝ }
 {
     path_of_ends(graph, live, branch)
@@ -159,9 +166,9 @@ fn find_loop_branches_closed_tie(graph: Graph, live: [bool; 512], branch: u16) -
 // The section that a tie on this branch is swapped with: the first along its loop.
 fn try_tie(
     graph: Graph,
-    sections: &[u16; 512],
-    state: &[u8; 512],
-    live: [bool; 512],
+    sections: &[u16; PowerNetwork::MAX_BRANCHES],
+    state: &[u8; NetworkConfiguration::MAX_SWITCHES],
+    live: [bool; PowerNetwork::MAX_BRANCHES],
     branch: u16,
     in_service: bool,
 ) -> Section
@@ -193,7 +200,12 @@ fn improves(loss: f64, current: f64) -> bool
 }
 
 // The live branches after a swap: the tie's where it is in service, and not the section's.
-fn swapped_live(live: [bool; 512], closed: usize, in_service: bool, opened: usize) -> [bool; 512]
+fn swapped_live(
+    live: [bool; PowerNetwork::MAX_BRANCHES],
+    closed: usize,
+    in_service: bool,
+    opened: usize,
+) -> [bool; PowerNetwork::MAX_BRANCHES]
     requires { ⌜ (closed < 512) × (opened < 512) ⌝ }
     ensures { λ r. ⌜ r ≡ set (set live closed «in_service») opened false ⌝ }
 {
@@ -203,9 +215,9 @@ fn swapped_live(live: [bool; 512], closed: usize, in_service: bool, opened: usiz
     swapped
 }
 
-// The best of a round after the swap of a tie with a section: one that improves takes the place of the one before.
-fn better_of(
-    best: Trial,
+// The last improving trial of a round once a tie's swap with a section is seen too: one that improves takes the place of the one before, better or not.
+fn last_improving(
+    last: Trial,
     configuration: NetworkConfiguration,
     current: f64,
     tie: usize,
@@ -214,7 +226,7 @@ fn better_of(
 ) -> Trial
     requires { ⌜ (tie < 512) × (section < 512) ⌝ }
     ensures { λ r. ⌜ r ≡ cond (lt loss (sub binary64 current billionth))
-        (record { found = true; configuration = record { switches = set (set (configuration .switches) tie 0) section 1 }; loss = loss }) best ⌝ }
+        (record { found = true; configuration = record { switches = set (set (configuration .switches) tie 0) section 1 }; loss = loss }) last ⌝ }
 {
     if improves(loss, current) {
         let mut swapped = configuration;
@@ -226,15 +238,15 @@ fn better_of(
             loss,
         };
     }
-    best
+    last
 }
 
 // A round: the last improving trial among the switches in list order, each tried from the state as the round found it.
 fn branch_exchange_step(
     network: PowerNetwork,
     graph: Graph,
-    loads: [Power; 256],
-    sections: [u16; 512],
+    loads: [Power; PowerNetwork::MAX_BUSES],
+    sections: [u16; PowerNetwork::MAX_BRANCHES],
     configuration: NetworkConfiguration,
     current: f64,
 ) -> Trial
@@ -246,7 +258,7 @@ fn branch_exchange_step(
     let branches = network.branches;
     let base_mva = network.base_mva;
     let count = wide16(network.switch_count);
-    let mut best = Trial {
+    let mut last = Trial {
         found: false,
         configuration,
         loss: 0.0,
@@ -269,19 +281,19 @@ fn branch_exchange_step(
                 let opened = wide16(network.switches[section].branch_idx);
                 let swapped = swapped_live(live, on, served, opened);
                 let loss = compute_losses_estimate(graph, loads, branches, base_mva, swapped);
-                best = better_of(best, configuration, current, i, section, loss);
+                last = last_improving(last, configuration, current, i, section, loss);
             }
         }
         i += 1;
     }
-    best
+    last
 }
 
 // Every round counts; a round without an improving trial ends the search.
 fn after_round(done: BranchExchange, step: Trial) -> BranchExchange
     requires { ⌜ done .rounds < 65535 ⌝ }
-    ensures { λ r. ⌜ ((N : Network) (x : Exchange) (best : Option State) → done ≡ exchangeOf x → step ≡ trialOf N (done .configuration) best
-        → r ≡ exchangeOf (afterRound N x best)) ⌝ }
+    ensures { λ r. ⌜ ((N : Network) (x : Exchange) (last : Option State) → done ≡ exchangeOf x → step ≡ trialOf N (done .configuration) last
+        → r ≡ exchangeOf (afterRound N x last)) ⌝ }
 {
     let rounds = done.rounds + 1;
     if step.found {
@@ -306,7 +318,7 @@ fn after_round(done: BranchExchange, step: Trial) -> BranchExchange
 fn branch_exchange_rounds(
     network: PowerNetwork,
     graph: Graph,
-    loads: [Power; 256],
+    loads: [Power; PowerNetwork::MAX_BUSES],
     base: NetworkConfiguration,
     base_loss: f64,
 ) -> BranchExchange

@@ -48,8 +48,8 @@ struct ExhaustiveSearch {
 // The ties in list order: how many there are, the branch of each, and whether that is in service.
 struct Ties {
     count: usize,
-    on: [u16; 10],
-    in_service: [bool; 10],
+    on: [u16; PowerNetwork::MAX_TIES],
+    in_service: [bool; PowerNetwork::MAX_TIES],
 }
 
 impl Ties {
@@ -59,8 +59,8 @@ impl Ties {
     {
         Ties {
             count: 0,
-            on: [0; 10],
-            in_service: [false; 10],
+            on: [0; PowerNetwork::MAX_TIES],
+            in_service: [false; PowerNetwork::MAX_TIES],
         }
     }
 
@@ -149,7 +149,11 @@ fn find_ties(network: PowerNetwork) -> Ties
 }
 
 // The live branches of a mask: those of the base, and of the ties whose bit is 1 those in service.
-fn masked_live(base_live: [bool; 512], ties: Ties, mask: u16) -> [bool; 512]
+fn masked_live(
+    base_live: [bool; PowerNetwork::MAX_BRANCHES],
+    ties: Ties,
+    mask: u16,
+) -> [bool; PowerNetwork::MAX_BRANCHES]
     requires { ⌜ (ties .count ≤ 10) × ((t : ℕ) → getD (ties .on) t 0 < 512) ⌝ }
     ensures { λ r. ⌜ r ≡ closedBy ties mask «base_live» ⌝ }
 {
@@ -234,9 +238,9 @@ fn with_base(base: NetworkConfiguration, base_radial: bool, base_loss: f64) -> E
 fn with_mask(
     network: PowerNetwork,
     graph: Graph,
-    loads: [Power; 256],
+    loads: [Power; PowerNetwork::MAX_BUSES],
     search: ExhaustiveSearch,
-    live: [bool; 512],
+    live: [bool; PowerNetwork::MAX_BRANCHES],
     mask: u16,
 ) -> ExhaustiveSearch
     requires { ⌜ Given network graph loads × (search .«radial_count» < 65535) × (live ≡ liveFlags (recordsOf network) (masked (recordsOf network) mask))
@@ -252,9 +256,9 @@ fn with_mask(
 fn exhaustive_masks(
     network: PowerNetwork,
     graph: Graph,
-    loads: [Power; 256],
+    loads: [Power; PowerNetwork::MAX_BUSES],
     base: NetworkConfiguration,
-    base_live: [bool; 512],
+    base_live: [bool; PowerNetwork::MAX_BRANCHES],
     base_radial: bool,
     base_loss: f64,
 ) -> ExhaustiveSearch

@@ -1,18 +1,85 @@
-// Prints the answer to the feeder text on standard input. The first 65,536 bytes of a longer text decide it (answers/specs/PrintingLaws, printed-early), and
-// MAX_LENGTH bytes are enough for every answer (printed-short).
-use answers::printer::MAX_LENGTH;
+// Prints the answer to the feeder text on standard input. Where the input cannot be read, or the answer not be written, a line on standard error says so.
+ghost use mathlib.Core.Path.{_≡_};
+ghost use Prim.Native.Nat.{_≤_};
+ghost use lib.ListN.{length, take};
+ghost use Rattle.io.specs.Counts.{Counts};
+ghost use Rattle.frames.specs.Lengths.{decidingLength};
+ghost use Rattle.printing.specs.Lengths.{printedLength};
+ghost use Rattle.answers.specs.Printing.{printed};
 use answers::printer::TextAnswer;
 use answers::printer::answer_text;
+use libc::STDERR_FILENO;
 use libc::STDIN_FILENO;
 use libc::STDOUT_FILENO;
 use numbers::wide16;
+use printing::lengths::MAX_LENGTH;
+use printing::lengths::REFUSAL_LENGTH;
+use printing::writer::write_refusal;
+
+// How many bytes of the input were read, and whether a read failed.
+struct Input {
+    count: usize,
+    failed: bool,
+}
+
+// One read: a count of 0 where the input ends, and where the read failed.
+fn read_some(room: &mut [u8]) -> Input
+    ensures { λ r. ⌜ Counts (r .count) (now (room .exit)) ⌝ }
+{
+    let got = libc::read(STDIN_FILENO, room);
+    Input {
+        count: io::count(got, room),
+        failed: got < 0,
+    }
+}
+
+// Reads to the input's end, or until the room is full: it holds all that can decide a text (answers/specs/PrintingLaws, printed-early).
+fn read_input(room: &mut [u8]) -> Input
+    requires { ⌜ decidingLength ≤ length (now room) ⌝ }
+    ensures { λ r. ⌜ Counts (r .count) (now (room .exit)) ⌝ }
+{
+    let mut count = 0usize;
+    while count < room.len() {
+        let more = read_some(&mut room[count..]);
+        if more.count == 0 {
+            return Input {
+                count,
+                failed: more.failed,
+            };
+        }
+        count += more.count;
+    }
+    Input {
+        count,
+        failed: false,
+    }
+}
+
+// What is printed for a text, at the front of the slice, and how many bytes it is: the lines that are answered, or the 8F line of a refusal.
+fn print_text(text: &[u8], out: &mut [u8]) -> usize
+    requires { ⌜ printedLength ≤ length (now out) ⌝ }
+    ensures { λ r. ⌜ Counts r (now (out .exit)) ⌝ }
+    ensures { λ r. ⌜ take r (now (out .exit)) ≡ printed (now (text .entry)) ⌝ }
+{
+    match answer_text(text, out) {
+        TextAnswer::Printed(count) => wide16(count),
+        TextAnswer::Refused { number, place } => {
+            write_refusal(out, number, place);
+            REFUSAL_LENGTH
+        }
+    }
+}
 
 fn main() {
     let mut text = io::large_buffer();
-    let n = io::read_full(STDIN_FILENO, &mut text);
-    let mut out = [0u8; MAX_LENGTH];
-    let TextAnswer::Printed(count) = answer_text(&text[..n], &mut out) else {
+    let input = read_input(&mut text);
+    if input.failed {
+        io::write_all(STDERR_FILENO, b"feeder: the input cannot be read\n");
         return;
-    };
-    io::write_all(STDOUT_FILENO, &out[..wide16(count)]);
+    }
+    let mut out = [0u8; MAX_LENGTH];
+    let n = print_text(&text[..input.count], &mut out);
+    if !io::write_all(STDOUT_FILENO, &out[..n]) {
+        io::write_all(STDERR_FILENO, b"feeder: the answer cannot be written\n");
+    }
 }

@@ -1,5 +1,5 @@
--- What is claimed of document 01's frame text. Its words are defined in Text (the reader), Acceptable (the text of a network), Conditions (the conditions
--- of each line), and in crate network in Check (the check of records) and Inside (the limits). `Proof.claim` proves it.
+-- What is claimed of document 01's frame text. Its words are defined in Text (the reader), Acceptable (the text of a network), Lengths, Conditions (the
+-- conditions of each line), and in crate network in Check (the check of records) and Inside (the limits). `Proof.claim` proves it.
 use mathlib.Core.Path.{_≡_}
 use mathlib.Core.Logic.{_↔_}
 use mathlib.Core.List.{List}
@@ -16,6 +16,7 @@ use Rattle.network.specs.Inside.{Each, Inside}
 use Rattle.lines.specs.Lines.{cut}
 use Rattle.frames.specs.Text.{readText}
 use Rattle.frames.specs.Acceptable.{textOf, Writable, Acceptable}
+use Rattle.frames.specs.Lengths.{decidingLength}
 use Rattle.frames.specs.Conditions.{conditions, judgeLines, judgementOf, LowestWins}
 
 pub record Claim : Type 0 where
@@ -34,6 +35,6 @@ pub record Claim : Type 0 where
   -- and of every value that is handed over: `Is the-row n vs` says that the machine's values vs stand for n; its fields are u16 and f64 (`TypedValues.value-typed`), so
   -- that its records have room (`HandedOver.typed-writable`)
   pub handed-over : (n : PowerNetwork) (vs : List Val) → Is the-row n vs → readText (textOf (recordsOf n)) ≡ (checkRecords (recordsOf n) andThen accepted (recordsOf n))
-  -- the first 27,466 bytes decide: the longest acceptable text has 27,429. A program that reads so many or more of a longer text gives the refusal that the
-  -- whole text would get
-  pub early : (n : ℕ) (t : List ℕ) → 27466 ≤ n → readText (take n t) ≡ readText t
+  -- the first `decidingLength` bytes decide: one line more than the longest acceptable text. A program that reads so many or more of a longer text gives the
+  -- refusal that the whole text would get
+  pub early : (n : ℕ) (t : List ℕ) → decidingLength ≤ n → readText (take n t) ≡ readText t

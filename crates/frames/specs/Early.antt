@@ -1,4 +1,4 @@
--- A text's first 27,466 bytes decide: the longest acceptable text has 27,429, and the line after that shows its fault in 37.
+-- A text's first `decidingLength` bytes decide: the longest acceptable text has `longestText`, and the line after that shows its fault in `decidingLine`.
 use mathlib.Core.Path.{_≡_, refl, sym, ap, _∙_}
 use mathlib.Core.Bool.{Bool, true, false, cond}
 use mathlib.Core.List.{List, [], _∷_, _++_}
@@ -13,6 +13,7 @@ use Rattle.lines.specs.Lines.{Line, put, cut, lineFaults}
 use Rattle.lines.specs.Frames.{Frame, layout}
 use Rattle.record_lines.specs.Kinds.{head, bus, branch, switch, isFrame, fieldsOf, headFrom, busFrom, branchFrom, switchFrom, headLineFaults, busLineFaults, branchLineFaults, switchLineFaults, Reader, readOne, without}
 use Rattle.frames.specs.Text.{follow, pure, readRun, readEnd, readLines, readText}
+use Rattle.frames.specs.Lengths.{lineLength, longestText, decidingLine, decidingLength}
 use Rattle.frames.specs.LineLaws.{Sound, head-sound, bus-sound, branch-sound, switch-sound, line-kept, line-long}
 use Rattle.frames.specs.ReadLaws.{head-passed}
 
@@ -72,7 +73,7 @@ follow-alike k j x y f both-refused g = both-refused
 follow-alike k j x y f (both-accepted {a = a} {ls = ls} {ms = ms} n h t) g = g a n ls ms refl h t
 
 -- a line over 36 characters
-long-refused : {A : Type 0} (b : Bool) (l : Line) (fs : List Fault) (p n : ℕ) (x : Answer A) → 37 ≤ n → n ≤ length (l .chars) → (judge (lineFaults b l ++ fs) p andThen x) ≡ refused 2 p
+long-refused : {A : Type 0} (b : Bool) (l : Line) (fs : List Fault) (p n : ℕ) (x : Answer A) → decidingLine ≤ n → n ≤ length (l .chars) → (judge (lineFaults b l ++ fs) p andThen x) ≡ refused 2 p
 unfolding judge lineFaults _andThen_
 long-refused b l fs p n x h k = rw (lt-ltb 36 (length (l .chars)) (omega arith))
 
@@ -86,7 +87,7 @@ then-alike (accepted u) k j a ls ms h t = both-accepted j (h refl) t
 then-alike (refused m p) k j a ls ms h t = both-refused
 
 module _ {A : Type 0} (F : Frame) (s : Sound F) (make : Fields (F .widths) → A) where
-  one-same : (faults : Fields (F .widths) → List Fault) (p k n : ℕ) (ls ms : List Line) → 37 ≤ n → suc (total (layout F)) + k ≤ n → Same n ls ms
+  one-same : (faults : Fields (F .widths) → List Fault) (p k n : ℕ) (ls ms : List Line) → decidingLine ≤ n → suc (total (layout F)) + k ≤ n → Same n ls ms
       → Alike k (readOne F make faults p ls) (readOne F make faults p ms)
   unfolding readOne
   one-same faults p k n ls ms h₁ h₂ equal = alike-refl k n (omega arith) (readOne F make faults p ls)
@@ -101,7 +102,7 @@ module _ {A : Type 0} (F : Frame) (s : Sound F) (make : Fields (F .widths) → A
       both-long k p _ _ (long-refused (isFrame F l) l (faults (fieldsOf F l)) p n _ h₁ a) (long-refused (isFrame F m) m (faults (fieldsOf F m)) p n _ h₁ b)
   one-same faults p k n ls ms h₁ h₂ (out e) = absurd (omega arith)
 
-  run-same : (faults : List A → Fields (F .widths) → List Fault) (before : List A) (m p k n : ℕ) (ls ms : List Line) → 37 ≤ k → m * suc (total (layout F)) + k ≤ n → Same n ls ms
+  run-same : (faults : List A → Fields (F .widths) → List Fault) (before : List A) (m p k n : ℕ) (ls ms : List Line) → decidingLine ≤ k → m * suc (total (layout F)) + k ≤ n → Same n ls ms
       → Alike k (readRun F make faults before m p ls) (readRun F make faults before m p ms)
   unfolding readRun pure
   run-same faults before zero p k n ls ms h₁ h₂ t = both-accepted n (omega arith) t
@@ -110,31 +111,31 @@ module _ {A : Type 0} (F : Frame) (s : Sound F) (make : Fields (F .widths) → A
       λ a n₁ ls₁ ms₁ e₁ g₁ t₁. follow-alike k k _ _ _ (run-same faults (before ++ (a ∷ [])) m (suc p) k n₁ ls₁ ms₁ h₁ g₁ t₁)
       λ rest n₂ ls₂ ms₂ e₂ g₂ t₂. both-accepted n₂ g₂ t₂
 
-end-same : (p n : ℕ) (ls ms : List Line) → 37 ≤ n → Same n ls ms → Alike 0 (readEnd p ls) (readEnd p ms)
+end-same : (p n : ℕ) (ls ms : List Line) → decidingLine ≤ n → Same n ls ms → Alike 0 (readEnd p ls) (readEnd p ms)
 unfolding readEnd lineFaults
 end-same p n ls ms h equal = alike-refl 0 n (omega arith) (readEnd p ls)
 end-same p n ls ms h (next {l = l} {ls = ls′} {ms = ms′} j e t) = then-alike (judge (lineFaults false l) p) 0 j (tt {0}) ls′ ms′ (λ q. omega arith) t
 end-same p n ls ms h (long {l = l} {m = m} a b) = both-long 0 p _ _ (long-refused false l [] p n _ h a) (long-refused false m [] p n _ h b)
 end-same p n ls ms h (out e) = absurd (omega arith)
 
-lines-same : (n : ℕ) (ls ms : List Line) → 27466 ≤ n → Same n ls ms → Alike 0 (readLines ls) (readLines ms)
+lines-same : (n : ℕ) (ls ms : List Line) → decidingLength ≤ n → Same n ls ms → Alike 0 (readLines ls) (readLines ms)
 unfolding readLines pure
 lines-same n ls ms h t =
-    follow-alike 27429 0 _ _ _ (one-same head head-sound headFrom headLineFaults 1 27429 n ls ms (omega arith) (omega arith) t)
+    follow-alike longestText 0 _ _ _ (one-same head head-sound headFrom headLineFaults 1 longestText n ls ms (omega arith) (omega arith) t)
     λ hd n₀ ls₀ ms₀ e₀ g₀ t₀.
     let c = head-passed ls (hd, ls₀) e₀ .counts in
-    let room : hd .buses * 23 + (hd .branches * 29 + (hd .switches * 13 + 37)) ≤ 27429 = omega (arith, c .0, c .1, c .2) in
-    follow-alike (hd .branches * 29 + (hd .switches * 13 + 37)) 0 _ _ _
-    (run-same bus bus-sound busFrom busLineFaults [] (hd .buses) 2 (hd .branches * 29 + (hd .switches * 13 + 37)) n₀ ls₀ ms₀ (omega arith) (omega arith) t₀)
+    let room : hd .buses * lineLength bus + (hd .branches * lineLength branch + (hd .switches * lineLength switch + decidingLine)) ≤ longestText = omega (arith, c .0, c .1, c .2) in
+    follow-alike (hd .branches * lineLength branch + (hd .switches * lineLength switch + decidingLine)) 0 _ _ _
+    (run-same bus bus-sound busFrom busLineFaults [] (hd .buses) 2 (hd .branches * lineLength branch + (hd .switches * lineLength switch + decidingLine)) n₀ ls₀ ms₀ (omega arith) (omega arith) t₀)
     λ buses n₁ ls₁ ms₁ e₁ g₁ t₁.
-    follow-alike (hd .switches * 13 + 37) 0 _ _ _
-    (run-same branch branch-sound branchFrom (λ before. branchLineFaults buses) [] (hd .branches) (2 + hd .buses) (hd .switches * 13 + 37) n₁ ls₁ ms₁ (omega arith) (omega arith) t₁)
+    follow-alike (hd .switches * lineLength switch + decidingLine) 0 _ _ _
+    (run-same branch branch-sound branchFrom (λ before. branchLineFaults buses) [] (hd .branches) (2 + hd .buses) (hd .switches * lineLength switch + decidingLine) n₁ ls₁ ms₁ (omega arith) (omega arith) t₁)
     λ branches n₂ ls₂ ms₂ e₂ g₂ t₂.
-    follow-alike 37 0 _ _ _ (run-same switch switch-sound switchFrom (switchLineFaults hd) [] (hd .switches) (2 + hd .buses + hd .branches) 37 n₂ ls₂ ms₂ (omega arith) (omega arith) t₂)
+    follow-alike decidingLine 0 _ _ _ (run-same switch switch-sound switchFrom (switchLineFaults hd) [] (hd .switches) (2 + hd .buses + hd .branches) decidingLine n₂ ls₂ ms₂ (omega arith) (omega arith) t₂)
     λ switches n₃ ls₃ ms₃ e₃ g₃ t₃.
     follow-alike 0 0 _ _ _ (end-same (2 + hd .buses + hd .branches + hd .switches) n₃ ls₃ ms₃ g₃ t₃)
     λ u n₄ ls₄ ms₄ e₄ g₄ t₄. both-accepted n₄ g₄ t₄
 
-pub read-early : (n : ℕ) (t : List ℕ) → 27466 ≤ n → readText (take n t) ≡ readText t
+pub read-early : (n : ℕ) (t : List ℕ) → decidingLength ≤ n → readText (take n t) ≡ readText t
 unfolding readText
 read-early n t h = sym (without-alike (lines-same n (cut t) (cut (take n t)) h (cut-take n t)))

@@ -10,9 +10,8 @@ use Rattle.network.specs.declared.topology.PowerNetwork.{PowerNetwork}
 use Rattle.network.specs.Records.{noBus, noBranch, noSwitch, recordsOf}
 use Rattle.network.specs.Check.{headOf}
 use Rattle.network.specs.Inside.{Each}
-use Rattle.network.specs.Positions.{each-anywhere}
+use Rattle.network.specs.EachLaws.{each-anywhere, each-append}
 use Rattle.frames.specs.Acceptable.{BusRoom, BranchRoom, SwitchRoom, Writable, Short, Held}
-use Rattle.frames.specs.ReadLaws.{each-append}
 
 -- the fields of a value handed over, and those of the records in its arrays, are u16 and f64, their types in the code. So are those of every value of the code (`TypedValues.value-typed`)
 pub record Typed (n : PowerNetwork) : Type 0 where

@@ -1,5 +1,6 @@
 pub mod Text
 pub mod Acceptable
+pub mod Lengths
 pub mod Conditions
 pub mod Passes
 pub mod ReaderLaws

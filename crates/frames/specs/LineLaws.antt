@@ -1,7 +1,7 @@
 -- A line of a kind without a fault is its fields.
 use mathlib.Core.Path.{_≡_, refl, sym, ap, ap₂, _∙_}
 use mathlib.Core.Bool.{Bool, true, false, not, _||_}
-use mathlib.Core.List.{List, _++_}
+use mathlib.Core.List.{List, [], _∷_, _++_, map, flatMap, append-assoc}
 use Prim.Native.Nat.{ℕ, _%_, _^_, _≤_, _<_}
 use lib.Dec.{ltb, eqb, lit<, lit≤}
 use lib.ListN.{length}
@@ -11,10 +11,10 @@ use Rattle.numbers.specs.Tests.{both}
 use Rattle.network.specs.Answers.{accepted, Fault, judge}
 use Rattle.lines.specs.Hex.{isDigit, Fields, readFields, writeFields, Fit, total}
 use Rattle.lines.specs.HexLaws.{length-fields, every-fields, fields-kept, chars-kept}
-use Rattle.lines.specs.Lines.{Line, lineFaults}
-use Rattle.lines.specs.CutLaws.{DigitLine}
+use Rattle.lines.specs.Lines.{Line, lineFaults, cut}
+use Rattle.lines.specs.CutLaws.{cut-ended, DigitLine, written-no-feed}
 use Rattle.lines.specs.JudgeLaws.{judge-past, line-passed}
-use Rattle.lines.specs.Frames.{Frame, layout}
+use Rattle.lines.specs.Frames.{Frame, layout, frameText}
 use Rattle.record_lines.specs.Kinds.{head, bus, branch, switch, isFrame, fieldsOf}
 
 -- ---- lines of a kind
@@ -38,6 +38,22 @@ switch-sound = record { byte = lit< tt; short = lit≤ tt; even = refl }
 -- the line that fields make
 unfoldable pub lineOf : (F : Frame) → Fields (F .widths) → Line
 lineOf F f = record { chars = writeFields (layout F) (F .kind, f); ended = true }
+
+-- a frame's text is one line, and the texts of many are their lines
+pub cut-frame : (F : Frame) (f : Fields (F .widths)) (rest : List ℕ) → cut (frameText F f ++ rest) ≡ lineOf F f ∷ cut rest
+unfolding frameText lineOf
+cut-frame F f rest =
+    let chars = writeFields (layout F) (F .kind, f) in
+    ap cut (append-assoc chars (10 ∷ []) rest) ∙ cut-ended chars rest (written-no-feed (layout F) (F .kind, f))
+
+pub cut-frames : {A : Type 0} (F : Frame) (fields : A → Fields (F .widths)) (l : List A) (rest : List ℕ)
+    → cut (flatMap (λ a. frameText F (fields a)) l ++ rest) ≡ map (λ a. lineOf F (fields a)) l ++ cut rest
+unfolding flatMap
+cut-frames F fields [] rest = refl
+cut-frames F fields (a ∷ l) rest =
+    let text = frameText F (fields a) in
+    let more = flatMap (λ b. frameText F (fields b)) l in
+    ap cut (append-assoc text more rest) ∙ cut-frame F (fields a) (more ++ rest) ∙ ap (λ (ls : List Line). lineOf F (fields a) ∷ ls) (cut-frames F fields l rest)
 
 module _ (F : Frame) (s : Sound F) where
   pub line-digits : (f : Fields (F .widths)) → Fit (F .widths) f → DigitLine (lineOf F f)

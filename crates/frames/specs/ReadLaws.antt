@@ -18,6 +18,7 @@ use Rattle.network.specs.InsideLaws.{HeadInside, head-iff}
 use Rattle.network.specs.Check as check
 use Rattle.network.specs.Check.{checkRun, checkRecords}
 use Rattle.network.specs.Inside.{Each}
+use Rattle.network.specs.EachLaws.{each-append}
 use Rattle.lines.specs.Hex.{Fields}
 use Rattle.lines.specs.Lines.{Line, cut, lineFaults}
 use Rattle.lines.specs.Frames.{frameText}
@@ -238,10 +239,6 @@ joined-lines N =
     let s-lines : List Line = map (recordLine switchKind) (N .switches) in
     rw (joined-append b-lines (r-lines ++ s-lines), joined-append r-lines s-lines, joined-records busKind (N .buses), joined-records branchKind (N .branches), joined-records switchKind (N .switches))
     (sym (append-assoc (lineOf head (headKind .fields (check.headOf N)) .chars) (10 ∷ []) _))
-
-pub each-append : {A : Type 0} (P : A → Type 0) (xs ys : List A) → Each P xs → Each P ys → Each P (xs ++ ys)
-each-append P [] ys h k = k
-each-append P (x ∷ xs) ys h k = (h .0, each-append P xs ys (h .1) k)
 
 lines-digits : {A : Type 0} (K : Kind A) (xs : List A) → Each (K .Room) xs → Each DigitLine (map (recordLine K) xs)
 unfolding recordLine

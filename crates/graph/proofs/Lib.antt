@@ -1,1 +1,2 @@
+pub mod ArrayLengths
 pub mod Building

@@ -5,7 +5,7 @@ use Prim.Native.Nat.{ℕ, _≤_}
 use native.Mathlib.Omega.{arith}
 use lib.ListN.{length, length-append, length-map, length-replicate}
 use Rattle.numbers.specs.Arrays.{padded}
-use Rattle.graph.specs.declared.walks.Path.{Path}
+use Rattle.graph.specs.declared.walks.PathBranches.{PathBranches}
 use Rattle.graph.specs.declared.walks.Walk.{Walk}
 use Rattle.graph.specs.Walk.{Visit}
 use Rattle.graph.specs.Rows.{filled, walked, pathOf}
@@ -21,8 +21,8 @@ walked-few w o e l =
     let h = filled-few _ (sym (ap (λ (x : Walk). length (x .bus)) e) ∙ l) in
     omega (arith, simp length-map at h)
 
-pub path-few : (p : Path) (l : List ℕ) → p ≡ pathOf l → length (p .branch) ≡ 256 → p .count ≤ 256
+pub path-few : (p : PathBranches) (l : List ℕ) → p ≡ pathOf l → length (p .branch) ≡ 256 → p .count ≤ 256
 unfolding pathOf
 path-few p l e h =
-    let c : p .count ≡ length l = ap (λ (x : Path). x .count) e in
-    omega (arith, filled-few l (sym (ap (λ (x : Path). length (x .branch)) e) ∙ h))
+    let c : p .count ≡ length l = ap (λ (x : PathBranches). x .count) e in
+    omega (arith, filled-few l (sym (ap (λ (x : PathBranches). length (x .branch)) e) ∙ h))

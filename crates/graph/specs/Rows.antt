@@ -11,7 +11,7 @@ use Rattle.numbers.specs.Counts.{count}
 use Rattle.numbers.specs.Arrays.{padded}
 use Rattle.graph.specs.declared.rows.Graph.{Graph}
 use Rattle.graph.specs.declared.walks.Walk.{Walk}
-use Rattle.graph.specs.declared.walks.Path.{Path}
+use Rattle.graph.specs.declared.walks.PathBranches.{PathBranches}
 use Rattle.graph.specs.Graph.{Net}
 use Rattle.graph.specs.Walk.{Visit, across, pathBy}
 use Rattle.graph.specs.Radial.{radialBy}
@@ -33,7 +33,7 @@ unfoldable pub walked : List Visit → Walk
 walked o = record { count = length o; bus = filled (map (λ (v : Visit). v .bus) o); by = filled (map (λ (v : Visit). v .by) o) }
 
 -- the answer that holds these branches
-unfoldable pub pathOf : List ℕ → Path
+unfoldable pub pathOf : List ℕ → PathBranches
 pathOf l = record { count = length l; branch = filled l }
 
 -- the bus at the other end of half-branch h

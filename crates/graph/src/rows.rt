@@ -9,17 +9,17 @@ use numbers::wide8;
 use numbers::wide16;
 
 // Half-branch 2k is branch k at its from bus, half-branch 2k + 1 is branch k at its to bus; far has the bus at its other end.
-// The row of a bus is its half-branches by rising position: first has the lowest, next the next higher one, 1024 is none.
+// The row of a bus is its half-branches by rising position: first has the lowest, next the next higher one, NO_HALF is none.
 pub struct Graph {
     pub bus_count: u16,
     pub branch_count: u16,
-    pub far: [u8; 1024],
-    pub first: [u16; 256],
-    pub next: [u16; 1024],
+    pub far: [u8; Graph::MAX_HALVES],
+    pub first: [u16; Graph::MAX_BUSES],
+    pub next: [u16; Graph::MAX_HALVES],
 }
 
 // Half-branch h goes in front of bus u's row.
-fn put_half(first: &mut [u16; 256], next: &mut [u16; 1024], u: u8, h: u16)
+fn put_half(first: &mut [u16; Graph::MAX_BUSES], next: &mut [u16; Graph::MAX_HALVES], u: u8, h: u16)
     requires { ⌜ (length (now first) ≡ 256) × (length (now next) ≡ 1024) × (h < 1024) ⌝ }
     ensures { λ _. ⌜ (now (first .exit) ≡ set (now (first .entry)) u h) × (now (next .exit) ≡ set (now (next .entry)) h (getD (now (first .entry)) u 0)) ⌝ }
 {
@@ -30,7 +30,13 @@ fn put_half(first: &mut [u16; 256], next: &mut [u16; 1024], u: u8, h: u16)
 }
 
 // Branch k goes into the rows of its buses. With equal ends it stands there once.
-fn put_branch(first: &mut [u16; 256], next: &mut [u16; 1024], k: u16, from: u8, to: u8)
+fn put_branch(
+    first: &mut [u16; Graph::MAX_BUSES],
+    next: &mut [u16; Graph::MAX_HALVES],
+    k: u16,
+    from: u8,
+    to: u8,
+)
     requires { ⌜ (length (now first) ≡ 256) × (length (now next) ≡ 1024) × (k < 512) ⌝ }
     ensures { λ _. ⌜ rows (now (first .exit)) (now (next .exit)) ≡ putBranch k from to (rows (now (first .entry)) (now (next .entry))) ⌝ }
 {
@@ -44,12 +50,15 @@ fn put_branch(first: &mut [u16; 256], next: &mut [u16; 1024], k: u16, from: u8, 
 }
 
 // The bus at the other end of each half-branch.
-fn far_ends(from: &[u8; 512], to: &[u8; 512]) -> [u8; 1024]
+fn far_ends(
+    from: &[u8; Graph::MAX_BRANCHES],
+    to: &[u8; Graph::MAX_BRANCHES],
+) -> [u8; Graph::MAX_HALVES]
     ensures { λ r. ⌜ r ≡ farOf (now (from .entry)) (now (to .entry)) ⌝ }
 {
-    let mut far = [0u8; 1024];
+    let mut far = [0u8; Graph::MAX_HALVES];
     let mut k = 0usize;
-    while k < 512 {
+    while k < Graph::MAX_BRANCHES {
         far[2 * k] = to[k];
         far[2 * k + 1] = from[k];
         k += 1;
@@ -58,14 +67,31 @@ fn far_ends(from: &[u8; 512], to: &[u8; 512]) -> [u8; 1024]
 }
 
 impl Graph {
+    // A bus position is a u8.
+    pub const MAX_BUSES: usize = 256;
+
+    // As many as a network has, which stands above: its arrays are handed over as a graph's, so that other lengths would not compile.
+    pub const MAX_BRANCHES: usize = 512;
+
+    // Each branch has two halves.
+    pub const MAX_HALVES: usize = 2 * Graph::MAX_BRANCHES;
+
+    // What stands in a row's first and next where there is no half-branch: one more than the last.
+    pub const NO_HALF: u16 = Graph::MAX_HALVES as u16;
+
     // From the last listed branch to the first, each in front of its buses' rows. Branches from branch_count on are in no row.
-    pub fn new(bus_count: u16, branch_count: u16, from: [u8; 512], to: [u8; 512]) -> Graph
+    pub fn new(
+        bus_count: u16,
+        branch_count: u16,
+        from: [u8; Graph::MAX_BRANCHES],
+        to: [u8; Graph::MAX_BRANCHES],
+    ) -> Graph
         ensures { λ r. ⌜ r ≡ graphOf «bus_count» «branch_count» from to ⌝ }
     {
         let far = far_ends(&from, &to);
-        let n = at_most(wide16(branch_count), 512);
-        let mut first = [1024u16; 256];
-        let mut next = [1024u16; 1024];
+        let n = at_most(wide16(branch_count), Graph::MAX_BRANCHES);
+        let mut first = [Graph::NO_HALF; Graph::MAX_BUSES];
+        let mut next = [Graph::NO_HALF; Graph::MAX_HALVES];
         let mut i = 0usize;
         while i < n {
             let k = n - (i + 1);

@@ -11,14 +11,24 @@ use network::topology::PowerNetwork;
 use numbers::at_most;
 use numbers::wide16;
 
-// The ids of a list by position, and the positions by their ids' buckets: first has the lowest position in a bucket, next the next higher one, 512 is none.
+// The ids of a list by position, and the positions by their ids' buckets: first has the lowest position in a bucket, next the next higher one, NO_POSITION is none.
 pub struct IdRows {
-    pub ids: [u16; 512],
-    pub first: [u16; 256],
-    pub next: [u16; 512],
+    pub ids: [u16; IdRows::MAX_IDS],
+    pub first: [u16; IdRows::BUCKETS],
+    pub next: [u16; IdRows::MAX_IDS],
 }
 
-// Any number below 256 is right. This one, by 65,536 times the golden ratio's fraction, spreads ids that rise in equal steps.
+impl IdRows {
+    // Of the two lists whose ids are looked up, buses and switches, the second is the longer one.
+    pub const MAX_IDS: usize = PowerNetwork::MAX_SWITCHES;
+
+    pub const BUCKETS: usize = 256;
+
+    // What stands in a row's first and next where there is no position: one more than the last.
+    pub const NO_POSITION: u16 = IdRows::MAX_IDS as u16;
+}
+
+// Any number below BUCKETS is right. This one, by 65,536 times the golden ratio's fraction, spreads ids that rise in equal steps.
 fn bucket(id: u16) -> usize
     ensures { λ r. ⌜ (r ≡ bucketOf id) × (r < 256) ⌝ }
 {
@@ -26,12 +36,12 @@ fn bucket(id: u16) -> usize
 }
 
 // The rows of the first n ids: from the last position to the first, each in front of its row.
-fn rows_of(ids: [u16; 512], n: usize) -> IdRows
+fn rows_of(ids: [u16; IdRows::MAX_IDS], n: usize) -> IdRows
     requires { ⌜ n ≤ 512 ⌝ }
     ensures { λ r. ⌜ r ≡ rowsOf ids n ⌝ }
 {
-    let mut first = [512u16; 256];
-    let mut next = [512u16; 512];
+    let mut first = [IdRows::NO_POSITION; IdRows::BUCKETS];
+    let mut next = [IdRows::NO_POSITION; IdRows::MAX_IDS];
     let mut i: usize = 0;
     while i < n {
         let at = n - 1 - i;
@@ -43,11 +53,11 @@ fn rows_of(ids: [u16; 512], n: usize) -> IdRows
     IdRows { ids, first, next }
 }
 
-fn bus_ids(buses: [Bus; 256], n: usize) -> [u16; 512]
+fn bus_ids(buses: [Bus; PowerNetwork::MAX_BUSES], n: usize) -> [u16; IdRows::MAX_IDS]
     requires { ⌜ n ≤ 256 ⌝ }
     ensures { λ r. ⌜ r ≡ idArray (map busId (take n buses)) ⌝ }
 {
-    let mut ids = [0u16; 512];
+    let mut ids = [0u16; IdRows::MAX_IDS];
     let mut i: usize = 0;
     while i < n {
         ids[i] = buses[i].id;
@@ -57,18 +67,18 @@ fn bus_ids(buses: [Bus; 256], n: usize) -> [u16; 512]
 }
 
 // The rows of the listed buses.
-pub fn bus_rows(buses: [Bus; 256], count: usize) -> IdRows
+pub fn bus_rows(buses: [Bus; PowerNetwork::MAX_BUSES], count: usize) -> IdRows
     ensures { λ r. ⌜ r ≡ idRows (map busId (take count buses)) ⌝ }
 {
-    let n = at_most(count, PowerNetwork::MAX_BUSES as usize);
+    let n = at_most(count, PowerNetwork::MAX_BUSES);
     rows_of(bus_ids(buses, n), n)
 }
 
-fn switch_ids(switches: [Switch; 512], n: usize) -> [u16; 512]
+fn switch_ids(switches: [Switch; PowerNetwork::MAX_SWITCHES], n: usize) -> [u16; IdRows::MAX_IDS]
     requires { ⌜ n ≤ 512 ⌝ }
     ensures { λ r. ⌜ r ≡ idArray (map switchId (take n switches)) ⌝ }
 {
-    let mut ids = [0u16; 512];
+    let mut ids = [0u16; IdRows::MAX_IDS];
     let mut i: usize = 0;
     while i < n {
         ids[i] = switches[i].id;
@@ -78,19 +88,19 @@ fn switch_ids(switches: [Switch; 512], n: usize) -> [u16; 512]
 }
 
 // The rows of the listed switches.
-pub fn switch_rows(switches: [Switch; 512], count: usize) -> IdRows
+pub fn switch_rows(switches: [Switch; PowerNetwork::MAX_SWITCHES], count: usize) -> IdRows
     ensures { λ r. ⌜ r ≡ idRows (map switchId (take count switches)) ⌝ }
 {
-    let n = at_most(count, PowerNetwork::MAX_SWITCHES as usize);
+    let n = at_most(count, PowerNetwork::MAX_SWITCHES);
     rows_of(switch_ids(switches, n), n)
 }
 
 // The first position of an id among count ids in rows, and count where it has none (`IdLaws.position-found`). Rows of no list of ids are followed all the
 // same, count steps at most.
 pub fn position_of<'a>(
-    ids: &'a [u16; 512],
-    first: &'a [u16; 256],
-    next: &'a [u16; 512],
+    ids: &'a [u16; IdRows::MAX_IDS],
+    first: &'a [u16; IdRows::BUCKETS],
+    next: &'a [u16; IdRows::MAX_IDS],
     count: usize,
     id: u16,
 ) -> usize
@@ -100,7 +110,7 @@ pub fn position_of<'a>(
     let mut at = wide16(first[row]);
     let mut i: usize = 0;
     while i < count {
-        if 512 <= at {
+        if IdRows::MAX_IDS <= at {
             return count;
         }
         if ids[at] == id {

@@ -1,49 +1,44 @@
--- Where a line ends, found character after character.
-use mathlib.Core.Path.{_≡_, refl, _∙_}
-use mathlib.Core.Bool.{true}
+-- Where a line ends, as it is found: the first line feed among so many characters, or behind the last of them.
+use mathlib.Core.Path.{_≡_, refl, sym, subst}
+use mathlib.Core.Bool.{Bool, true, false}
 use mathlib.Core.List.{List, [], _∷_}
-use mathlib.Core.Logic.{inl, inr}
-use Prim.Native.Nat.{ℕ, _+_, _≤_, _<_}
+use mathlib.Core.Logic.{_⊎_, inl, inr}
+use Prim.Native.Nat.{ℕ, zero, suc, _+_, _-_, _≤_, min}
+use native.Mathlib.Nat.{zero-add}
 use native.Mathlib.Omega.{arith}
-use native.Mathlib.Numerals.{add-one}
-use lib.ListN.{length, take, drop, getD, length-drop}
-use lib.Seq.{take-suc, getD-drop}
-use borrow.Author.Tests.{ne-eqb}
-use Rattle.numbers.specs.Every.{every, every-append}
+use lib.Dec.{eqb}
+use lib.ListN.{length, take, drop, getD}
+use borrow.Author.Tests.{eqb-true}
+use Rattle.bytes.specs.Bytes.{indexOf, indexAfter, slice}
+use Rattle.numbers.specs.Every.{every}
+use Rattle.numbers.specs.Parts.{part-rest, take-within}
 use Rattle.lines.specs.CutLaws.{noFeed}
 use Rattle.lines.specs.FirstLine.{LineEnd}
 
--- n characters from `at` on are no line feed
-pub record Sought (t : List ℕ) (at n : ℕ) : Type 0 where
-  pub within : at + n ≤ length t
-  pub few : n ≤ 37
-  pub no-feed : every noFeed (take n (drop at t)) ≡ true
+-- n of the first k characters come before a line feed or the end
+abbrev Ended : ℕ → List ℕ → ℕ → Type 0
+Ended k t n = (n ≤ length t) × (every noFeed (take n t) ≡ true) × ((k ≤ n) ⊎ (n ≡ length t) ⊎ (getD t n 0 ≡ 10))
 
-module _ (t : List ℕ) (at : ℕ) where
-  pub none-sought : at ≤ length t → Sought t at 0
-  unfolding every
-  none-sought h = record { within = omega arith; few = omega arith; no-feed = refl }
+first-feed : (k : ℕ) (t : List ℕ) → Ended k t (indexOf 10 (take k t))
+unfolding indexOf every
+first-feed zero t = (omega arith, refl, inl (omega arith))
+first-feed (suc k) [] = (omega arith, refl, inr (inl refl))
+first-feed (suc k) (c ∷ t) = go (eqb c 10) refl (first-feed k t)
+  where
+    ends : {n : ℕ} → (k ≤ n) ⊎ (n ≡ length t) ⊎ (getD t n 0 ≡ 10) → (suc k ≤ suc n) ⊎ (suc n ≡ suc (length t)) ⊎ (getD t n 0 ≡ 10)
+    ends (inl h) = inl (omega arith)
+    ends (inr (inl e)) = inr (inl (omega arith))
+    ends (inr (inr e)) = inr (inr e)
 
-  module _ {n : ℕ} (s : Sought t at n) where
-    short : n ≤ length (drop at t)
-    short = rw (length-drop at t) (omega (arith, s .within))
+    go : (b : Bool) → eqb c 10 ≡ b → Ended k t (indexOf 10 (take k t)) → Ended (suc k) (c ∷ t) (indexAfter b (indexOf 10 (take k t)))
+    go true e f = unfold indexAfter in (omega arith, refl, inr (inr (eqb-true c 10 e)))
+    go false e f = unfold indexAfter in (omega arith, rw (e, f .1), ends (f .2))
 
-    pub other-sought : n ≤ 36 → (at + n ≡ length t → ⊥) → (getD t (at + n) 0 ≡ 10 → ⊥) → Sought t at (n + 1)
-    unfolding every
-    other-sought f m c =
-        let inside : n < length (drop at t) = rw (length-drop at t) (omega (arith, s .within, m)) in
-        let next : every noFeed (getD (drop at t) n 0 ∷ []) ≡ true = rw (getD-drop at t n 0, ne-eqb _ 10 c) in
-        record {
-          within = omega (arith, s .within, m);
-          few = omega arith;
-          no-feed = rw (add-one n, take-suc (drop at t) n 0 inside) (every-append noFeed (take n (drop at t)) (getD (drop at t) n 0 ∷ []) (s .no-feed) next);
-        }
-
-    pub text-ends : at + n ≡ length t → LineEnd (drop at t) n
-    text-ends e = record { within = short; no-feed = s .no-feed; ends = inr (inl (rw (length-drop at t) (omega arith))) }
-
-    pub feed-found : getD t (at + n) 0 ≡ 10 → LineEnd (drop at t) n
-    feed-found e = record { within = short; no-feed = s .no-feed; ends = inr (inr (getD-drop at t n 0 ∙ e)) }
-
-    pub line-long : 36 < n → LineEnd (drop at t) n
-    line-long h = record { within = short; no-feed = s .no-feed; ends = inl (omega arith) }
+-- the line that begins at `at`: among its first 37 characters
+pub line-ends : (t : List ℕ) (at size n : ℕ) → let rest = take (length t - at) (drop at t) in
+    size ≡ min 37 (length rest) → n ≡ 0 + indexOf 10 (slice 0 size rest) → LineEnd (drop at t) n
+unfolding slice
+line-ends t at size n s e =
+    let found : n ≡ indexOf 10 (take 37 (drop at t)) = rw (e, s, take-within, part-rest) (zero-add _) in
+    let f = subst (Ended 37 (drop at t)) (sym found) (first-feed 37 (drop at t)) in
+    record { within = f .0; no-feed = f .1; ends = f .2 }

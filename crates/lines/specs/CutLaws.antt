@@ -3,15 +3,15 @@ use mathlib.Core.Path.{_≡_, refl, sym, ap, ap₂, subst, _∙_}
 use mathlib.Core.Logic.{_⊎_, inl, inr}
 use mathlib.Core.Bool.{Bool, true, false, cond, not}
 use mathlib.Core.List.{List, [], _∷_, _++_, append-nil}
-use Prim.Native.Nat.{ℕ, suc, _<_}
+use Prim.Native.Nat.{ℕ, zero, suc, _+_, _/_, _%_, _^_, _<_}
 use native.Mathlib.Omega.{arith}
-use lib.Dec.{eqb, lit<}
+use lib.Dec.{ltb, eqb, lit<}
 use lib.ListN.{length}
-use borrow.Author.Tests.{eqb-true, not-true}
+use borrow.Author.Tests.{ne-eqb, eqb-true, not-true}
 use Rattle.numbers.specs.Tests.{both, clash}
-use Rattle.numbers.specs.Every.{every}
+use Rattle.numbers.specs.Every.{every, every-append}
 use Rattle.network.specs.Inside.{Each}
-use Rattle.lines.specs.Hex.{isDigit}
+use Rattle.lines.specs.Hex.{isDigit, digit, digits, Fields, writeFields}
 use Rattle.lines.specs.HexLaws.{digit-no-feed}
 use Rattle.lines.specs.Lines.{Line, put, cut}
 
@@ -119,3 +119,22 @@ pub record DigitLine (l : Line) : Type 0 where
 pub digit-lines : (ls : List Line) → Each DigitLine ls → AreLines ls
 digit-lines [] h = tt
 digit-lines (l ∷ ls) h = (digits-no-feed (l .chars) (h .0 .is-digits), inl (h .0 .is-ended), digit-lines ls (h .1))
+
+-- ---- no line feed stands in what is written of a number, whatever the number
+digit-written-no-feed : (n : ℕ) → noFeed (digit n) ≡ true
+unfolding digit
+digit-written-no-feed n = go (ltb n 10)
+  where
+    go : (b : Bool) → noFeed (cond b (48 + n) (55 + n)) ≡ true
+    go true = rw (ne-eqb (48 + n) 10 (λ e. omega arith))
+    go false = rw (ne-eqb (55 + n) 10 (λ e. omega arith))
+
+digits-written-no-feed : (w n : ℕ) → every noFeed (digits w n) ≡ true
+unfolding digits every
+digits-written-no-feed zero n = refl
+digits-written-no-feed (suc w) n = rw (digit-written-no-feed (n / 16 ^ w)) (digits-written-no-feed w (n % 16 ^ w))
+
+pub written-no-feed : (ws : List ℕ) (f : Fields ws) → every noFeed (writeFields ws f) ≡ true
+unfolding writeFields every
+written-no-feed [] f = refl
+written-no-feed (w ∷ ws) f = every-append noFeed (digits w (f .0)) (writeFields ws (f .1)) (digits-written-no-feed w (f .0)) (written-no-feed ws (f .1))

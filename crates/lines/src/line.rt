@@ -6,7 +6,9 @@ ghost use Rattle.network.specs.Answers.{answerOf};
 ghost use Rattle.lines.specs.Lines.{cut, characterFaults};
 ghost use Rattle.lines.specs.FirstLine.{LineEnd, judgeFirst, judgeFrame, judgeEnd};
 use crate::hex;
+use bytes::scan::find;
 use network::error::Verdict;
+use numbers::at_most;
 
 // "a line over 36 characters is 2 whatever they are"
 const LONGEST: usize = 36;
@@ -16,18 +18,8 @@ fn line_length(text: &[u8], at: usize) -> usize
     requires { ⌜ at ≤ length (now text) ⌝ }
     ensures { λ n. ⌜ LineEnd (drop at (now (text .entry))) n ⌝ }
 {
-    let mut n = 0usize;
-    while n <= LONGEST {
-        let i = at + n;
-        if i == text.len() {
-            return n;
-        }
-        if text[i] == 10 {
-            return n;
-        }
-        n += 1;
-    }
-    n
+    let rest = &text[at..];
+    find(rest, 0, at_most(LONGEST + 1, rest.len()), 10)
 }
 
 // What the characters of a line are refused for whatever is wanted: 2 where there are over 36, 1 where the line is unended or odd or has another character.

@@ -14,32 +14,32 @@ use numbers::wide16;
 
 // The list of bus u is near from at[u] to at[u + 1].
 pub struct LiveLists {
-    pub at: [u16; 257],
-    pub near: [u8; 1024],
+    pub at: [u16; Graph::MAX_BUSES + 1],
+    pub near: [u8; Graph::MAX_HALVES],
 }
 
 // Bus x is put behind those listed, by a live branch and where there is room.
-fn put_behind(near: &mut [u8; 1024], end: u16, live: bool, x: u8) -> u16
+fn put_behind(near: &mut [u8; Graph::MAX_HALVES], end: u16, live: bool, x: u8) -> u16
     ensures { λ r. ⌜ ((l : List ℕ) → Listing l (now (near .entry)) end → Listing (listLive live l x) (now (near .exit)) r) ⌝ }
 {
     if !live {
         return end;
     }
-    if 1024 <= end {
+    let at = wide16(end);
+    if Graph::MAX_HALVES <= at {
         return end;
     }
-    let at = wide16(end);
     near[at] = x;
     end + 1
 }
 
-// The far ends of the row that begins with half-branch first are listed: 1,024 at most, so that any row ends.
+// The far ends of the row that begins with half-branch first are listed: MAX_HALVES at most, so that any row ends.
 fn list_row(
-    far: &[u8; 1024],
-    next: &[u16; 1024],
-    live: &[bool; 512],
+    far: &[u8; Graph::MAX_HALVES],
+    next: &[u16; Graph::MAX_HALVES],
+    live: &[bool; Graph::MAX_BRANCHES],
     first: u16,
-    near: &mut [u8; 1024],
+    near: &mut [u8; Graph::MAX_HALVES],
     count: u16,
 ) -> u16
     ensures { λ r. ⌜ ((l : List ℕ) → Listing l (now (near .entry)) count
@@ -47,9 +47,9 @@ fn list_row(
 {
     let mut end = count;
     let mut h = first;
-    let mut i = 0u16;
-    while i < 1024 {
-        if 1024 <= h {
+    let mut i = 0usize;
+    while i < Graph::MAX_HALVES {
+        if Graph::NO_HALF <= h {
             return end;
         }
         let half = wide16(h);
@@ -61,17 +61,17 @@ fn list_row(
     end
 }
 
-// The lists of a graph's buses, read off their rows, 1,024 entries at most: room for every list of a graph of at most 256 buses
+// The lists of a graph's buses, read off their rows, MAX_HALVES entries at most: room for every list of a graph of at most MAX_BUSES buses
 // that Graph::new made.
-pub fn live_lists(graph: Graph, live: &[bool; 512]) -> LiveLists
+pub fn live_lists(graph: Graph, live: &[bool; Graph::MAX_BRANCHES]) -> LiveLists
     ensures { λ r. ⌜ r ≡ liveLists graph (now (live .entry)) ⌝ }
 {
-    let n = at_most(wide16(graph.bus_count), 256);
+    let n = at_most(wide16(graph.bus_count), Graph::MAX_BUSES);
     let far = graph.far;
     let first = graph.first;
     let next = graph.next;
-    let mut at = [0u16; 257];
-    let mut near = [0u8; 1024];
+    let mut at = [0u16; Graph::MAX_BUSES + 1];
+    let mut near = [0u8; Graph::MAX_HALVES];
     let mut end = 0u16;
     let mut u = 0usize;
     while u < n {
@@ -83,7 +83,12 @@ pub fn live_lists(graph: Graph, live: &[bool; 512]) -> LiveLists
 }
 
 // Bus x is put behind those reached, unless it is marked: barred, or reached already.
-fn enter(seen: &mut [bool; 256], bus: &mut [u8; 256], count: u16, x: u8) -> u16
+fn enter(
+    seen: &mut [bool; Graph::MAX_BUSES],
+    bus: &mut [u8; Graph::MAX_BUSES],
+    count: u16,
+    x: u8,
+) -> u16
     requires { ⌜ ((barred : ℕ) × (o : List Visit) × Reaching barred o (now seen) (now bus) count) ⌝ }
     ensures { λ r. ⌜ ((barred : ℕ) (o : List Visit) → Reaching barred o (now (seen .entry)) (now (bus .entry)) count
         → Reaching barred (enter barred o (visit x 0)) (now (seen .exit)) (now (bus .exit)) r) ⌝ }
@@ -100,11 +105,11 @@ fn enter(seen: &mut [bool; 256], bus: &mut [u8; 256], count: u16, x: u8) -> u16
 
 // The buses of bus u's list are entered.
 fn expand(
-    at: &[u16; 257],
-    near: &[u8; 1024],
+    at: &[u16; Graph::MAX_BUSES + 1],
+    near: &[u8; Graph::MAX_HALVES],
     u: u8,
-    seen: &mut [bool; 256],
-    bus: &mut [u8; 256],
+    seen: &mut [bool; Graph::MAX_BUSES],
+    bus: &mut [u8; Graph::MAX_BUSES],
     count: u16,
 ) -> u16
     requires { ⌜ ((barred : ℕ) × (o : List Visit) × Reaching barred o (now seen) (now bus) count) ⌝ }
@@ -112,7 +117,7 @@ fn expand(
         → Reaching barred (enterAll barred o (listed (now (at .entry)) (now (near .entry)) u)) (now (seen .exit)) (now (bus .exit)) r) ⌝ }
 {
     let x = wide8(u);
-    let last = at_most(wide16(at[x + 1]), 1024);
+    let last = at_most(wide16(at[x + 1]), Graph::MAX_HALVES);
     let mut end = count;
     let mut i = wide16(at[x]);
     while i < last {
@@ -123,11 +128,17 @@ fn expand(
 }
 
 // The load of the buses that a walk by the lists reaches from start without entering the barred bus, added in the walk's order: each as its neighbours are entered.
-pub fn walk_load(at: &[u16; 257], near: &[u8; 1024], mw: &[f64; 256], start: u8, barred: u8) -> f64
+pub fn walk_load(
+    at: &[u16; Graph::MAX_BUSES + 1],
+    near: &[u8; Graph::MAX_HALVES],
+    mw: &[f64; Graph::MAX_BUSES],
+    start: u8,
+    barred: u8,
+) -> f64
     ensures { λ r. ⌜ r ≡ busLoad (now (mw .entry)) (walkBy (listed (now (at .entry)) (now (near .entry))) start barred) ⌝ }
 {
-    let mut seen = [false; 256];
-    let mut bus = [0u8; 256];
+    let mut seen = [false; Graph::MAX_BUSES];
+    let mut bus = [0u8; Graph::MAX_BUSES];
     let bar = wide8(barred);
     seen[bar] = true;
     let here = wide8(start);

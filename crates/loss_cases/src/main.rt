@@ -4,6 +4,7 @@
 ghost use mathlib.Core.Path.{_≡_};
 ghost use Prim.Native.Nat.{_≤_};
 ghost use lib.ListN.{length};
+use cases::MAX_STATE;
 use cases::first_case;
 use cases::line_behind;
 use cases::part_of;
@@ -68,7 +69,7 @@ fn print_text(text: &[u8], line: &[u8]) {
         return;
     };
     let state = state_bytes(&line[2..]);
-    let n = at_most(line.len() - 2, 1024);
+    let n = at_most(line.len() - 2, MAX_STATE);
     let network = changed(reading.network, line[0]);
     print_answer(evaluate_config(network, &state[0..n]));
 }

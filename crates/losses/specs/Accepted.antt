@@ -14,7 +14,7 @@ use Rattle.network.specs.Check.{checkRecords}
 use Rattle.network.specs.Inside.{Inside}
 use Rattle.network.specs.InsideLaws.{check-inside}
 use Rattle.states.specs.Live.{live}
-use Rattle.network.specs.Positions.{each-at}
+use Rattle.network.specs.EachLaws.{each-at}
 use Rattle.network.specs.Records.{Network, noBus, noBranch}
 use Rattle.radiality.specs.Feeder.{feeder}
 use Rattle.radiality.specs.FeederLaws.{feeder-sound}

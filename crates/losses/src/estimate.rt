@@ -12,16 +12,17 @@ use lists::lists::live_lists;
 use lists::lists::walk_load;
 use network::branch::Branch;
 use network::bus::Power;
+use network::topology::PowerNetwork;
 use numbers::at_most;
 use numbers::wide16;
 
 // The loads as plain numbers: an array of these can be lent.
-fn megawatts(loads: [Power; 256]) -> [f64; 256]
+fn megawatts(loads: [Power; PowerNetwork::MAX_BUSES]) -> [f64; PowerNetwork::MAX_BUSES]
     ensures { λ r. ⌜ r ≡ megawattsOf loads ⌝ }
 {
-    let mut mw = [0.0; 256];
+    let mut mw = [0.0; PowerNetwork::MAX_BUSES];
     let mut i = 0usize;
-    while i < 256 {
+    while i < PowerNetwork::MAX_BUSES {
         mw[i] = loads[i].0;
         i += 1;
     }
@@ -30,9 +31,9 @@ fn megawatts(loads: [Power; 256]) -> [f64; 256]
 
 // The load downstream of a branch: of the buses that a walk reaches from its to bus without entering its from bus. Lists and loads are lent: no walk copies them.
 fn downstream_load_mw<'a>(
-    at: &'a [u16; 257],
-    near: &'a [u8; 1024],
-    mw: &[f64; 256],
+    at: &'a [u16; Graph::MAX_BUSES + 1],
+    near: &'a [u8; Graph::MAX_HALVES],
+    mw: &[f64; PowerNetwork::MAX_BUSES],
     to: u8,
     from: u8,
 ) -> Power
@@ -52,10 +53,10 @@ fn branch_term(branch: Branch, load: Power, base_mva: f64) -> f64
 // The loss in the live ones among the first n branches, by rising position.
 fn total_loss(
     lists: LiveLists,
-    far: &[u8; 1024],
-    mw: &[f64; 256],
-    live: &[bool; 512],
-    branches: [Branch; 512],
+    far: &[u8; Graph::MAX_HALVES],
+    mw: &[f64; PowerNetwork::MAX_BUSES],
+    live: &[bool; Graph::MAX_BRANCHES],
+    branches: [Branch; PowerNetwork::MAX_BRANCHES],
     base_mva: f64,
     n: usize,
 ) -> f64
@@ -77,13 +78,13 @@ fn total_loss(
 }
 
 // The loss of a state, in megawatts: live branches by rising position. The neighbours by live branches are listed once, and each walk reads the lists; on every graph
-// of Graph::new with at most 256 buses whose ends are buses of it that is the loss by document 01's scan.
+// of Graph::new with at most MAX_BUSES buses whose ends are buses of it that is the loss by document 01's scan.
 pub fn compute_losses_estimate(
     graph: Graph,
-    loads: [Power; 256],
-    branches: [Branch; 512],
+    loads: [Power; PowerNetwork::MAX_BUSES],
+    branches: [Branch; PowerNetwork::MAX_BRANCHES],
     base_mva: f64,
-    live: [bool; 512],
+    live: [bool; Graph::MAX_BRANCHES],
 ) -> f64
     ensures { λ r. ⌜ (r ≡ listLoss graph loads branches «base_mva» live) × NetLoss graph loads branches «base_mva» live r ⌝ }
 {
@@ -93,6 +94,6 @@ pub fn compute_losses_estimate(
     let lists = live_lists(graph, &live);
     let far = graph.far;
     let mw = megawatts(loads);
-    let n = at_most(wide16(graph.branch_count), 512);
+    let n = at_most(wide16(graph.branch_count), Graph::MAX_BRANCHES);
     total_loss(lists, &far, &mw, &live, branches, base_mva, n)
 }

@@ -24,12 +24,12 @@ pub enum LossAnswer {
 }
 
 // The loads of buses, in their order. An array of buses is handed over, so that no call copies the network.
-fn loads_at(buses: [Bus; 256]) -> [Power; 256]
+fn loads_at(buses: [Bus; PowerNetwork::MAX_BUSES]) -> [Power; PowerNetwork::MAX_BUSES]
     ensures { λ r. ⌜ r ≡ loadsAt buses ⌝ }
 {
-    let mut loads = [Power(0.0); 256];
+    let mut loads = [Power(0.0); PowerNetwork::MAX_BUSES];
     let mut i: usize = 0;
-    while i < 256 {
+    while i < PowerNetwork::MAX_BUSES {
         let bus = buses[i];
         let pd = bus.pd;
         loads[i] = pd;
@@ -39,7 +39,7 @@ fn loads_at(buses: [Bus; 256]) -> [Power; 256]
 }
 
 // The loads by bus position.
-pub fn loads_of(network: PowerNetwork) -> [Power; 256]
+pub fn loads_of(network: PowerNetwork) -> [Power; PowerNetwork::MAX_BUSES]
     ensures { λ r. ⌜ r ≡ loadsOf network ⌝ }
 {
     let buses = network.buses;

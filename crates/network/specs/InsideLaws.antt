@@ -22,6 +22,7 @@ use Rattle.network.specs.Faults.{headFaults, busFaults, branchFaults, sw
 use Rattle.network.specs.TieLaws.{ties-more}
 use Rattle.network.specs.Check.{headOf, checkRun, checkRecords}
 use Rattle.network.specs.Inside.{Each, HasBus, Inside}
+use Rattle.network.specs.EachLaws.{each-map}
 
 -- ---- Q holds of each of the list, with those before it
 abbrev Through : {A : Type 0} → (List A → A → Type 0) → List A → List A → Type 0
@@ -55,10 +56,6 @@ module _ {A : Type 0} where
   each-through : (P : A → Type 0) (before l : List A) → Each P l → Through (λ b a. P a) before l
   each-through P before [] h = tt
   each-through P before (a ∷ rest) h = (h .0, each-through P (before ++ (a ∷ [])) rest (h .1))
-
-  each-map : (P Q : A → Type 0) (l : List A) → ((a : A) → P a → Q a) → Each P l → Each Q l
-  each-map P Q [] f h = tt
-  each-map P Q (a ∷ rest) f h = (f a (h .0), each-map P Q rest f (h .1))
 
 -- ---- membership
 pub among-mem : (x : ℕ) (ys : List ℕ) → among x ys ≡ true → List·Memᴰ x ys

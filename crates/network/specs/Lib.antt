@@ -4,6 +4,7 @@ pub mod Limits
 pub mod Faults
 pub mod Check
 pub mod Inside
+pub mod EachLaws
 pub mod Lookups
 pub mod AnswerLaws
 pub mod TieLaws

@@ -1,8 +1,7 @@
--- A network inside the limits, by positions: what holds of each record holds of the one at a position, and what stands once in
--- its list is found where it stands.
+-- A network inside the limits, by positions: what its limits say of the record at a position, and what stands once in its list is found where it stands.
 use mathlib.Core.Path.{_≡_, sym, ap, _∙_}
-use mathlib.Core.List.{List, [], _∷_, map, List·Memᴰ}
-use Prim.Native.Nat.{ℕ, zero, suc, _<_}
+use mathlib.Core.List.{List, map, List·Memᴰ}
+use Prim.Native.Nat.{ℕ, _<_}
 use native.Mathlib.Omega.{arith}
 use lib.ListN.{length, getD, length-map, List·getD-map}
 use Rattle.numbers.specs.Choose.{indexOf}
@@ -10,18 +9,8 @@ use Rattle.numbers.specs.ChooseLaws.{index-at}
 use Rattle.numbers.specs.Distinct.{Distinct, distinct-at}
 use Rattle.network.specs.Records.{Network, noBranch, noSwitch}
 use Rattle.network.specs.Limits.{busId, on}
-use Rattle.network.specs.Inside.{Each, Inside}
-
-pub each-at : {A : Type 0} (P : A → Type 0) (l : List A) → Each P l → (i : ℕ) (d : A) → i < length l → P (getD l i d)
-each-at P [] h i d b = absurd (omega arith)
-each-at P (a ∷ l) h zero d b = h .0
-each-at P (a ∷ l) h (suc i) d b = each-at P l (h .1) i d (omega arith)
-
--- where the default passes too, of any position
-pub each-anywhere : {A : Type 0} (P : A → Type 0) (l : List A) (d : A) → Each P l → P d → (i : ℕ) → P (getD l i d)
-each-anywhere P [] d h p i = p
-each-anywhere P (a ∷ l) d h p zero = h .0
-each-anywhere P (a ∷ l) d h p (suc i) = each-anywhere P l d (h .1) p i
+use Rattle.network.specs.Inside.{Inside}
+use Rattle.network.specs.EachLaws.{each-at}
 
 -- a record whose key stands once is found by its key
 pub index-own : {A : Type 0} (key : A → ℕ) (l : List A) → Distinct (map key l) → (i : ℕ) (d : A) → i < length l → indexOf (key (getD l i d)) (map key l) ≡ i

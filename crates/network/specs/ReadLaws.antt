@@ -1,10 +1,10 @@
 -- What code reads out of an array at a position inside it is the record that stands there. A read's own default has NaN where noBus and noBranch have 0.0.
-use mathlib.Core.Path.{_≡_, sym, _∙_}
+use mathlib.Core.Path.{_≡_}
 use mathlib.Core.Bool.{false}
-use mathlib.Core.List.{List, map}
+use mathlib.Core.List.{List}
 use Prim.Native.Nat.{ℕ, _<_}
 use native.Mathlib.Omega.{arith}
-use lib.ListN.{length, getD, length-map}
+use lib.ListN.{length, getD}
 use lib.Ieee.{nan}
 use Rattle.numbers.specs.TableLaws.{any-default}
 use Rattle.network.specs.declared.bus.Bus.{Bus}
@@ -16,10 +16,6 @@ pastBus = record { id = 0; pd = record { 0 = nan } }
 
 abbrev pub pastBranch : Branch
 pastBranch = record { «from_bus» = 0; «to_bus» = 0; r = nan; status = false }
-
--- a parameter's own fact gives an array's length through its elements' parts
-pub length-of : {A B : Type 0} (f : A → B) (l : List A) {n : ℕ} → length (map f l) ≡ n → length l ≡ n
-length-of f l e = sym (length-map l f) ∙ e
 
 pub bus-read : (l : List Bus) (i : ℕ) → length l ≡ 256 → i < 256 → getD l i pastBus ≡ getD l i noBus
 bus-read l i e h = any-default l i pastBus noBus (omega arith)

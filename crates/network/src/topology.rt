@@ -19,9 +19,9 @@ pub enum BusIndex {
 
 // A feeder and what is asked of it. Only the first `bus_count` buses are listed, and so for branches and switches.
 pub struct PowerNetwork {
-    pub buses: [Bus; 256],
-    pub branches: [Branch; 512],
-    pub switches: [Switch; 512],
+    pub buses: [Bus; PowerNetwork::MAX_BUSES],
+    pub branches: [Branch; PowerNetwork::MAX_BRANCHES],
+    pub switches: [Switch; PowerNetwork::MAX_SWITCHES],
     pub bus_count: u16,
     pub branch_count: u16,
     pub switch_count: u16,
@@ -31,16 +31,16 @@ pub struct PowerNetwork {
 }
 
 impl PowerNetwork {
-    pub const MAX_BUSES: u16 = 256;
+    pub const MAX_BUSES: usize = 256;
 
-    pub const MAX_BRANCHES: u16 = 512;
+    pub const MAX_BRANCHES: usize = 512;
 
-    pub const MAX_SWITCHES: u16 = 512;
+    pub const MAX_SWITCHES: usize = 512;
 
     pub const MAX_ITERATIONS: u16 = 1000;
 
     // With method 02, at most ten switches are normally open.
-    pub const MAX_TIES: u16 = 10;
+    pub const MAX_TIES: usize = 10;
 
     // A network in which nothing is listed yet.
     pub fn new(base_mva: f64, algorithm: ReconfigAlgorithm, max_iterations: u16) -> PowerNetwork
@@ -62,9 +62,9 @@ impl PowerNetwork {
             normally_open: false,
             can_operate: false,
         };
-        let buses = [bus; 256];
-        let branches = [branch; 512];
-        let switches = [switch; 512];
+        let buses = [bus; PowerNetwork::MAX_BUSES];
+        let branches = [branch; PowerNetwork::MAX_BRANCHES];
+        let switches = [switch; PowerNetwork::MAX_SWITCHES];
         PowerNetwork {
             buses,
             branches,
@@ -96,7 +96,7 @@ impl PowerNetwork {
     pub fn bus_index(self, bus_id: u16) -> BusIndex
         ensures { λ r. ⌜ r ≡ busIndex (take (self .«bus_count») (self .buses)) «bus_id» ⌝ }
     {
-        let count = at_most(self.bus_count as usize, PowerNetwork::MAX_BUSES as usize);
+        let count = at_most(self.bus_count as usize, PowerNetwork::MAX_BUSES);
         let mut i: usize = 0;
         while i < count {
             if self.buses[i].id == bus_id {

@@ -1,10 +1,10 @@
 -- An array that holds a list: the list's entries in front, a filler behind them.
 use mathlib.Core.Path.{_≡_, refl, sym, ap, _∙_}
 use mathlib.Core.Logic.{_≢_}
-use mathlib.Core.List.{List, [], _∷_, _++_}
+use mathlib.Core.List.{List, [], _∷_, _++_, map}
 use Prim.Native.Nat.{ℕ, zero, suc, _+_, _-_, _≤_, _<_}
 use native.Mathlib.Omega.{arith}
-use lib.ListN.{length, getD, take, set, replicate, length-append, length-replicate}
+use lib.ListN.{length, getD, take, set, replicate, length-append, length-map, length-replicate}
 use lib.Seq.{append-snoc, getD-at, take-at, set-append-seam}
 use Rattle.numbers.specs.UpTo.{table}
 use Rattle.numbers.specs.TableLaws.{as-table, take-table, table-set}
@@ -16,6 +16,10 @@ arrayOf size none l = table (λ i. getD l i none) size
 -- the whole list, also one that is longer than the array
 unfoldable pub padded : {A : Type 0} → ℕ → A → List A → List A
 padded size none l = l ++ replicate (size - length l) none
+
+-- what owning a value of a struct tells of the length of an array in it, it tells through the elements' parts
+pub length-of : {A B : Type 0} (f : A → B) (l : List A) {n : ℕ} → length (map f l) ≡ n → length l ≡ n
+length-of f l e = sym (length-map l f) ∙ e
 
 -- an entry behind a list stands at its end only
 pub beside : {A : Type 0} (none : A) (l : List A) (x : A) (i : ℕ) → i ≢ length l → getD l i none ≡ getD (l ++ (x ∷ [])) i none

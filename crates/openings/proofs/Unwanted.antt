@@ -9,11 +9,11 @@ use lib.ListN.{length, getD, drop, drop-of-length-le}
 use lib.Seq.{drop-cons}
 use Rattle.numbers.specs.Arrays.{getD-padded}
 use Rattle.numbers.specs.Choose.{firstOf}
-use Rattle.graph.specs.declared.walks.Path.{Path}
+use Rattle.graph.specs.declared.walks.PathBranches.{PathBranches}
 use Rattle.graph.specs.Rows.{flag, pathOf}
 use Rattle.openings.specs.Opening.{firstUnwanted}
 
-module _ (path : Path) (wanted : List Bool) where
+module _ (path : PathBranches) (wanted : List Bool) where
   pub record Wanted (i : ℕ) : Type 0 where
     pub within : i ≤ path .count
     rest : (l : List ℕ) → path ≡ pathOf l → firstUnwanted (flag wanted) l ≡ firstUnwanted (flag wanted) (drop i l)
@@ -24,14 +24,14 @@ module _ (path : Path) (wanted : List Bool) where
   module _ (i : ℕ) (w : Wanted i) where
     pub all-wanted : path .count ≤ i → (l : List ℕ) → path ≡ pathOf l → 0 ≡ firstUnwanted (flag wanted) l
     unfolding firstOf pathOf
-    all-wanted h l e = sym (w .rest l e ∙ rw (drop-of-length-le l {i = i} (omega (arith, ap (λ (p : Path). p .count) e))))
+    all-wanted h l e = sym (w .rest l e ∙ rw (drop-of-length-le l {i = i} (omega (arith, ap (λ (p : PathBranches). p .count) e))))
 
     module _ (h : i < path .count) (at : ℕ) (here : at ≡ i) (b : Bool) (f : b ≡ flag wanted (getD (path .branch) at 0)) where
       next-branch : (l : List ℕ) → path ≡ pathOf l → drop i l ≡ getD (path .branch) at 0 ∷ drop (i + 1) l
       unfolding pathOf
       next-branch l e =
-          let k : i < length l = omega (arith, ap (λ (p : Path). p .count) e) in
-          let r : getD (path .branch) i 0 ≡ getD l i 0 = ap (λ (p : Path). getD (p .branch) i 0) e ∙ getD-padded 256 0 l i in
+          let k : i < length l = omega (arith, ap (λ (p : PathBranches). p .count) e) in
+          let r : getD (path .branch) i 0 ≡ getD l i 0 = ap (λ (p : PathBranches). getD (p .branch) i 0) e ∙ getD-padded 256 0 l i in
           rw (here, drop-cons l i 0 k, add-one, r)
 
       pub one-wanted : b ≡ true → Wanted (i + 1)

@@ -6,12 +6,12 @@ ghost use Rattle.graph.specs.Rows.{flag, pathOf};
 ghost use Rattle.openings.specs.Opening.{firstUnwanted, rowOpening};
 use graph::flags::flagged;
 use graph::rows::Graph;
-use graph::walks::Path;
+use graph::walks::PathBranches;
 use numbers::wide16;
 use paths::path::path_of_ends;
 
 // The first branch of a path that is not wanted; 0 where all are.
-fn first_unwanted(path: Path, wanted: &[bool]) -> u16
+fn first_unwanted(path: PathBranches, wanted: &[bool]) -> u16
     requires { ⌜ path .count ≤ 256 ⌝ }
     ensures { λ r. ⌜ ((l : List ℕ) → path ≡ pathOf l → r ≡ firstUnwanted (flag (now (wanted .entry))) l) ⌝ }
 {
@@ -29,7 +29,12 @@ fn first_unwanted(path: Path, wanted: &[bool]) -> u16
 }
 
 // The branch that is opened once branch k is closed: the first unwanted one on the path between its ends, from the from bus.
-pub fn opening(graph: Graph, live: [bool; 512], wanted: [bool; 512], k: u16) -> u16
+pub fn opening(
+    graph: Graph,
+    live: [bool; Graph::MAX_BRANCHES],
+    wanted: [bool; Graph::MAX_BRANCHES],
+    k: u16,
+) -> u16
     ensures { λ r. ⌜ r ≡ rowOpening graph live wanted k ⌝ }
 {
     let path = path_of_ends(graph, live, k);

@@ -14,6 +14,7 @@ use Rattle.network.specs.AnswerLaws.{then-iff}
 use Rattle.network.specs.Check.{checkRecords}
 use Rattle.states.specs.Live.{checkState}
 use Rattle.slices.specs.Written.{written}
+use Rattle.printing.specs.Lengths.{operationLength}
 use Rattle.printing.specs.CallLaws.{call-refused, call-short, call-done}
 use Rattle.states.specs.Switches.{State}
 use Rattle.states.specs.Listed.{state-accepted, switches-listed, few-switches}
@@ -43,17 +44,17 @@ module _ (n : PowerNetwork) (from to : State) where
       total-operations : total ≡ length (operations N from to)
       total-operations = k ∙ ap (count (differs from to)) (stated .0 ∙ sym (switches-listed n)) ∙ sym (length-operations N from to)
 
-      needed : length (operationsText (operations N from to)) ≡ 9 * total
-      needed = length-text (operations N from to) ∙ ap (λ (m : ℕ). 9 * m) (sym total-operations)
+      needed : length (operationsText (operations N from to)) ≡ operationLength * total
+      needed = length-text (operations N from to) ∙ ap (λ (m : ℕ). operationLength * m) (sym total-operations)
 
-      pub lines-fit : (room : ℕ) → 9 * total ≤ room → 9 * length (operations N from to) ≤ room
+      pub lines-fit : (room : ℕ) → operationLength * total ≤ room → operationLength * length (operations N from to) ≤ room
       lines-fit room h = omega (arith, total-operations)
 
-      pub no-room : (out : List ℕ) → length out < 9 * total → record { answer = refused 13 0; out = out } ≡ operationsCall N from to out
+      pub no-room : (out : List ℕ) → length out < operationLength * total → record { answer = refused 13 0; out = out } ≡ operationsCall N from to out
       unfolding operationsCall
       no-room out h = call-short (length (operations N from to)) (operationsText (operations N from to)) out passed needed h
 
-      pub all-listed : (out : List ℕ) → 9 * total ≤ length out → {after : List ℕ} → after ≡ written (operationsText (operations N from to)) out
+      pub all-listed : (out : List ℕ) → operationLength * total ≤ length out → {after : List ℕ} → after ≡ written (operationsText (operations N from to)) out
           → record { answer = accepted total; out = after } ≡ operationsCall N from to out
       unfolding operationsCall
       all-listed out h w = rw total-operations (call-done (length (operations N from to)) (operationsText (operations N from to)) out passed needed h w)

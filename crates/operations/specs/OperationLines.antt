@@ -1,7 +1,7 @@
 -- The operations and their lines as a loop over the switches makes them.
 use mathlib.Core.Path.{_≡_, refl, sym, ap, _∙_}
 use mathlib.Core.Bool.{Bool, true, false, cond, not}
-use mathlib.Core.List.{List, [], _∷_, _++_, flatMap, append-nil}
+use mathlib.Core.List.{List, [], _∷_, _++_, map, flatMap, append-nil}
 use Prim.Native.Nat.{ℕ, zero, suc, _+_, _*_, _-_, _≤_, _<_}
 use native.Mathlib.Numerals.{add-one}
 use native.Mathlib.Nat.{add-zero, add-suc, zero-add}
@@ -12,27 +12,25 @@ use lib.Seq.{sets, length-sets}
 use borrow.Rule.Slice.PartMut.{putMid}
 use borrow.Author.Tests.{eq-eqb, ne-eqb}
 use Rattle.numbers.specs.UpTo.{upTo, upTo-more}
+use Rattle.numbers.specs.Choose.{those}
+use Rattle.numbers.specs.TableLaws.{map-snoc}
 use Rattle.numbers.specs.Counts.{count, count-yes, count-no}
 use Rattle.network.specs.declared.switch.Switch.{Switch}
 use Rattle.network.specs.Records.{Network}
 use Rattle.states.specs.Switches.{State, byte, size, switch}
 use Rattle.printing.specs.declared.writer.SwitchOperation.{SwitchOperation}
 use Rattle.slices.specs.Written.{written}
-use Rattle.printing.specs.Printed.{operation, operationText}
-use Rattle.printing.specs.LineTexts as Texts
+use Rattle.printing.specs.Printed.{operationText}
 use Rattle.slices.specs.WrittenLaws.{sets-append, written-sets, written-part}
-use Rattle.printing.specs.LineTexts.{length-frame}
+use Rattle.printing.specs.Lengths.{operationLength}
+use Rattle.printing.specs.LineTexts as Texts
 use Rattle.operations.specs.Operations.{operationTo, operationOf, operations, operationsText}
 use Rattle.operations.specs.OperationValues.{differs, lineOf}
 
 -- ---- lines
-length-line : (o : SwitchOperation) → length (operationText o) ≡ 9
-unfolding operationText
-length-line o = length-frame operation (_, (_, tt))
-
-pub length-text : (l : List SwitchOperation) → length (operationsText l) ≡ 9 * length l
+pub length-text : (l : List SwitchOperation) → length (operationsText l) ≡ operationLength * length l
 unfolding operationsText
-length-text l = Texts.length-lines _ 9 length-line l
+length-text l = Texts.length-lines _ operationLength Texts.length-operation l
 
 text-more : (l : List SwitchOperation) (o : SwitchOperation) → operationsText (l ++ (o ∷ [])) ≡ operationsText l ++ operationText o
 unfolding operationsText
@@ -48,8 +46,8 @@ module _ (w : Switch) (from to : ℕ) where
   unfolding lineOf
   changes d = rw (ne-eqb from to d)
 
-  length-change : (from ≡ to → ⊥) → length (lineOf w from to) ≡ 9
-  length-change d = ap length (changes d) ∙ length-line (operationTo w to)
+  length-change : (from ≡ to → ⊥) → length (lineOf w from to) ≡ operationLength
+  length-change d = ap length (changes d) ∙ Texts.length-operation (operationTo w to)
 
   module _ (out : List ℕ) (at : ℕ) where
     pub change-none : from ≡ to → (out ≡ sets out at (lineOf w from to)) × (at ≡ at + length (lineOf w from to))
@@ -58,7 +56,7 @@ module _ (w : Switch) (from to : ℕ) where
     -- the line is written into the part from `at` on
     pub change-written : (from ≡ to → ⊥) → at + length (lineOf w from to) ≤ length out → {o : SwitchOperation} → o ≡ operationTo w to
         → {part : List ℕ} → part ≡ written (operationText o) (take (length out - at) (drop at out))
-        → (putMid at (length out - at) out part ≡ sets out at (lineOf w from to)) × (at + 9 ≡ at + length (lineOf w from to))
+        → (putMid at (length out - at) out part ≡ sets out at (lineOf w from to)) × (at + operationLength ≡ at + length (lineOf w from to))
     change-written d room a e =
         let long = length-change d in
         (written-part (lineOf w from to) out at room (e ∙ rw (a, changes d)), omega arith)
@@ -101,6 +99,20 @@ module _ (N : Network) (from to : State) where
   pub length-operations : length (operations N from to) ≡ count (differs from to) (size N)
   length-operations = ap length (sym first-all) ∙ length-first (size N)
 
+  -- an operation for each position at which the two states differ, rising
+  first-those : (i : ℕ) → first i ≡ map (operationOf N to) (those (differs from to) i)
+  unfolding first upTo those
+  first-those zero = refl
+  first-those (suc i) = go (eqb (byte from i) (byte to i)) (first-those i)
+    where
+      go : (b : Bool) → first i ≡ map (operationOf N to) (those (differs from to) i)
+          → cond b (first i) (first i ++ (operationOf N to i ∷ [])) ≡ map (operationOf N to) (cond (not b) (those (differs from to) i ++ (i ∷ [])) (those (differs from to) i))
+      go true e = e
+      go false e = ap (λ (l : List SwitchOperation). l ++ (operationOf N to i ∷ [])) e ∙ sym (map-snoc (operationOf N to) (those (differs from to) i) i)
+
+  pub by-position : operations N from to ≡ map (operationOf N to) (those (differs from to) (size N))
+  by-position = sym first-all ∙ first-those (size N)
+
   -- ---- their lines
   text : ℕ → List ℕ
   text i = operationsText (first i)
@@ -117,11 +129,11 @@ module _ (N : Network) (from to : State) where
   text-longer i zero = rw add-zero (omega arith)
   text-longer i (suc j) = rw (add-suc, ← add-one) (omega (arith, text-longer i j, ap length (text-next (i + j)) ∙ length-append (text (i + j)) _))
 
-  text-within : (i : ℕ) → i ≤ size N → length (text i) ≤ 9 * length (operations N from to)
+  text-within : (i : ℕ) → i ≤ size N → length (text i) ≤ operationLength * length (operations N from to)
   unfolding text
   text-within i h =
       let e : i + (size N - i) ≡ size N = omega arith in
-      let all : length (text (i + (size N - i))) ≡ 9 * length (operations N from to) = ap (λ k. length (text k)) e ∙ ap (λ l. length (operationsText l)) first-all ∙ length-text (operations N from to) in
+      let all : length (text (i + (size N - i))) ≡ operationLength * length (operations N from to) = ap (λ k. length (text k)) e ∙ ap (λ l. length (operationsText l)) first-all ∙ length-text (operations N from to) in
       omega (arith, text-longer i (size N - i))
 
   module _ (out : List ℕ) where
@@ -143,7 +155,7 @@ module _ (N : Network) (from to : State) where
         next : text (i + 1) ≡ text i ++ lineOf w a b
         next = rw (e, f, t) (text-next i)
 
-        pub lines-room : 9 * length (operations N from to) ≤ length out → at + length (lineOf w a b) ≤ length now
+        pub lines-room : operationLength * length (operations N from to) ≤ length out → at + length (lineOf w a b) ≤ length now
         lines-room room =
             omega (arith, lines-length, l .here, ap length next ∙ length-append (text i) (lineOf w a b), text-within (i + 1) (omega arith))
 
@@ -154,7 +166,7 @@ module _ (N : Network) (from to : State) where
           so-far = s ∙ rw (l .here, l .so-far, next) (rw zero-add at (sets-append out 0 (text i) (lineOf w a b)));
         }
 
-      pub lines-all : size N ≤ i → 9 * length (operations N from to) ≤ length out → now ≡ written (operationsText (operations N from to)) out
+      pub lines-all : size N ≤ i → operationLength * length (operations N from to) ≤ length out → now ≡ written (operationsText (operations N from to)) out
       unfolding text
       lines-all h room =
           let e : i ≡ size N = omega (arith, l .within) in

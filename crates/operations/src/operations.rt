@@ -9,6 +9,7 @@ ghost use Rattle.slices.specs.Written.{written};
 ghost use Rattle.network.specs.Answers.{answerOf, _andThen_};
 ghost use Rattle.network.specs.Check.{checkRecords};
 ghost use Rattle.states.specs.Live.{checkState};
+ghost use Rattle.printing.specs.Lengths.{operationLength};
 ghost use Rattle.network.specs.Records.{recordsOf};
 ghost use Rattle.operations.specs.Operations.{operationTo, operations, operationsText, operationsCall, operationsAnswerOf};
 ghost use Rattle.operations.specs.OperationValues.{Stated, differs, lineOf};
@@ -17,7 +18,7 @@ use network::error::Verdict;
 use network::switch::Switch;
 use network::topology::PowerNetwork;
 use numbers::wide16;
-use printing::writer::OPERATION_LENGTH;
+use printing::lengths::OPERATION_LENGTH;
 use printing::writer::SwitchAction;
 use printing::writer::SwitchOperation;
 use printing::writer::write_operation;
@@ -94,7 +95,7 @@ fn write_change(out: &mut [u8], at: usize, switch: Switch, from: u8, to: u8) -> 
 // A line for each operation, in switch order, one behind the other.
 fn write_operations(network: PowerNetwork, from: &[u8], to: &[u8], out: &mut [u8])
     requires { ⌜ Stated network (now from) (now to)
-        × (9 * length (operations (recordsOf network) (now from) (now to)) ≤ length (now out)) ⌝ }
+        × (operationLength * length (operations (recordsOf network) (now from) (now to)) ≤ length (now out)) ⌝ }
     ensures { λ _. ⌜ now (out .exit) ≡ written (operationsText (operations (recordsOf network) (now (from .entry)) (now (to .entry)))) (now (out .entry)) ⌝ }
 {
     let count = wide16(network.switch_count);

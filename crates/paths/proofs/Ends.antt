@@ -7,7 +7,7 @@ use native.Mathlib.Omega.{arith}
 use lib.ListN.{length, getD, replicate, List·getD-eq-default}
 use borrow.Author.Tests.{eq-eqb}
 use Rattle.numbers.specs.Arrays.{padded}
-use Rattle.graph.specs.declared.walks.Path.{Path}
+use Rattle.graph.specs.declared.walks.PathBranches.{PathBranches}
 use Rattle.graph.specs.declared.rows.Graph.{Graph}
 use Rattle.graph.specs.Graph.{Net}
 use Rattle.graph.specs.Walk.{Visit, walkBy, reached, back}
@@ -29,7 +29,7 @@ path-own graph live a =
     go false = refl
 
 pub ends-beyond : (graph : Graph) (live : List Bool) (k : ℕ) → length (graph .far) ≡ 1024 → 512 ≤ k
-    → _≡_ {A = Path} (record { count = 0; branch = replicate 256 0 }) (pathOf (rowEndsPath graph live k))
+    → _≡_ {A = PathBranches} (record { count = 0; branch = replicate 256 0 }) (pathOf (rowEndsPath graph live k))
 unfolding pathOf padded
 ends-beyond graph live k e h =
     let from : getD (graph .far) (2 * k + 1) 0 ≡ 0 = List·getD-eq-default (graph .far) 0 {n = 2 * k + 1} (omega (arith, e)) in

@@ -11,7 +11,7 @@ use lib.Seq.{drop-cons, drop-length, append-snoc}
 use borrow.Author.Tests.{eq-eqb, ne-eqb}
 use Rattle.numbers.specs.Arrays.{padded, padded-more, getD-padded}
 use Rattle.graph.specs.declared.rows.Graph.{Graph}
-use Rattle.graph.specs.declared.walks.Path.{Path}
+use Rattle.graph.specs.declared.walks.PathBranches.{PathBranches}
 use Rattle.graph.specs.Graph.{Net}
 use Rattle.graph.specs.Walk.{Visit, reached, walkBy, byOf, across, back}
 use Rattle.graph.specs.Rows.{filled, rowNeighbours, farNet, rowNet, acrossFar, rowPath, pathOf}
@@ -57,10 +57,9 @@ module _ (far by : List ℕ) (start b : ℕ) where
   none-led = record { within = omega arith; led = λ n m o w. record { so-far = []; stored = refl; counted = refl; rest = refl } }
 
   module _ {branch : List ℕ} {at i : ℕ} (l : Leading branch at i) where
-    pub one-led : {next : ℕ} (x end : ℕ) → i < 256 → (at ≡ start → ⊥) → x ≡ at → x < 256 → end ≡ i → next ≡ acrossFar far (getD by x 0) at
-        → Leading (set branch end (getD by x 0)) next (i + 1)
+    pub one-led : {next : ℕ} (x : ℕ) → i < 256 → (at ≡ start → ⊥) → x ≡ at → x < 256 → next ≡ acrossFar far (getD by x 0) at → Leading (set branch i (getD by x 0)) next (i + 1)
     unfolding back across acrossFar
-    one-led x end h ne p small q e =
+    one-led x h ne p small e =
         record {
           within = omega arith;
           led = λ n m o w.
@@ -71,14 +70,14 @@ module _ (far by : List ℕ) (start b : ℕ) where
               let c = d .counted in
               record {
                 so-far = d .so-far ++ (byOf at o ∷ []);
-                stored = rw (d .stored, q, k) (padded-more 256 0 (d .so-far) (byOf at o) i c h);
+                stored = rw (d .stored, k) (padded-more 256 0 (d .so-far) (byOf at o) i c h);
                 counted = rw length-append (omega arith);
                 rest = append-snoc (d .so-far) (byOf at o) _ ∙ rw (e, k) r;
               };
         }
 
     all-led : (n m : ℕ) (o : List Visit) → ((x : ℕ) → x < 256 → getD by x 0 ≡ byOf x o) → back (farNet n m far) o start (256 - i) at ≡ []
-        → _≡_ {A = Path} (record { count = i; branch = branch }) (pathOf (back (farNet n m far) o start 256 b))
+        → _≡_ {A = PathBranches} (record { count = i; branch = branch }) (pathOf (back (farNet n m far) o start 256 b))
     unfolding pathOf
     all-led n m o w z =
         let d = l .led n m o w in
@@ -86,17 +85,17 @@ module _ (far by : List ℕ) (start b : ℕ) where
         rw (← r, d .stored, d .counted)
 
     pub back-at-start : i < 256 → at ≡ start → (n m : ℕ) (o : List Visit) → ((x : ℕ) → x < 256 → getD by x 0 ≡ byOf x o)
-        → _≡_ {A = Path} (record { count = i; branch = branch }) (pathOf (back (farNet n m far) o start 256 b))
+        → _≡_ {A = PathBranches} (record { count = i; branch = branch }) (pathOf (back (farNet n m far) o start 256 b))
     unfolding back
     back-at-start h e n m o w = let s : 256 - i ≡ suc (256 - (i + 1)) = omega arith in all-led n m o w (rw (s, eq-eqb at start e))
 
     pub led-enough : 256 ≤ i → (n m : ℕ) (o : List Visit) → ((x : ℕ) → x < 256 → getD by x 0 ≡ byOf x o)
-        → _≡_ {A = Path} (record { count = i; branch = branch }) (pathOf (back (farNet n m far) o start 256 b))
+        → _≡_ {A = PathBranches} (record { count = i; branch = branch }) (pathOf (back (farNet n m far) o start 256 b))
     unfolding back
     led-enough h n m o w = let s : 256 - i ≡ 0 = omega arith in all-led n m o w (rw s)
 
 -- a list turned round
-module _ (list : Path) where
+module _ (list : PathBranches) where
   -- the last i of its entries are turned
   pub record Turned (branch : List ℕ) (i : ℕ) : Type 0 where
     pub within : i ≤ list .count
@@ -113,20 +112,20 @@ module _ (list : Path) where
         record {
           within = omega arith;
           so-far = λ l e.
-              let c : list .count ≡ length l = ap (λ (x : Path). x .count) e in
+              let c : list .count ≡ length l = ap (λ (x : PathBranches). x .count) e in
               let j : at ≡ length l - (i + 1) = omega arith in
               let k : at < length l = omega arith in
               let s : suc at ≡ length l - i = omega arith in
               let d = drop (length l - i) l in
               let m : length (reverse d) ≡ i = length-reverse d ∙ length-drop (length l - i) l ∙ omega arith in
-              let x : getD (list .branch) at 0 ≡ getD l at 0 = ap (λ (x : Path). getD (x .branch) at 0) e ∙ getD-padded 256 0 l at in
+              let x : getD (list .branch) at 0 ≡ getD l at 0 = ap (λ (x : PathBranches). getD (x .branch) at 0) e ∙ getD-padded 256 0 l at in
               rw (← j, drop-cons l at 0 k, s, reverse-cons, x, t .so-far l e, p) (padded-more 256 0 (reverse d) (getD l at 0) i (sym m) (omega arith));
         }
 
-    pub all-turned : list .count ≤ i → (l : List ℕ) → list ≡ pathOf l → _≡_ {A = Path} (record { count = list .count; branch = branch }) (pathOf (reverse l))
+    pub all-turned : list .count ≤ i → (l : List ℕ) → list ≡ pathOf l → _≡_ {A = PathBranches} (record { count = list .count; branch = branch }) (pathOf (reverse l))
     unfolding pathOf
     all-turned h l e =
-        let c : list .count ≡ length l = ap (λ (x : Path). x .count) e in
+        let c : list .count ≡ length l = ap (λ (x : PathBranches). x .count) e in
         let z : length l - i ≡ 0 = omega arith in
         let s = rw z at (t .so-far l e) in
         rw (length-reverse, s, c)
@@ -134,14 +133,14 @@ module _ (list : Path) where
 -- the path by the ways
 module _ (g : Graph) (live : List Bool) (a b at : ℕ) (same : at ≡ b) (small : at < 256) {reach : List Bool} {by : List ℕ}
     (w : WayOf (walkBy (rowNeighbours g live) a a) reach by) where
-  pub path-found : {r : Path} → getD reach at false ≡ true → r ≡ pathOf (reverse (back (rowNet g) (walkBy (rowNeighbours g live) a a) a 256 b))
+  pub path-found : {r : PathBranches} → getD reach at false ≡ true → r ≡ pathOf (reverse (back (rowNet g) (walkBy (rowNeighbours g live) a a) a 256 b))
       → r ≡ pathOf (rowPath g live a b)
   unfolding rowPath
   path-found t e =
       let h : reached b (walkBy (rowNeighbours g live) a a) ≡ true = rw (← same) (sym (w .reaches at small) ∙ t) in
       rw h e
 
-  pub path-none : getD reach at false ≡ false → _≡_ {A = Path} (record { count = 0; branch = replicate 256 0 }) (pathOf (rowPath g live a b))
+  pub path-none : getD reach at false ≡ false → _≡_ {A = PathBranches} (record { count = 0; branch = replicate 256 0 }) (pathOf (rowPath g live a b))
   unfolding rowPath pathOf padded
   path-none t =
       let h : reached b (walkBy (rowNeighbours g live) a a) ≡ false = rw (← same) (sym (w .reaches at small) ∙ t) in

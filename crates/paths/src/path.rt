@@ -9,15 +9,15 @@ ghost use Rattle.graph.specs.Rows.{walked, rowNet, acrossFar, rowPath, rowEndsP
 ghost use Rattle.graph.specs.Walking.{WayOf};
 use bfs::walk::walk;
 use graph::rows::Graph;
-use graph::walks::Path;
+use graph::walks::PathBranches;
 use graph::walks::Walk;
 use numbers::wide8;
 use numbers::wide16;
 
 // For each bus whether a walk reached it, and by which branch.
 struct Ways {
-    reached: [bool; 256],
-    by: [u16; 256],
+    reached: [bool; Graph::MAX_BUSES],
+    by: [u16; Graph::MAX_BUSES],
 }
 
 // From the last visit to the first, so that the first one of a bus stands.
@@ -25,8 +25,8 @@ fn ways_of(walk: Walk) -> Ways
     requires { ⌜ walk .count ≤ 256 ⌝ }
     ensures { λ r. ⌜ ((o : List Visit) → walk ≡ walked o → WayOf o (r .reached) (r .by)) ⌝ }
 {
-    let mut reached = [false; 256];
-    let mut by = [0u16; 256];
+    let mut reached = [false; Graph::MAX_BUSES];
+    let mut by = [0u16; Graph::MAX_BUSES];
     let n = walk.count;
     let mut i = 0u16;
     while i < n {
@@ -40,11 +40,11 @@ fn ways_of(walk: Walk) -> Ways
 }
 
 // The other end of branch k, seen from bus u.
-fn across(far: &[u8; 1024], k: u16, u: u8) -> u8
+fn across(far: &[u8; Graph::MAX_HALVES], k: u16, u: u8) -> u8
     requires { ⌜ length (now far) ≡ 1024 ⌝ }
     ensures { λ r. ⌜ r ≡ acrossFar (now (far .entry)) k u ⌝ }
 {
-    if 512 <= k {
+    if Graph::MAX_BRANCHES <= k as usize {
         return 0;
     }
     let at = wide16(2 * k);
@@ -56,34 +56,35 @@ fn across(far: &[u8; 1024], k: u16, u: u8) -> u8
     from
 }
 
-// The branches that lead from bus b back to start, 256 at most.
-fn way_back(graph: Graph, by: [u16; 256], start: u8, b: u8) -> Path
+// The branches that lead from bus b back to start, MAX_BUSES at most.
+fn way_back(graph: Graph, by: [u16; Graph::MAX_BUSES], start: u8, b: u8) -> PathBranches
     ensures { λ r. ⌜ ((o : List Visit) → ((x : ℕ) → x < 256 → getD by x 0 ≡ byOf x o) → r ≡ pathOf (back (rowNet graph) o start 256 b)) ⌝ }
 {
     let far = graph.far;
-    let mut branch = [0u16; 256];
+    let mut branch = [0u16; Graph::MAX_BUSES];
     let mut at = b;
-    let mut i = 0u16;
-    while i < 256 {
+    let mut i = 0usize;
+    while i < Graph::MAX_BUSES {
         if at == start {
-            return Path { count: i, branch };
+            let count = i as u16;
+            return PathBranches { count, branch };
         }
         let x = wide8(at);
-        let end = wide16(i);
         let k = by[x];
-        branch[end] = k;
+        branch[i] = k;
         at = across(&far, k, at);
         i += 1;
     }
-    Path { count: i, branch }
+    let count = i as u16;
+    PathBranches { count, branch }
 }
 
 // A list of branches turned round.
-fn turned(list: Path) -> Path
+fn turned(list: PathBranches) -> PathBranches
     requires { ⌜ list .count ≤ 256 ⌝ }
     ensures { λ r. ⌜ ((l : List ℕ) → list ≡ pathOf l → r ≡ pathOf (reverse l)) ⌝ }
 {
-    let mut branch = [0u16; 256];
+    let mut branch = [0u16; Graph::MAX_BUSES];
     let n = list.count;
     let mut i = 0u16;
     while i < n {
@@ -92,11 +93,11 @@ fn turned(list: Path) -> Path
         branch[end] = list.branch[at];
         i += 1;
     }
-    Path { count: n, branch }
+    PathBranches { count: n, branch }
 }
 
 // The branches of the path that a walk finds, beginning at bus from: none where the buses are the same or to is not reached.
-fn bfs_path(graph: Graph, live: [bool; 512], from: u8, to: u8) -> Path
+fn bfs_path(graph: Graph, live: [bool; Graph::MAX_BRANCHES], from: u8, to: u8) -> PathBranches
     ensures { λ r. ⌜ r ≡ pathOf (rowPath graph live from to) ⌝ }
 {
     let ways = ways_of(walk(graph, live, from));
@@ -104,20 +105,20 @@ fn bfs_path(graph: Graph, live: [bool; 512], from: u8, to: u8) -> Path
     if ways.reached[at] {
         return turned(way_back(graph, ways.by, from, to));
     }
-    Path {
+    PathBranches {
         count: 0,
-        branch: [0u16; 256],
+        branch: [0u16; Graph::MAX_BUSES],
     }
 }
 
 // The path between the ends of branch k, beginning at its from bus. Beyond the branches that a graph has room for both ends are bus 0, so the path is empty.
-pub fn path_of_ends(graph: Graph, live: [bool; 512], k: u16) -> Path
+pub fn path_of_ends(graph: Graph, live: [bool; Graph::MAX_BRANCHES], k: u16) -> PathBranches
     ensures { λ r. ⌜ r ≡ pathOf (rowEndsPath graph live k) ⌝ }
 {
-    if 512 <= k {
-        return Path {
+    if Graph::MAX_BRANCHES <= k as usize {
+        return PathBranches {
             count: 0,
-            branch: [0u16; 256],
+            branch: [0u16; Graph::MAX_BUSES],
         };
     }
     let from_half = wide16(2 * k + 1);

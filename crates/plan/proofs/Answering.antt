@@ -9,6 +9,7 @@ use Rattle.network.specs.Records.{Network}
 use Rattle.network.specs.Answers.{accepted, refused, answerOf}
 use Rattle.states.specs.Switches.{State}
 use Rattle.slices.specs.Written.{written}
+use Rattle.printing.specs.Lengths.{pairLength}
 use Rattle.printing.specs.CallLaws.{call-refused, call-short, call-done}
 use Rattle.plan.specs.declared.pairs.PairList.{PairList}
 use Rattle.changes.specs.Change.{checkPlan}
@@ -27,14 +28,14 @@ module _ (N : Network) (present wanted : State) (out : List ℕ) where
   not-accepted r e = call-refused (length moves) (planText moves) out (sym e ∙ ap answerOf r)
 
   module _ (ok : checkPlan N present wanted ≡ accepted tt) (pairs : PairList) (made : movesIn pairs ≡ plan N present wanted) where
-    needed : length (planText moves) ≡ 11 * pairs .count
-    needed = length-text moves ∙ ap (λ (k : ℕ). 11 * k) (ap length (sym made) ∙ length-moves pairs)
+    needed : length (planText moves) ≡ pairLength * pairs .count
+    needed = length-text moves ∙ ap (λ (k : ℕ). pairLength * k) (ap length (sym made) ∙ length-moves pairs)
 
-    pub no-room : length out < 11 * pairs .count → record { answer = refused 13 0; out = out } ≡ planned N present wanted out
+    pub no-room : length out < pairLength * pairs .count → record { answer = refused 13 0; out = out } ≡ planned N present wanted out
     unfolding planned
     no-room h = call-short (length moves) (planText moves) out ok needed h
 
-    pub lines-written : 11 * pairs .count ≤ length out → {after : List ℕ} → after ≡ written (planText (movesIn pairs)) out
+    pub lines-written : pairLength * pairs .count ≤ length out → {after : List ℕ} → after ≡ written (planText (movesIn pairs)) out
         → record { answer = accepted (pairs .count); out = after } ≡ planned N present wanted out
     unfolding planned
     lines-written h e = rw (← length-moves pairs, made) (call-done (length moves) (planText moves) out ok needed h (e ∙ rw made))

@@ -10,11 +10,12 @@ use Rattle.numbers.specs.TableLaws.{table-more, length-table}
 use Rattle.slices.specs.Written.{written}
 use Rattle.printing.specs.Printed.{pairText}
 use Rattle.slices.specs.WrittenLaws.{written-sets, written-append, length-written}
-use Rattle.printing.specs.LineTexts.{lines-more}
+use Rattle.printing.specs.Lengths.{pairLength}
+use Rattle.printing.specs.LineTexts.{length-pair, lines-more}
 use Rattle.plan.specs.declared.pairs.PairList.{PairList}
 use Rattle.plan.specs.Plan.{Moves, planText}
 use Rattle.plan.specs.Stored.{movesIn}
-use Rattle.plan.specs.Length.{length-pair, length-text}
+use Rattle.plan.specs.Length.{length-text}
 
 module _ (pairs : PairList) (out : List ℕ) where
   -- the first i pairs
@@ -38,12 +39,12 @@ module _ (pairs : PairList) (out : List ℕ) where
     unfolding movesIn first
     lines-all h = let e : i ≡ pairs .count = omega (arith, l .within) in l .text ∙ rw e
 
-    pub lines-further : 11 * pairs .count ≤ length out → i < pairs .count → {part : List ℕ} → part ≡ written (pairText (getD (pairs .closes) i 0) (getD (pairs .opens) i 0)) (take (length now - 11 * i) (drop (11 * i) now))
-        → Lines (putMid (11 * i) (length now - 11 * i) now part) (i + 1)
+    pub lines-further : pairLength * pairs .count ≤ length out → i < pairs .count → {part : List ℕ} → part ≡ written (pairText (getD (pairs .closes) i 0) (getD (pairs .opens) i 0)) (take (length now - pairLength * i) (drop (pairLength * i) now))
+        → Lines (putMid (pairLength * i) (length now - pairLength * i) now part) (i + 1)
     unfolding first planText
     lines-further room h e = record {
       within = omega arith;
       text =
-          written-append (planText (first i)) _ out (11 * i) (length-text (first i) ∙ rw length-table) (omega (arith, length-pair (getD (pairs .closes) i 0) (getD (pairs .opens) i 0))) (l .text) e
+          written-append (planText (first i)) _ out (pairLength * i) (length-text (first i) ∙ rw length-table) (omega (arith, length-pair (getD (pairs .closes) i 0) (getD (pairs .opens) i 0))) (l .text) e
           ∙ rw (table-more, lines-more);
     }

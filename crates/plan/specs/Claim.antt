@@ -85,7 +85,7 @@ pub record Exchanged (N : Network) (s t : State) (e f : ℕ) : Type 0 where
 pub record OnLoop (N : Network) (s t : State) (e f : ℕ) : Type 0 where
   pub closing : (live N s e ≡ false) × (live N t e ≡ true)
   pub nothing-else : (k : ℕ) → k ≢ e → live N t k ≡ live N s k
-  -- no bus loses supply between the closing and the opening
+  -- between the closing and the opening every two buses are connected
   pub connected : Connected (feeder N) (LiveIn N t)
   pub path : List ℕ
   pub joins : Path (feeder N) (LiveIn N s) (feeder N .from e) (feeder N .to e) path

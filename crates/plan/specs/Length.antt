@@ -1,7 +1,7 @@
 -- How long a plan is: as many pairs as branches live in the wanted state are missing, so fewer than there are buses; and how long its text is.
 use mathlib.Core.Path.{_≡_}
 use mathlib.Core.List.{List}
-use Prim.Native.Nat.{ℕ, _-_, _*_, _≤_}
+use Prim.Native.Nat.{_-_, _*_, _≤_}
 use native.Mathlib.Omega.{arith}
 use lib.ListN.{length, length-map}
 use Rattle.numbers.specs.CountLaws.{count-mono}
@@ -11,8 +11,8 @@ use Rattle.states.specs.Live.{live}
 use Rattle.states.specs.Switches.{State}
 use Rattle.graph.specs.Pieces.{tree-few}
 use Rattle.radiality.specs.Feeder.{feeder}
-use Rattle.printing.specs.Printed.{pair, pairText}
-use Rattle.printing.specs.LineTexts.{length-frame, length-lines}
+use Rattle.printing.specs.Lengths.{pairLength}
+use Rattle.printing.specs.LineTexts.{length-pair, length-lines}
 use Rattle.changes.specs.Change.{onlyIn, checkPlan}
 use Rattle.plan.specs.Plan.{Moves, plan, pairs, movesOf, planText}
 use Rattle.plan.specs.Missing.{missing, only-so}
@@ -29,10 +29,6 @@ plan-short N present wanted ok =
     let less = count-mono (onlyIn (live N wanted) (live N present)) (live N wanted) (length (N .branches)) (λ k l h. only-so (live N wanted) (live N present) k h .0) in
     omega (arith, length-map (pairs N present wanted) (movesOf N))
 
-pub length-pair : (closes opens : ℕ) → length (pairText closes opens) ≡ 11
-unfolding pairText
-length-pair closes opens = length-frame pair (closes, (opens, tt))
-
-pub length-text : (l : List Moves) → length (planText l) ≡ 11 * length l
+pub length-text : (l : List Moves) → length (planText l) ≡ pairLength * length l
 unfolding planText
-length-text = length-lines _ 11 (λ m. length-pair (m .closes) (m .opens))
+length-text = length-lines _ pairLength (λ m. length-pair (m .closes) (m .opens))

@@ -26,8 +26,8 @@ use openings::opening::opening;
 // so that there are no more of them than switches.
 pub(crate) struct PairList {
     pub count: u16,
-    pub closes: [u16; 512],
-    pub opens: [u16; 512],
+    pub closes: [u16; PowerNetwork::MAX_SWITCHES],
+    pub opens: [u16; PowerNetwork::MAX_SWITCHES],
 }
 
 impl PairList {
@@ -37,8 +37,8 @@ impl PairList {
     {
         PairList {
             count: 0,
-            closes: [0u16; 512],
-            opens: [0u16; 512],
+            closes: [0u16; PowerNetwork::MAX_SWITCHES],
+            opens: [0u16; PowerNetwork::MAX_SWITCHES],
         }
     }
 
@@ -57,18 +57,18 @@ impl PairList {
 
 // The pairs made so far, and the branches that are live with them done.
 struct Stage {
-    live: [bool; 512],
+    live: [bool; PowerNetwork::MAX_BRANCHES],
     pairs: PairList,
 }
 
 // For each branch position the id of the first listed switch on it, and 0 where there is none: from the last switch to the first, so that the
 // first one stands.
-fn switch_ids(network: PowerNetwork) -> [u16; 512]
+fn switch_ids(network: PowerNetwork) -> [u16; PowerNetwork::MAX_BRANCHES]
     requires { ⌜ checkRecords (recordsOf network) ≡ accepted tt ⌝ }
     ensures { λ r. ⌜ r ≡ table (switchOn (recordsOf network)) 512 ⌝ }
 {
     let n = network.switch_count;
-    let mut ids = [0u16; 512];
+    let mut ids = [0u16; PowerNetwork::MAX_BRANCHES];
     let mut i = 0u16;
     while i < n {
         let at = wide16(n - 1 - i);
@@ -81,7 +81,13 @@ fn switch_ids(network: PowerNetwork) -> [u16; 512]
 }
 
 // The pair that closes branch k, made and done.
-fn pair_done(stage: Stage, graph: Graph, wanted: [bool; 512], ids: [u16; 512], k: u16) -> Stage
+fn pair_done(
+    stage: Stage,
+    graph: Graph,
+    wanted: [bool; PowerNetwork::MAX_BRANCHES],
+    ids: [u16; PowerNetwork::MAX_BRANCHES],
+    k: u16,
+) -> Stage
     requires { ⌜ (k < 512) × (rowOpening graph (stage .live) wanted k < 512) × (stage .pairs .count < 512) ⌝ }
     ensures { λ r. ⌜ (r .live ≡ set (set (stage .live) k true) (rowOpening graph (stage .live) wanted k) false)
         × (movesIn (r .pairs) ≡ movesIn (stage .pairs)

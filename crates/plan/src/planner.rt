@@ -4,6 +4,7 @@ ghost use Prim.Native.Nat.{_*_, _≤_};
 ghost use lib.ListN.{length};
 ghost use Rattle.slices.specs.Written.{written};
 ghost use Rattle.network.specs.Records.{recordsOf};
+ghost use Rattle.printing.specs.Lengths.{pairLength};
 ghost use Rattle.plan.specs.Plan.{planText, planned, planAnswerOf};
 ghost use Rattle.plan.specs.Stored.{movesIn};
 use crate::pairs::PairList;
@@ -12,7 +13,7 @@ use changes::change::check_plan;
 use network::error::Verdict;
 use network::topology::PowerNetwork;
 use numbers::wide16;
-use printing::writer::PAIR_LENGTH;
+use printing::lengths::PAIR_LENGTH;
 use printing::writer::write_pair;
 
 // How many pairs the plan has, or document 01's refusal number and place.
@@ -23,7 +24,7 @@ pub enum PlanAnswer {
 
 // A line for each pair, one behind the other.
 fn write_pairs(out: &mut [u8], pairs: PairList)
-    requires { ⌜ (pairs .count ≤ 512) × (11 * pairs .count ≤ length (now out)) ⌝ }
+    requires { ⌜ (pairs .count ≤ 512) × (pairLength * pairs .count ≤ length (now out)) ⌝ }
     ensures { λ _. ⌜ now (out .exit) ≡ written (planText (movesIn pairs)) (now (out .entry)) ⌝ }
 {
     let n = wide16(pairs.count);

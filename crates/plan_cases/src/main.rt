@@ -5,6 +5,7 @@
 ghost use mathlib.Core.Path.{_≡_};
 ghost use Prim.Native.Nat.{_≤_};
 ghost use lib.ListN.{length};
+use cases::MAX_STATE;
 use cases::first_case;
 use cases::line_behind;
 use cases::part_of;
@@ -85,8 +86,8 @@ fn print_states(network: PowerNetwork, line: &[u8], wanted: &[u8], room: usize) 
     }
     let from = state_bytes(&line[2..]);
     let to = state_bytes(wanted);
-    let n = at_most(line.len() - 2, 1024);
-    let m = at_most(wanted.len(), 1024);
+    let n = at_most(line.len() - 2, MAX_STATE);
+    let m = at_most(wanted.len(), MAX_STATE);
     let network = changed(network, line[0]);
     print_plan(network, &from[0..n], &to[0..m], at_most(room, 4096));
 }

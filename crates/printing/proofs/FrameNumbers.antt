@@ -16,6 +16,7 @@ use Rattle.slices.specs.Written.{written, lastDigits}
 use Rattle.slices.specs.WrittenLaws.{written-short, written-append}
 use Rattle.slices.specs.DigitLaws.{all-digits, digits-join}
 use Rattle.printing.specs.Printed.{answer}
+use Rattle.printing.specs.Lengths.{answerLength}
 use Rattle.printing.specs.LineTexts.{length-frame}
 
 -- the fields, each with room for those behind it
@@ -78,7 +79,7 @@ module _ (radial base best reduction iterations converged : ℕ) (h : radial < 2
       rw (first, last, fields-number (2 ∷ 2 ∷ []) (0x81, (radial, tt)) (lit< tt, (h, tt)), fields-number (4 ∷ 2 ∷ []) (iterations, (converged, tt)) (i, (j, tt)))
       (simp (append-assoc, append-nil))
 
-  pub answer-written : (out : List ℕ) {l p q : List ℕ} → 59 ≤ length out → l ≡ written head out → p ≡ written losses (take (length l - 4) (drop 4 l))
+  pub answer-written : (out : List ℕ) {l p q : List ℕ} → answerLength ≤ length out → l ≡ written head out → p ≡ written losses (take (length l - 4) (drop 4 l))
       → q ≡ written tail (take (length (putMid 4 (length l - 4) l p) - 52) (drop 52 (putMid 4 (length l - 4) l p)))
       → putMid 52 (length (putMid 4 (length l - 4) l p) - 52) (putMid 4 (length l - 4) l p) q ≡ written (frameText answer fields) out
   answer-written out room e f g =

@@ -1,5 +1,5 @@
 -- A call that is lent a slice, case by case: refused by its tests, without room, or done. What the code writes stands as `written` here.
-use mathlib.Core.Path.{_≡_, refl, sym, _∙_}
+use mathlib.Core.Path.{_≡_, refl, sym, ap, _∙_}
 use mathlib.Core.Bool.{Bool, true, false, cond}
 use mathlib.Core.List.{List, [], _∷_, _++_}
 use Prim.Native.Nat.{ℕ, _≤_, _<_}
@@ -7,7 +7,7 @@ use lib.Dec.{ltb}
 use lib.ListN.{length, drop}
 use borrow.Author.Tests.{lt-ltb, le-ltb, ltb-false}
 use Rattle.network.specs.Answers.{accepted, refused, _andThen_, _if_, judge, Judgement}
-use Rattle.network.specs.AnswerLaws.{judge-iff, then-iff}
+use Rattle.network.specs.AnswerLaws.{same-value, no-refusal, judge-iff, then-iff}
 use Rattle.slices.specs.Written.{written}
 use Rattle.slices.specs.WrittenLaws.{written-room}
 use Rattle.printing.specs.Calls.{checkRoom, Call, answered, called}
@@ -63,3 +63,14 @@ unfolding checkRoom
 call-accepted tests answer bytes out e =
     let passed = then-iff tests _ .0 e in
     call-done answer bytes out (passed .0) refl (ltb-false (length out) (length bytes) (judge-iff _ 0 .0 (passed .1) .0)) refl
+
+-- an answer that is no refusal: the value, and the bytes at the front of the slice
+pub call-answered : {A : Type 0} (tests : Judgement) (answer : A) (bytes out : List ℕ) {value : A} {after : List ℕ}
+    → record { answer = accepted value; out = after } ≡ called tests answer bytes out → (tests ≡ accepted tt) × (value ≡ answer) × (after ≡ bytes ++ drop (length bytes) out)
+unfolding called
+call-answered {A} tests answer bytes out {value} {after} e = go (tests andThen checkRoom (length bytes) (length out)) refl e
+  where
+    go : (j : Judgement) → (tests andThen checkRoom (length bytes) (length out)) ≡ j → record { answer = accepted value; out = after } ≡ answered j answer bytes out
+        → (tests ≡ accepted tt) × (value ≡ answer) × (after ≡ bytes ++ drop (length bytes) out)
+    go (accepted u) p q = (then-iff tests _ .0 p .0, same-value (ap (λ (c : Call A). c .answer) q), ap (λ (c : Call A). c .out) q)
+    go (refused number place) p q = no-refusal (sym (ap (λ (c : Call A). c .answer) q))

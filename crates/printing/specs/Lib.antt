@@ -1,4 +1,5 @@
 pub mod Printed
+pub mod Lengths
 pub mod LineTexts
 pub mod Calls
 pub mod CallLaws

@@ -1,5 +1,6 @@
--- Lines: how many bytes a frame's line has, and lines of one length, one for each entry of a list.
+-- Lines: how many bytes a frame's line has, that those which are printed have the lengths of `Lengths`, and lines of one length, one for each entry of a list.
 use mathlib.Core.Path.{_≡_, sym}
+use mathlib.Core.Bool.{Bool}
 use mathlib.Core.List.{List, [], _∷_, _++_, flatMap, append-assoc, append-nil}
 use Prim.Native.Nat.{ℕ, _+_, _*_}
 use native.Mathlib.Omega.{arith}
@@ -8,11 +9,30 @@ use lib.ListN.{length, length-append}
 use Rattle.lines.specs.Hex.{Fields, total}
 use Rattle.lines.specs.Frames.{Frame, layout, frameText}
 use Rattle.lines.specs.HexLaws.{length-fields}
+use Rattle.printing.specs.declared.writer.SwitchOperation.{SwitchOperation}
+use Rattle.printing.specs.Printed.{answer, answerText, operation, operationText, pair, pairText, refusal, refusalText}
+use Rattle.printing.specs.Lengths.{answerLength, operationLength, pairLength, refusalLength}
 
 -- its line feed included
 pub length-frame : (F : Frame) (f : Fields (F .widths)) → length (frameText F f) ≡ total (layout F) + 1
 unfolding frameText
 length-frame F f = rw (length-append, length-fields)
+
+pub length-answer : (radial : Bool) (base best reduction iterations : ℕ) (converged : Bool) → length (answerText radial base best reduction iterations converged) ≡ answerLength
+unfolding answerText
+length-answer radial base best reduction iterations converged = length-frame answer _
+
+pub length-operation : (o : SwitchOperation) → length (operationText o) ≡ operationLength
+unfolding operationText
+length-operation o = length-frame operation _
+
+pub length-pair : (closes opens : ℕ) → length (pairText closes opens) ≡ pairLength
+unfolding pairText
+length-pair closes opens = length-frame pair _
+
+pub length-refusal : (number place : ℕ) → length (refusalText number place) ≡ refusalLength
+unfolding refusalText
+length-refusal number place = length-frame refusal _
 
 module _ {A : Type 0} (line : A → List ℕ) where
   pub lines-more : (l : List A) (x : A) → flatMap line (l ++ (x ∷ [])) ≡ flatMap line l ++ line x

@@ -5,6 +5,7 @@ use Prim.Native.Nat.{ℕ}
 use Rattle.printing.specs.declared.writer.SwitchAction.{SwitchAction}
 use Rattle.printing.specs.declared.writer.SwitchOperation.{SwitchOperation}
 use Rattle.printing.specs.declared.writer.SwitchAction.the-variants.{Open, Close}
+use Rattle.lines.specs.Hex.{Fields}
 use Rattle.lines.specs.Frames.{Frame, frameText}
 
 -- ---- 81
@@ -17,9 +18,11 @@ abbrev pub truthByte : Bool → ℕ
 truthByte b = cond b 1 0
 
 -- the losses and the reduction by their "f64 bits"
+abbrev pub answerFields : Bool → ℕ → ℕ → ℕ → ℕ → Bool → Fields (answer .widths)
+answerFields radial base best reduction iterations converged = (truthByte radial, (base, (best, (reduction, (iterations, (truthByte converged, tt))))))
+
 unfoldable pub answerText : Bool → ℕ → ℕ → ℕ → ℕ → Bool → List ℕ
-answerText radial base best reduction iterations converged =
-    frameText answer (truthByte radial, (base, (best, (reduction, (iterations, (truthByte converged, tt))))))
+answerText radial base best reduction iterations converged = frameText answer (answerFields radial base best reduction iterations converged)
 
 -- ---- 82
 -- "switch id, 00 open or 01 close"
@@ -31,16 +34,22 @@ abbrev pub actionByte : SwitchAction → ℕ
 actionByte Open = 0
 actionByte Close = 1
 
+abbrev pub operationFields : SwitchOperation → Fields (operation .widths)
+operationFields o = (o .«switch_id», (actionByte (o .action), tt))
+
 unfoldable pub operationText : SwitchOperation → List ℕ
-operationText o = frameText operation (o .«switch_id», (actionByte (o .action), tt))
+operationText o = frameText operation (operationFields o)
 
 -- ---- 83
 -- "id closed, id opened"
 abbrev pub pair : Frame
 pair = record { kind = 0x83; widths = 4 ∷ 4 ∷ [] }
 
+abbrev pub pairFields : ℕ → ℕ → Fields (pair .widths)
+pairFields closes opens = (closes, (opens, tt))
+
 unfoldable pub pairText : ℕ → ℕ → List ℕ
-pairText closes opens = frameText pair (closes, (opens, tt))
+pairText closes opens = frameText pair (pairFields closes opens)
 
 -- ---- 8F
 -- "number byte, place (u16)"

@@ -1,2 +1,3 @@
 // The frames that are printed, written into lent slices.
+pub mod lengths;
 pub mod writer;

@@ -8,6 +8,7 @@ ghost use lib.ListN.{length};
 ghost use Rattle.lines.specs.Hex.{digits};
 ghost use Rattle.slices.specs.Written.{written};
 ghost use Rattle.printing.specs.Printed.{truthByte, actionByte, answerText, operationText, pairText, refusalText};
+use crate::lengths::ANSWER_LENGTH;
 use slices::writer::write_digits;
 use slices::writer::write_line;
 
@@ -22,15 +23,6 @@ pub struct SwitchOperation {
     pub switch_id: u16,
     pub action: SwitchAction,
 }
-
-// The bytes of each frame's line, its line feed included.
-pub const ANSWER_LENGTH: usize = 59;
-
-pub const OPERATION_LENGTH: usize = 9;
-
-pub const PAIR_LENGTH: usize = 11;
-
-pub const REFUSAL_LENGTH: usize = 9;
 
 // The byte of a field that says whether it is so.
 pub fn truth_byte(b: bool) -> u8

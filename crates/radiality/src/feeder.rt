@@ -6,6 +6,7 @@ ghost use lib.ListN.{length};
 ghost use Rattle.ids.specs.Ids.{rows, idRows};
 ghost use Rattle.radiality.specs.FeederRows.{endAt, endsOf, feederGraph};
 use graph::rows::Graph;
+use ids::rows::IdRows;
 use ids::rows::bus_rows;
 use ids::rows::position_of;
 use network::branch::Branch;
@@ -14,9 +15,9 @@ use numbers::at_most;
 
 // The position of the bus with this id among n buses whose ids are in rows, and 0 where none has it.
 fn end_at<'a>(
-    ids: &'a [u16; 512],
-    first: &'a [u16; 256],
-    next: &'a [u16; 512],
+    ids: &'a [u16; IdRows::MAX_IDS],
+    first: &'a [u16; IdRows::BUCKETS],
+    next: &'a [u16; IdRows::MAX_IDS],
     n: usize,
     id: u16,
 ) -> u8
@@ -38,9 +39,9 @@ struct BranchEnds {
 
 fn ends_of<'a>(
     branch: Branch,
-    ids: &'a [u16; 512],
-    first: &'a [u16; 256],
-    next: &'a [u16; 512],
+    ids: &'a [u16; IdRows::MAX_IDS],
+    first: &'a [u16; IdRows::BUCKETS],
+    next: &'a [u16; IdRows::MAX_IDS],
     n: usize,
 ) -> BranchEnds
     requires { ⌜ n ≤ 256 ⌝ }
@@ -55,26 +56,26 @@ fn ends_of<'a>(
 
 // The positions of the ends of each branch.
 struct Ends {
-    from: [u8; 512],
-    to: [u8; 512],
+    from: [u8; Graph::MAX_BRANCHES],
+    to: [u8; Graph::MAX_BRANCHES],
 }
 
 // Of the listed branches; the others are left at 0.
 fn branch_ends<'a>(
-    branches: [Branch; 512],
+    branches: [Branch; PowerNetwork::MAX_BRANCHES],
     count: usize,
-    ids: &'a [u16; 512],
-    first: &'a [u16; 256],
-    next: &'a [u16; 512],
+    ids: &'a [u16; IdRows::MAX_IDS],
+    first: &'a [u16; IdRows::BUCKETS],
+    next: &'a [u16; IdRows::MAX_IDS],
     n: usize,
 ) -> Ends
     requires { ⌜ n ≤ 256 ⌝ }
     ensures { λ r. ⌜ ((l : List ℕ) → n ≡ length l → rows (now (ids .entry)) (now (first .entry)) (now (next .entry)) ≡ idRows l
         → (r .from ≡ endsOf (λ b. b .«from_bus») l branches count) × (r .to ≡ endsOf (λ b. b .«to_bus») l branches count)) ⌝ }
 {
-    let m = at_most(count, 512);
-    let mut from = [0u8; 512];
-    let mut to = [0u8; 512];
+    let m = at_most(count, PowerNetwork::MAX_BRANCHES);
+    let mut from = [0u8; Graph::MAX_BRANCHES];
+    let mut to = [0u8; Graph::MAX_BRANCHES];
     let mut k: usize = 0;
     while k < m {
         let ends = ends_of(branches[k], ids, first, next, n);
@@ -93,7 +94,7 @@ pub fn graph_of(network: PowerNetwork) -> Graph
     let branches = network.branches;
     let count = network.bus_count as usize;
     let m = network.branch_count as usize;
-    let n = at_most(count, 256);
+    let n = at_most(count, PowerNetwork::MAX_BUSES);
     let rows = bus_rows(buses, count);
     let ends = branch_ends(branches, m, &rows.ids, &rows.first, &rows.next, n);
     let from = ends.from;

@@ -64,13 +64,13 @@ fn unlisted(mut network: PowerNetwork) -> PowerNetwork {
     let i = wide16(network.bus_count);
     let k = wide16(network.branch_count);
     let j = wide16(network.switch_count);
-    if i < 256 {
+    if i < PowerNetwork::MAX_BUSES {
         network.buses[i] = network.buses[0];
     }
-    if k < 512 {
+    if k < PowerNetwork::MAX_BRANCHES {
         network.branches[k] = branch(9, -1.0);
     }
-    if j < 512 {
+    if j < PowerNetwork::MAX_SWITCHES {
         network.switches[j] = network.switches[0];
     }
     network

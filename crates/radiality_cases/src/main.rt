@@ -5,6 +5,7 @@ mod changes;
 ghost use mathlib.Core.Path.{_≡_};
 ghost use Prim.Native.Nat.{_≤_};
 ghost use lib.ListN.{length};
+use cases::MAX_STATE;
 use cases::first_case;
 use cases::line_behind;
 use cases::part_of;
@@ -45,7 +46,7 @@ fn print_answer(network: PowerNetwork, line: &[u8]) {
         return;
     }
     let state = state_bytes(&line[2..]);
-    let n = at_most(line.len() - 2, 1024);
+    let n = at_most(line.len() - 2, MAX_STATE);
     match verify_radiality(changed(network, line[0]), &state[0..n]) {
         Radiality::Radial(radial) => print_radial(radial),
         Radiality::Refused { number, place } => print_refusal(number, place),

@@ -34,13 +34,13 @@ pub fn judge_head(
     if max_iterations > PowerNetwork::MAX_ITERATIONS {
         return Verdict::Refused { number: 3, place };
     }
-    if bus_count > PowerNetwork::MAX_BUSES {
+    if bus_count as usize > PowerNetwork::MAX_BUSES {
         return Verdict::Refused { number: 4, place };
     }
-    if branch_count > PowerNetwork::MAX_BRANCHES {
+    if branch_count as usize > PowerNetwork::MAX_BRANCHES {
         return Verdict::Refused { number: 4, place };
     }
-    if switch_count > PowerNetwork::MAX_SWITCHES {
+    if switch_count as usize > PowerNetwork::MAX_SWITCHES {
         return Verdict::Refused { number: 4, place };
     }
     // base_mva from 0.001 to 1,000,000
@@ -88,7 +88,7 @@ fn is_eleventh_tie(algorithm: ReconfigAlgorithm, normally_open: bool, ties: u16)
     match algorithm {
         ReconfigAlgorithm::BranchExchange => false,
         ReconfigAlgorithm::TabuSearch => false,
-        ReconfigAlgorithm::Exhaustive => normally_open && ties >= PowerNetwork::MAX_TIES,
+        ReconfigAlgorithm::Exhaustive => normally_open && ties as usize >= PowerNetwork::MAX_TIES,
     }
 }
 

@@ -1,18 +1,23 @@
 // Replays the fixed list on standard input (tests/answers.md): answers each text and compares what is printed with the entry's output, to the
-// letter. The lent bytes behind the answer must stay as they were.
+// letter. The lent bytes behind the answer must stay as they were, and all of them beside a refusal.
 ghost use mathlib.Core.Path.{_≡_};
 ghost use Prim.Native.Nat.{_+_, _≤_, _<_};
 ghost use lib.ListN.{length};
+ghost use Rattle.printing.specs.Lengths.{printedLength};
 use answers::printer::TextAnswer;
 use answers::printer::answer_text;
 use libc::STDIN_FILENO;
 use libc::STDOUT_FILENO;
 use numbers::wide16;
+use printing::lengths::MAX_LENGTH;
+use printing::lengths::REFUSAL_LENGTH;
+use printing::writer::write_refusal;
 
-// The list's limits: no text and no output is longer.
+// The list's limit: no text is longer. No output is longer than MAX_LENGTH.
 const MOST_TEXT: usize = 32767;
 
-const MOST_OUTPUT: usize = 7472;
+// An entry's head: the two lengths, four digits each, and a line feed.
+const HEAD_LENGTH: usize = 9;
 
 // More entries are not read, so that the replay ends on any input.
 const MOST_ENTRIES: u64 = 65535;
@@ -47,7 +52,7 @@ fn digit(c: u8) -> usize
 }
 
 // The length that four digits of a head say, and 65,536 where one of them is no digit.
-fn length_at(head: [u8; 9], at: usize) -> usize
+fn length_at(head: [u8; HEAD_LENGTH], at: usize) -> usize
     requires { ⌜ at ≤ 5 ⌝ }
 {
     let a = digit(head[at]);
@@ -58,21 +63,6 @@ fn length_at(head: [u8; 9], at: usize) -> usize
         return 65536;
     }
     a * 4096 + b * 256 + c * 16 + d
-}
-
-// Whether two texts are equal to the letter.
-fn equal(a: &[u8], b: &[u8]) -> bool {
-    if a.len() != b.len() {
-        return false;
-    }
-    let mut i = 0usize;
-    while i < a.len() {
-        if a[i] != b[i] {
-            return false;
-        }
-        i += 1;
-    }
-    true
 }
 
 // Whether no byte was written.
@@ -92,22 +82,29 @@ fn prints(out: &[u8], n: usize, output: &[u8]) -> bool {
     if out.len() < n {
         return false;
     }
-    equal(&out[0..n], output) && kept(&out[n..])
+    check::same(&out[0..n], output) && kept(&out[n..])
+}
+
+// Whether a refusal's line is the output, and every byte is kept.
+fn refuses(out: &[u8], number: u8, place: u16, output: &[u8]) -> bool {
+    let mut line = [0u8; REFUSAL_LENGTH];
+    write_refusal(&mut line, number, place);
+    check::same(&line, output) && kept(out)
 }
 
 // The slice that an answer is written to.
-fn unwritten() -> [u8; 7472]
-    ensures { λ r. ⌜ 7472 ≡ length r ⌝ }
+fn unwritten() -> [u8; MAX_LENGTH]
+    ensures { λ r. ⌜ printedLength ≡ length r ⌝ }
 {
-    [UNWRITTEN; 7472]
+    [UNWRITTEN; MAX_LENGTH]
 }
 
-// Whether a text's answer is the output. No refusal is: the slice has room for the longest.
+// Whether what is printed of a text's answer is the output. The slice has room for the longest.
 fn answers_with(text: &[u8], output: &[u8]) -> bool {
     let mut out = unwritten();
     match answer_text(text, &mut out) {
         TextAnswer::Printed(n) => prints(&out, wide16(n), output),
-        TextAnswer::Refused { .. } => false,
+        TextAnswer::Refused { number, place } => refuses(&out, number, place, output),
     }
 }
 
@@ -119,21 +116,21 @@ fn read_bytes(room: &mut [u8], n: usize) -> bool
     io::read_full(STDIN_FILENO, &mut room[0..n]) == n
 }
 
-fn text_room() -> [u8; 32767]
+fn text_room() -> [u8; MOST_TEXT]
     ensures { λ r. ⌜ 32767 ≡ length r ⌝ }
 {
-    [0; 32767]
+    [0; MOST_TEXT]
 }
 
-fn output_room() -> [u8; 7472]
-    ensures { λ r. ⌜ 7472 ≡ length r ⌝ }
+fn output_room() -> [u8; MAX_LENGTH]
+    ensures { λ r. ⌜ printedLength ≡ length r ⌝ }
 {
-    [0; 7472]
+    [0; MAX_LENGTH]
 }
 
 // Reads an entry's text of n bytes and its output of m, and replays it.
 fn replay_entry(n: usize, m: usize) -> Entry
-    requires { ⌜ (n ≤ 32767) × (m ≤ 7472) ⌝ }
+    requires { ⌜ (n ≤ 32767) × (m ≤ printedLength) ⌝ }
 {
     let mut text = text_room();
     if !read_bytes(&mut text, n) {
@@ -149,7 +146,7 @@ fn replay_entry(n: usize, m: usize) -> Entry
 
 // Reads an entry's head, and replays it.
 fn next_entry() -> Entry {
-    let mut head = [0u8; 9];
+    let mut head = [0u8; HEAD_LENGTH];
     let n = io::read_full(STDIN_FILENO, &mut head);
     if n == 0 {
         return Entry::Missing { ended: true };
@@ -159,7 +156,7 @@ fn next_entry() -> Entry {
     }
     let text_length = length_at(head, 0);
     let output_length = length_at(head, 4);
-    if text_length > MOST_TEXT || output_length > MOST_OUTPUT {
+    if text_length > MOST_TEXT || output_length > MAX_LENGTH {
         return Entry::Missing { ended: false };
     }
     replay_entry(text_length, output_length)

@@ -5,21 +5,24 @@ use mathlib.Core.List.{List}
 use Prim.Native.Nat.{ℕ, _≤_, _<_}
 use native.Mathlib.Omega.{arith}
 use lib.Dec.{eqb}
-use lib.ListN.{length, getD, set, length-take}
+use lib.ListN.{length, take, getD, set, length-take}
 use lib.Seq.{take-set-lt, getD-take, getD-set-same, getD-set-other}
 use Rattle.numbers.specs.UpTo.{table}
 use Rattle.numbers.specs.TableLaws.{length-table, as-table, take-table, table-cong, table-set}
 use Rattle.states.specs.declared.configuration.NetworkConfiguration.{NetworkConfiguration}
 use Rattle.network.specs.declared.topology.PowerNetwork.{PowerNetwork}
+use Rattle.network.specs.Answers.{accepted}
+use Rattle.network.specs.Check.{checkRecords}
 use Rattle.network.specs.Records.{recordsOf}
 use Rattle.states.specs.Configuration.{configurationOf}
-use Rattle.states.specs.Live.{live}
+use Rattle.states.specs.Live.{live, baseState}
 use Rattle.states.specs.LiveLaws.{live-configuration}
 use Rattle.radiality.specs.FeederRows.{liveFlags}
 use Rattle.states.specs.Switches.{byte, swapped, toggled}
-use Rattle.states.specs.Listed.{switches-listed}
+use Rattle.states.specs.Listed.{switches-listed, few-switches}
 use Rattle.searches.specs.States.{stateOf}
 use Rattle.searches.specs.Given.{Held}
+use Rattle.searches.specs.FromBase.{base-good}
 
 module _ (n : PowerNetwork) where
   module _ (c : NetworkConfiguration) where
@@ -50,6 +53,15 @@ module _ (n : PowerNetwork) where
 
   pub held : (s : List ℕ) → length s ≡ n .«switch_count» → n .«switch_count» ≤ 512 → Held n (configurationOf s)
   held s e l = ap configurationOf (sym (state-held s e l))
+
+-- the base of a network that has been checked
+module _ (n : PowerNetwork) where
+  pub base-long : length (baseState (recordsOf n)) ≡ n .«switch_count»
+  base-long = base-good (recordsOf n) .long ∙ switches-listed n
+
+  pub base-held : checkRecords (recordsOf n) ≡ accepted tt → {c : NetworkConfiguration} → c ≡ configurationOf (baseState (recordsOf n)) → take (n .«switch_count») (c .switches) ≡ baseState (recordsOf n)
+  unfolding stateOf
+  base-held ok e = ap (λ (b : NetworkConfiguration). take (n .«switch_count») (b .switches)) e ∙ state-held n (baseState (recordsOf n)) base-long (few-switches n ok)
 
 -- one byte moved
 set-held : (s : List ℕ) (i b : ℕ) → i < length s → length s ≤ 512 → set (configurationOf s .switches) i b ≡ configurationOf (set s i b) .switches

@@ -16,9 +16,9 @@ use states::configuration::live_branches;
 // Where every search starts: the feeder's rows and loads, and its base with the live branches, the radiality and the loss.
 pub struct Start {
     pub graph: Graph,
-    pub loads: [Power; 256],
+    pub loads: [Power; PowerNetwork::MAX_BUSES],
     pub base: NetworkConfiguration,
-    pub live: [bool; 512],
+    pub live: [bool; PowerNetwork::MAX_BRANCHES],
     pub radial: bool,
     pub loss: f64,
 }

@@ -3,11 +3,10 @@ use mathlib.Core.Path.{_≡_, refl, sym, ap, _∙_}
 use mathlib.Core.Bool.{Bool, true, false}
 use mathlib.Core.List.{List, [], _∷_, _++_, append-nil}
 use Prim.Native.Nat.{ℕ, suc, _+_, _-_, _<_, _≤_}
-use native.Mathlib.Numerals.{add-one}
 use native.Mathlib.Omega.{arith}
 use native.Mathlib.Nat.{add-zero, add-suc, suc-add, zero-add}
-use lib.ListN.{length, getD, take, drop, set, length-take, length-append, length-drop, take-append-drop, drop-of-length-le}
-use lib.Seq.{sets, sets-eq, length-sets, take-set-le, drop-set-add, take-suc, take-all}
+use lib.ListN.{length, take, drop, set, length-append, length-drop, take-append-drop, drop-of-length-le}
+use lib.Seq.{sets, sets-eq, length-sets, take-set-le, drop-set-add, take-all, take-append-seam}
 use lib.Dec.{leb}
 use borrow.Author.Tests.{le-leb, lt-leb, leb-true, leb-false}
 use borrow.Rule.Slice.PartMut.{putMid}
@@ -39,6 +38,10 @@ module _ {A : Type 0} where
 pub written-room : (bytes out : List ℕ) → length bytes ≤ length out → written bytes out ≡ bytes ++ drop (length bytes) out
 unfolding written
 written-room bytes out h = rw (le-leb (length bytes) (length out) h)
+
+-- and what stands at the front then
+pub take-written : (bytes out : List ℕ) {n : ℕ} → length bytes ≡ n → n ≤ length out → {after : List ℕ} → after ≡ written bytes out → take n after ≡ bytes
+take-written bytes out long room e = rw (e, written-room bytes out (rw long room), ← long) (take-append-seam bytes (drop (length bytes) out))
 
 pub written-sets : (bytes out : List ℕ) → length bytes ≤ length out → written bytes out ≡ sets out 0 bytes
 written-sets bytes out h =
@@ -73,12 +76,6 @@ written-append a b out n {l} behind room first next =
     ∙ (rw (front, ← behind) (rw zero-add at (sets-append out 0 a b)))
     ∙ sym (written-sets (a ++ b) out (omega (arith, length-append a b)))
 
--- ---- a byte at a time
-pub bytes-more : (bytes out : List ℕ) (i : ℕ) → i < length bytes → set (sets out 0 (take i bytes)) i (getD bytes i 0) ≡ sets out 0 (take (i + 1) bytes)
-bytes-more bytes out i h =
-    let long : length (take i bytes) ≡ i = length-take i bytes ∙ omega arith in
-    let more = sets-append out 0 (take i bytes) (getD bytes i 0 ∷ []) in
-    rw (add-one, take-suc bytes i 0 h) (rw (zero-add, long) at more)
-
-pub bytes-all : (bytes out : List ℕ) (i : ℕ) {now : List ℕ} → length bytes ≤ i → length bytes ≤ length out → now ≡ sets out 0 (take i bytes) → now ≡ written bytes out
-bytes-all bytes out i all room w = w ∙ rw (take-all i bytes all) (sym (written-sets bytes out room))
+-- ---- copied
+pub written-copied : (bytes out : List ℕ) {now : List ℕ} → length bytes ≤ length out → now ≡ take (length bytes) bytes ++ drop (length bytes) out → now ≡ written bytes out
+written-copied bytes out room e = e ∙ rw (take-all (length bytes) bytes (omega arith)) (sym (written-room bytes out room))

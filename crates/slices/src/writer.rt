@@ -4,6 +4,7 @@ ghost use mathlib.Core.List.{[], _∷_, _++_};
 ghost use Prim.Native.Nat.{_<_};
 ghost use Rattle.lines.specs.Hex.{digit};
 ghost use Rattle.slices.specs.Written.{written, lastDigits};
+use bytes::copy;
 use numbers::wide8;
 
 // Bytes at the front of a slice.
@@ -13,11 +14,7 @@ pub fn write_bytes(out: &mut [u8], bytes: &[u8])
     if out.len() < bytes.len() {
         return;
     }
-    let mut i = 0usize;
-    while i < bytes.len() {
-        out[i] = bytes[i];
-        i += 1;
-    }
+    copy(bytes, out);
 }
 
 // The digit for a number below 16.

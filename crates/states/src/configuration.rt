@@ -20,11 +20,11 @@ use numbers::wide16;
 
 // A state of the switches: a byte for each, in list order, and closed beyond the listed ones.
 pub struct NetworkConfiguration {
-    pub switches: [u8; 512],
+    pub switches: [u8; NetworkConfiguration::MAX_SWITCHES],
 }
 
 impl NetworkConfiguration {
-    pub const MAX_SWITCHES: usize = 512;
+    pub const MAX_SWITCHES: usize = PowerNetwork::MAX_SWITCHES;
 
     pub const CLOSED: u8 = 0;
 
@@ -35,11 +35,11 @@ impl NetworkConfiguration {
         ensures { λ r. ⌜ r ≡ configurationOf [] ⌝ }
     {
         NetworkConfiguration {
-            switches: [NetworkConfiguration::CLOSED; 512],
+            switches: [NetworkConfiguration::CLOSED; NetworkConfiguration::MAX_SWITCHES],
         }
     }
 
-    // The bytes of a state, of at most 512 switches.
+    // The bytes of a state, of at most MAX_SWITCHES switches.
     pub fn of(state: &[u8]) -> NetworkConfiguration
         ensures { λ r. ⌜ r ≡ configurationOf (now (state .entry)) ⌝ }
     {
@@ -115,18 +115,18 @@ fn is_live(branch: Branch, open: bool) -> bool
 }
 
 // A flag for each branch position: none is set.
-fn no_branches() -> [bool; 512]
+fn no_branches() -> [bool; PowerNetwork::MAX_BRANCHES]
     ensures { λ r. ⌜ r ≡ table (λ k. false) 512 ⌝ }
 {
-    [false; 512]
+    [false; PowerNetwork::MAX_BRANCHES]
 }
 
 // A flag for each branch position: whether an open switch is on it.
 fn open_branches(
-    switches: [Switch; 512],
+    switches: [Switch; PowerNetwork::MAX_SWITCHES],
     count: usize,
     configuration: NetworkConfiguration,
-) -> [bool; 512]
+) -> [bool; PowerNetwork::MAX_BRANCHES]
     ensures { λ r. ⌜ r ≡ table (openOn (listed noSwitch switches count) (configuration .switches)) 512 ⌝ }
 {
     let n = at_most(count, NetworkConfiguration::MAX_SWITCHES);
@@ -135,7 +135,7 @@ fn open_branches(
     while i < n {
         let on = wide16(switches[i].branch_idx);
         if configuration.switches[i] == NetworkConfiguration::OPEN {
-            if on < PowerNetwork::MAX_BRANCHES as usize {
+            if on < PowerNetwork::MAX_BRANCHES {
                 opened[on] = true;
             }
         }
@@ -145,10 +145,14 @@ fn open_branches(
 }
 
 // A flag for each branch position: whether the branch is listed and live, from the flags of those with an open switch.
-fn live_list(branches: [Branch; 512], count: usize, opened: &[bool; 512]) -> [bool; 512]
+fn live_list(
+    branches: [Branch; PowerNetwork::MAX_BRANCHES],
+    count: usize,
+    opened: &[bool; PowerNetwork::MAX_BRANCHES],
+) -> [bool; PowerNetwork::MAX_BRANCHES]
     ensures { λ r. ⌜ r ≡ table (liveBy (listed noBranch branches count) (now (opened .entry))) 512 ⌝ }
 {
-    let m = at_most(count, PowerNetwork::MAX_BRANCHES as usize);
+    let m = at_most(count, PowerNetwork::MAX_BRANCHES);
     let mut flags = no_branches();
     let mut k: usize = 0;
     while k < m {
@@ -159,7 +163,10 @@ fn live_list(branches: [Branch; 512], count: usize, opened: &[bool; 512]) -> [bo
 }
 
 // A flag for each branch position: whether the branch is live in the state.
-pub fn live_branches(network: PowerNetwork, configuration: NetworkConfiguration) -> [bool; 512]
+pub fn live_branches(
+    network: PowerNetwork,
+    configuration: NetworkConfiguration,
+) -> [bool; PowerNetwork::MAX_BRANCHES]
     ensures { λ r. ⌜ r ≡ table (live (recordsOf network) (configuration .switches)) 512 ⌝ }
 {
     let switches = network.switches;

@@ -176,7 +176,11 @@ fn is_served(switch: Switch, in_service: bool) -> bool
 }
 
 // The live branches after the toggle of a switch on a branch in service.
-fn toggled_live(live: [bool; 512], on: usize, state: u8) -> [bool; 512]
+fn toggled_live(
+    live: [bool; PowerNetwork::MAX_BRANCHES],
+    on: usize,
+    state: u8,
+) -> [bool; PowerNetwork::MAX_BRANCHES]
     requires { ⌜ on < 512 ⌝ }
     ensures { λ r. ⌜ r ≡ set live on (eqb state 1) ⌝ }
 {
@@ -189,7 +193,7 @@ fn toggled_live(live: [bool; 512], on: usize, state: u8) -> [bool; 512]
 fn best_from_other(
     network: PowerNetwork,
     graph: Graph,
-    loads: [Power; 256],
+    loads: [Power; PowerNetwork::MAX_BUSES],
     search: TabuSearch,
 ) -> Candidate
     requires { ⌜ Given network graph loads × HeldList (search .barred) ⌝ }
@@ -268,7 +272,7 @@ fn at_base(base: NetworkConfiguration, base_radial: bool, base_loss: f64) -> Tab
 fn tabu_rounds(
     network: PowerNetwork,
     graph: Graph,
-    loads: [Power; 256],
+    loads: [Power; PowerNetwork::MAX_BUSES],
     base: NetworkConfiguration,
     base_radial: bool,
     base_loss: f64,

@@ -11,7 +11,7 @@ use numbers::wide16;
 
 // The ids of the last switches that were moved, the earliest first, and 0 behind them.
 pub(crate) struct TabuList {
-    ids: [u16; 7],
+    ids: [u16; TabuList::TABU_SIZE],
     count: u16,
 }
 
@@ -24,7 +24,7 @@ impl TabuList {
         ensures { λ r. ⌜ r ≡ tabuListOf [] ⌝ }
     {
         TabuList {
-            ids: [0; 7],
+            ids: [0; TabuList::TABU_SIZE],
             count: 0,
         }
     }

@@ -15,6 +15,7 @@ use Rattle.network.specs.Check.{checkRecords}
 use Rattle.states.specs.Live.{onState}
 use Rattle.network.specs.Records.{Network, recordsOf}
 use Rattle.network.specs.declared.topology.PowerNetwork.{PowerNetwork}
+use Rattle.printing.specs.Lengths.{planLength}
 use Rattle.printing.specs.Printed.{truthByte}
 use Rattle.frames.specs.Text.{readText}
 use Rattle.radiality.specs.Feeder.{radialIn}
@@ -24,8 +25,8 @@ use Rattle.printing.specs.Calls.{checkRoom, Call, answered, called}
 use Rattle.plan.specs.Plan.{planned}
 use Rattle.searches.specs.Results.{Result, resultBy, solvedBy}
 use Rattle.reconfiguration.specs.Solve.{best, result, solved}
-use Rattle.controller.specs.Calls.{numbered, onRecords, textRadiality, textLoss, planOn, textPlan}
-use Rattle.controller.specs.CallLaws.{NoNan, radiality-refused, loss-refused, plan-refused}
+use Rattle.controller.specs.Calls.{numbered, onRecords, textRadiality, textLoss, onText, textPlan}
+use Rattle.controller.specs.CallLaws.{NoNan, reading-refused, text-untouched}
 use Rattle.timing.specs.Rounds.{valueOf, recordCount, searchValue, textSearch, asked, total}
 
 -- ---- how many records a text has
@@ -61,8 +62,8 @@ module _ (kind : ℕ) (t a b : List ℕ) where
     unfolding asked textLoss onRecords
     asked-loss e so = rw (e, so)
 
-    pub asked-pairs : kind ≡ 3 → readText t ≡ accepted N → planned N a b (replicate 2805 0) .answer ≡ asked kind t a b
-    unfolding asked textPlan planOn
+    pub asked-pairs : kind ≡ 3 → readText t ≡ accepted N → planned N a b (replicate planLength 0) .answer ≡ asked kind t a b
+    unfolding asked textPlan onText
     asked-pairs e so = rw (e, so)
 
 -- ---- a best loss has bits
@@ -112,12 +113,12 @@ either-nothing true u v hu hv = hu
 either-nothing false u v hu hv = hv
 
 value-refused : (kind : ℕ) (t a b : List ℕ) (n p : ℕ) → readText t ≡ refused n p → valueOf (asked kind t a b) ≡ 0
-unfolding asked onRecords
+unfolding asked onRecords textRadiality textLoss textPlan
 value-refused kind t a b n p so =
     either-nothing (eqb kind 0) _ _ (sym (count-refused t n p so))
-    (either-nothing (eqb kind 1) _ _ (ap valueOf (sym (radiality-refused t n p so a)))
-    (either-nothing (eqb kind 2) _ _ (ap valueOf (sym (loss-refused t n p so a)))
-    (either-nothing (eqb kind 3) _ _ (ap (λ (q : Call ℕ). valueOf (q .answer)) (sym (plan-refused t n p so a b (replicate 2805 0)))) refl)))
+    (either-nothing (eqb kind 1) _ _ (ap valueOf (sym (reading-refused truthByte t _ so)))
+    (either-nothing (eqb kind 2) _ _ (ap valueOf (sym (reading-refused (toBits binary64) t _ so)))
+    (either-nothing (eqb kind 3) _ _ (ap (λ (q : Call ℕ). valueOf (q .answer)) (sym (text-untouched t _ (replicate planLength 0) so))) refl)))
 
 same-either-way : (b : Bool) (v : ℕ) → cond b v v ≡ v
 same-either-way true v = refl

@@ -9,6 +9,7 @@ use Rattle.numbers.specs.UpTo.{upTo}
 use Rattle.network.specs.Answers.{Answer, accepted, refused}
 use Rattle.network.specs.Records.{Network}
 use Rattle.frames.specs.Text.{readText}
+use Rattle.printing.specs.Lengths.{planLength}
 use Rattle.searches.specs.Results.{Result}
 use Rattle.reconfiguration.specs.Solve.{solved}
 use Rattle.controller.specs.Calls.{numbered, onRecords, textRadiality, textLoss, textPlan}
@@ -30,13 +31,13 @@ unfoldable pub textSearch : List ℕ → Answer ℕ
 textSearch text = onRecords (readText text) searchValue
 
 -- the calls by their kind: the records of the text, radiality and loss of the first state, the plan from the first state to the second, with room
--- for 255 pairs; any other kind counts for 0
+-- for the longest; any other kind counts for 0
 unfoldable pub asked : ℕ → List ℕ → List ℕ → List ℕ → Answer ℕ
 asked kind text first second =
     cond (eqb kind 0) (onRecords (readText text) (λ N. accepted (recordCount N)))
     (cond (eqb kind 1) (textRadiality text first)
     (cond (eqb kind 2) (textLoss text first)
-    (cond (eqb kind 3) (textPlan text first second (replicate 2805 0) .answer)
+    (cond (eqb kind 3) (textPlan text first second (replicate planLength 0) .answer)
     (accepted 0))))
 
 -- the sum of n rounds, even ones and odd ones in turn, in 64 bits

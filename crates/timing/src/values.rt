@@ -5,6 +5,7 @@ ghost use lib.ListN.{replicate};
 ghost use Rattle.network.specs.Answers.{accepted};
 ghost use Rattle.states.specs.Live.{onState};
 ghost use Rattle.network.specs.Records.{recordsOf};
+ghost use Rattle.printing.specs.Lengths.{planLength};
 ghost use Rattle.printing.specs.Printed.{truthByte};
 ghost use Rattle.frames.specs.Text.{readText};
 ghost use Rattle.radiality.specs.Feeder.{radialIn};
@@ -19,11 +20,13 @@ use network::error::Verdict;
 use network::topology::PowerNetwork;
 use plan::planner::PlanAnswer;
 use plan::planner::plan;
+use printing::lengths::PLAN_LENGTH;
 use printing::writer::truth_byte;
 use radiality::radiality::Radiality;
 use radiality::radiality::verify_radiality;
 use reconfiguration::solve::solve;
 use searches::answer::SolveAnswer;
+use states::configuration::NetworkConfiguration;
 
 // How many records a text has.
 pub(crate) fn reading(text: &[u8]) -> u64
@@ -58,11 +61,11 @@ pub(crate) fn loss(network: PowerNetwork, state: &[u8]) -> u64
     }
 }
 
-// How many pairs a plan has; 255 have room.
+// How many pairs a plan has; the longest has room.
 pub(crate) fn pairs(network: PowerNetwork, present: &[u8], wanted: &[u8]) -> u64
-    ensures { λ r. ⌜ r ≡ valueOf (planned (recordsOf network) (now (present .entry)) (now (wanted .entry)) (replicate 2805 0) .answer) ⌝ }
+    ensures { λ r. ⌜ r ≡ valueOf (planned (recordsOf network) (now (present .entry)) (now (wanted .entry)) (replicate planLength 0) .answer) ⌝ }
 {
-    let mut out = [0u8; 2805];
+    let mut out = [0u8; PLAN_LENGTH];
     match plan(network, present, wanted, &mut out) {
         PlanAnswer::Refused { number, place } => 0,
         PlanAnswer::Pairs(count) => count as u64,
@@ -73,7 +76,7 @@ pub(crate) fn pairs(network: PowerNetwork, present: &[u8], wanted: &[u8]) -> u64
 pub(crate) fn search(network: PowerNetwork) -> u64
     ensures { λ r. ⌜ r ≡ valueOf (searchValue (recordsOf network)) ⌝ }
 {
-    let mut best = [0u8; 512];
+    let mut best = [0u8; NetworkConfiguration::MAX_SWITCHES];
     match solve(network, &mut best) {
         SolveAnswer::Refused { number, place } => 0,
         SolveAnswer::Solved(result) => f64::to_bits(result.optimized_losses_mw),

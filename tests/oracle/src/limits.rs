@@ -1,7 +1,7 @@
 //! Fixed texts: both sides of every limit, the refusal table's examples, document 01's triangle and its relatives, and
 //! lines with several faults at once.
 
-use crate::feeder::{head_line, joined, triangle, Feeder, OPERABLE, TIE};
+use crate::feeder::{head_line, joined, triangle, BranchLine, Feeder, OPERABLE, TIE};
 use crate::random::Random;
 use crate::shapes::full_size;
 
@@ -15,7 +15,9 @@ pub fn texts() -> Vec<Vec<u8>> {
     texts.extend(characters());
     texts.extend(several_faults());
     texts.extend(ids_and_positions());
+    texts.extend(out_of_service());
     texts.extend(tie_counts());
+    texts.extend(parallel_ties());
     texts.extend(long_texts());
     texts
 }
@@ -240,6 +242,18 @@ fn ids_and_positions() -> Vec<Vec<u8>> {
     feeders.iter().map(Feeder::text).collect()
 }
 
+/// A branch out of service is judged as any other: behind one bus, a to bus or a from bus that is not listed, a resistance
+/// out of its range.
+fn out_of_service() -> Vec<Vec<u8>> {
+    let one_branch = |(from, to, r)| {
+        let mut feeder = Feeder { base_mva: 1.0, ..Feeder::default() };
+        feeder.bus(1, 0.0);
+        feeder.branches.push(BranchLine { from, to, r, status: 0 });
+        feeder.text()
+    };
+    [(1, 9, 0.0), (9, 1, 0.0), (1, 1, -1.0), (1, 1, 0.0)].map(one_branch).into()
+}
+
 /// Nine to twelve ties, locked or not, among sections, with each method.
 fn tie_counts() -> Vec<Vec<u8>> {
     let mut texts = Vec::new();
@@ -258,6 +272,19 @@ fn tie_counts() -> Vec<Vec<u8>> {
         }
     }
     texts
+}
+
+/// Ties of one resistance side by side, and no other branch: of equal losses the first mask's state is answered, with the
+/// first tie of the list closed.
+fn parallel_ties() -> Vec<Vec<u8>> {
+    let on_branches = |positions: &[usize]| {
+        let mut feeder = Feeder { base_mva: 1.0, method: 2, iterations: 1, ..Feeder::default() };
+        (1..=2).for_each(|id| feeder.bus(id, 1.0));
+        positions.iter().for_each(|_| feeder.branch(1, 2, 0.5));
+        (10..).zip(positions).for_each(|(id, &branch)| feeder.switch(id, branch, OPERABLE | TIE));
+        feeder.text()
+    };
+    [&[0, 1][..], &[1, 0], &[0, 1, 2]].map(on_branches).into()
 }
 
 /// Texts beyond any buffer that fits the longest accepted one.

@@ -33,6 +33,7 @@ pub enum Reading {
     FieldOrder,
     OneIdSpace,
     LockedTiesNotCounted,
+    OutOfServiceNotJudged,
     NegativeZeroRefused,
     RangeEndsRefused,
     CutAtLongestText,
@@ -66,7 +67,7 @@ pub enum Print {
     RefusesAll,
 }
 
-const READING: [Reading; 18] = [
+const READING: [Reading; 19] = [
     Reading::LowerCaseTaken,
     Reading::CarriageReturnTaken,
     Reading::UnendedLastLineTaken,
@@ -82,6 +83,7 @@ const READING: [Reading; 18] = [
     Reading::FieldOrder,
     Reading::OneIdSpace,
     Reading::LockedTiesNotCounted,
+    Reading::OutOfServiceNotJudged,
     Reading::NegativeZeroRefused,
     Reading::RangeEndsRefused,
     Reading::CutAtLongestText,
@@ -209,6 +211,7 @@ impl Reading {
             Reading::LockedTiesNotCounted if right.number == 9 && before.windows(3).any(|end| end == b"01\n") => {
                 number(0)
             }
+            Reading::OutOfServiceNotJudged if [5, 6].contains(&right.number) && out_of_service(line?) => number(0),
             _ => None,
         }
     }
@@ -230,6 +233,11 @@ impl Reading {
             _ => None,
         }
     }
+}
+
+/// A whole branch line with status 00.
+fn out_of_service(line: &[u8]) -> bool {
+    line.starts_with(b"03") && line.ends_with(b"00\n")
 }
 
 /// A 1 in a later line goes before a higher number in an earlier one.

@@ -40,6 +40,7 @@ pub enum Slip {
     TabuNothingBarred,
     SkipsLockedTies,
     MasksFall,
+    MaskBitsFromLastTie,
     ExhaustiveLaterOnTie,
     ExhaustiveFirstRadial,
     CountsAllMasks,
@@ -52,7 +53,7 @@ pub enum Slip {
 impl Slip {
     /// No text can show these: the first move leaves a radial state, and every later one keeps its live branches.
     pub const UNSEEN: [Slip; 2] = [Slip::TabuOneRound, Slip::TabuNothingBarred];
-    pub const ALL: [Slip; 37] = [
+    pub const ALL: [Slip; 38] = [
         Slip::SupplySide,
         Slip::DepthFirst,
         Slip::LoadsBackwards,
@@ -83,6 +84,7 @@ impl Slip {
         Slip::TabuLockedSwitches,
         Slip::SkipsLockedTies,
         Slip::MasksFall,
+        Slip::MaskBitsFromLastTie,
         Slip::ExhaustiveLaterOnTie,
         Slip::ExhaustiveFirstRadial,
         Slip::CountsAllMasks,
@@ -415,7 +417,11 @@ impl<'a> Searches<'a> {
             let switch = &self.network.switches[i];
             switch.normally_open && (switch.can_operate || !self.slips(Slip::SkipsLockedTies))
         };
-        (0..self.network.switches.len()).filter(toggles).collect()
+        let mut ties: Vec<usize> = (0..self.network.switches.len()).filter(toggles).collect();
+        if self.slips(Slip::MaskBitsFromLastTie) {
+            ties.reverse();
+        }
+        ties
     }
 
     /// "Mask bit i closes the i-th tie."

@@ -1,63 +1,38 @@
--- `answer_text` meets its contract: the lines are made in memory of the call's own, which is long enough, and copied where the slice is.
-use mathlib.Core.Path.{ap, _∙_}
-use native.Mathlib.Omega.{arith}
-use native.Mathlib.Numerals.{unary-clauses}
-use lib.ListN.{length}
-use Rattle.slices.specs.WrittenLaws.{length-written}
-use Rattle.answers.specs.PrintingLaws.{printed-short}
-use Rattle.answers.proofs.PrinterLaws.{no-room, all-printed}
+-- `answer_text` meets its contract: the text is refused, or its network is answered.
+use mathlib.Core.Path.{_∙_}
+use Rattle.frames.specs.Proof.{passed}
+use Rattle.frames.specs.ReadingLaws.{read-accepted, read-refused}
+use Rattle.answers.specs.PrintingLaws.{text-refused, text-answered}
 use borrow.Author.Needs.{needs}
 use Rattle.answers.proofs.printer.answer_text.Statement.{statement}
 use Rattle.answers.proofs.printer.answer_text.Tie as tie
 
-slice-aggregate-print-text : tie.Need-slice-aggregate-print-text
-slice-aggregate-print-text c = search needs
+read-text-requires : tie.Need-read-text-requires
+read-text-requires c κs = search needs
 
-print-text-requires : tie.Need-print-text-requires
-print-text-requires c κs = search needs
+enum-known-verdict : tie.Need-enum-known-verdict
+enum-known-verdict c = search needs
 
 returns : tie.Need-returns
-returns c = no-room _ _ (c .before .before .print-text .ensures .0) (c .if1 .taken)
+returns c = text-refused _ _ (read-refused _ _ _ _ (c .before .before .before .read-text .ensures) (c .before .verdict .given .1))
 
-sub-write-bytes : tie.Need-sub-write-bytes
-sub-write-bytes c = search needs
+enum-told : tie.Need-enum-told
+enum-told c = search needs
 
-part-write-bytes-start : tie.Need-part-write-bytes-start
-part-write-bytes-start c = search needs
-
-part-write-bytes-end : tie.Need-part-write-bytes-end
-part-write-bytes-end c =
-    let p = c .before .before .before .before in
-    let start = c .before .before .before .before .before .before .before .before in
-    omega (arith, p .print-text .ensures .0, printed-short (start .args .text .now), ap length (p .print-text .ensures .1) ∙ length-written _ _)
-
-write-bytes-requires : tie.Need-write-bytes-requires
-write-bytes-requires c κs = search needs
-
-cast-t16 : tie.Need-cast-t16
-cast-t16 c =
-    let start = c .before .before .before .before .before .before .before .before .before .before .before .before in
-    omega (arith, c .before .before .before .before .before .before .before .before .print-text .ensures .0, printed-short (start .args .text .now))
+answer-network-requires : tie.Need-answer-network-requires
+answer-network-requires c κs =
+    let told = c .before .before in
+    passed _ _ (read-accepted _ _ (told .before .before .read-text .ensures) (told .enum-told .given .1))
 
 same-length : tie.Need-same-length
 same-length c = search needs
 
 returns-2 : tie.Need-returns-2
 returns-2 c =
-    let p = c .before .before .before .before .before .before .before .before .print-text .ensures in
-    all-printed _ _ (p .0) (c .before .before .before .before .before .before .if1 .left) _ (search needs) (p .1) (simp unary-clauses at (c .before .before .write-bytes .ensures))
+    let answer = c .before .before in
+    let told = answer .before .before .before in
+    answer .answer-network .ensures ∙ text-answered _ _ (read-accepted _ _ (told .before .before .read-text .ensures) (told .enum-told .given .1))
 
 pub answer-text-spec : {M : Type 1} → statement M
 answer-text-spec =
-    tie.close
-    (tie.spec
-    slice-aggregate-print-text
-    print-text-requires
-    returns
-    sub-write-bytes
-    part-write-bytes-start
-    part-write-bytes-end
-    write-bytes-requires
-    cast-t16
-    same-length
-    returns-2)
+    tie.close (tie.spec read-text-requires enum-known-verdict returns enum-told answer-network-requires same-length returns-2)

@@ -5,9 +5,10 @@ use lib.ListN.{length}
 use Rattle.network.specs.Records.{recordsOf}
 use Rattle.slices.specs.WrittenLaws.{length-written}
 use Rattle.reconfiguration.specs.Solve.{result}
+use Rattle.searches.specs.StateLaws.{base-held}
 use Rattle.answers.specs.Printing.{moveLines, networkText}
 use Rattle.answers.specs.PrintingLaws.{network-short}
-use Rattle.answers.proofs.PrinterLaws.{base-held, solved-result, solved-state, not-refused, result-bits, network-long, lines-stored}
+use Rattle.answers.proofs.PrinterLaws.{solved-result, solved-state, not-refused, result-bits, network-long, lines-stored}
 use borrow.Author.Needs.{needs}
 use Rattle.answers.proofs.printer.print_network.Statement.{statement}
 use Rattle.answers.proofs.printer.print_network.Tie as tie

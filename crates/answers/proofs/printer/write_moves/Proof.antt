@@ -6,6 +6,7 @@ use lib.ListN.{length, length-drop}
 use borrow.Rule.Slice.PartMut.{putMid}
 use Rattle.numbers.specs.Parts.{part-rest}
 use Rattle.network.specs.Records.{recordsOf}
+use Rattle.printing.specs.Lengths.{answerLength}
 use Rattle.answers.specs.Printing.{operationLines, planLines, moveLines}
 use Rattle.answers.specs.PrintingLaws.{operations-short, plan-short}
 use Rattle.answers.proofs.PrinterLaws.{moves-room, moves-stored, moves-long}
@@ -49,7 +50,7 @@ write-plan-requires : tie.Need-write-plan-requires
 write-plan-requires c κs =
     let w = c .before .before .before in
     let start = c .before .before .before .before .before .before in
-    (start .pre .0, rw part-rest (omega (arith, w .write-operations .ensures .0, operations-short _ (start .pre .0 .0), start .pre .1, length-drop (59 + w .write-operations .result) (putMid 59 (length (start .args .out .now) - 59) (start .args .out .now) (w .write-operations .last .0)), moves-room (start .args .out .now) (operationLines (recordsOf (start .args .network))) (omega (arith, operations-short _ (start .pre .0 .0), start .pre .1)) (w .write-operations .ensures .1))))
+    (start .pre .0, rw part-rest (omega (arith, w .write-operations .ensures .0, operations-short _ (start .pre .0 .0), start .pre .1, length-drop (answerLength + w .write-operations .result) (putMid answerLength (length (start .args .out .now) - answerLength) (start .args .out .now) (w .write-operations .last .0)), moves-room (start .args .out .now) (operationLines (recordsOf (start .args .network))) (omega (arith, operations-short _ (start .pre .0 .0), start .pre .1)) (w .write-operations .ensures .1))))
 
 add-result : tie.Need-add-result
 add-result c =

@@ -5,6 +5,7 @@ use native.Mathlib.Omega.{arith}
 use native.Mathlib.Numerals.{unary-clauses}
 use lib.ListN.{length}
 use Rattle.states.specs.Listed.{few-switches}
+use Rattle.printing.specs.Lengths.{operationLength}
 use Rattle.answers.proofs.PrinterLaws.{operationBytes, operations-printed}
 use borrow.Author.Needs.{needs}
 use Rattle.answers.proofs.printer.write_operations.Statement.{statement}
@@ -61,7 +62,7 @@ returns c =
     let start = c .before .before .before .before .before .before .before .before .before .before .before .before .before .before in
     let n = c .before .before .before .before .before .before .before .before .before .before .before .before .wide16 .ensures .0 in
     let printed = operations-printed _ (start .pre .0 .0) _ (start .pre .1) (call .compute-switch-operations .result) (simp unary-clauses (rw n (start .pre .0 .1))) (simp unary-clauses (rw n (start .pre .0 .2))) (call .compute-switch-operations .ensures) in
-    (ap (λ (k : ℕ). 9 * k) (c .wide162 .ensures .0) ∙ sym (ap operationBytes (c .before .before .count .given .1)) ∙ printed .0, printed .1)
+    (ap (λ (k : ℕ). operationLength * k) (c .wide162 .ensures .0) ∙ sym (ap operationBytes (c .before .before .count .given .1)) ∙ printed .0, printed .1)
 
 same-length-2 : tie.Need-same-length-2
 same-length-2 c = search needs

@@ -5,6 +5,7 @@ use native.Mathlib.Omega.{arith}
 use native.Mathlib.Numerals.{unary-clauses}
 use lib.ListN.{length}
 use Rattle.states.specs.Listed.{few-switches}
+use Rattle.printing.specs.Lengths.{pairLength}
 use Rattle.answers.proofs.PrinterLaws.{planBytes, plan-printed}
 use borrow.Author.Needs.{needs}
 use Rattle.answers.proofs.printer.write_plan.Statement.{statement}
@@ -61,7 +62,7 @@ returns c =
     let start = c .before .before .before .before .before .before .before .before .before .before .before .before .before .before in
     let n = c .before .before .before .before .before .before .before .before .before .before .before .before .wide16 .ensures .0 in
     let printed = plan-printed _ (start .pre .0 .0) _ (start .pre .1) (call .plan .result) (simp unary-clauses (rw n (start .pre .0 .1))) (simp unary-clauses (rw n (start .pre .0 .2))) (call .plan .ensures) in
-    (ap (λ (k : ℕ). 11 * k) (c .wide162 .ensures .0) ∙ sym (ap planBytes (c .before .before .count .given .1)) ∙ printed .0, printed .1)
+    (ap (λ (k : ℕ). pairLength * k) (c .wide162 .ensures .0) ∙ sym (ap planBytes (c .before .before .count .given .1)) ∙ printed .0, printed .1)
 
 same-length-2 : tie.Need-same-length-2
 same-length-2 c = search needs

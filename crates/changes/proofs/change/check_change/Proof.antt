@@ -2,8 +2,7 @@
 use mathlib.Core.Path.{_≡_, _∙_}
 use lib.ListN.{length}
 use borrow.Author.Tests.{not-true, not-false}
-use Rattle.network.specs.ReadLaws.{length-of}
-use Rattle.network.proofs.bus.Bus.{the-type}
+use Rattle.network.proofs.ArrayLengths.{buses-256}
 use Rattle.network.specs.AnswerLaws.{decides, gives-way}
 use Rattle.changes.proofs.Radial.{not-radial, is-radial}
 use borrow.Author.Needs.{needs}
@@ -15,7 +14,7 @@ is-radial-requires c κs = search needs
 
 -- the network has 256 entries for buses
 buses : (s : tie.Start) → length (s .args .network .buses) ≡ 256
-buses s = length-of (the-type .to) (s .args .network .buses) (s .good .0 .1 .1 .0 .1 .0 .1)
+buses s = buses-256 (s .args .network) (s .good .0)
 
 returns : tie.Need-returns
 returns c =

@@ -52,7 +52,7 @@ judged c =
     let start = loop .before in
     let small : start .args .count ≤ 512 = omega arith in
     let within : loop .loop .i ≤ start .args .count = omega arith in
-    let read = bus-read (start .args .t1) (loop .loop .i) (start .good .0 .1 .0 .1) (omega arith) in
+    let read = bus-read (start .args .t1) (loop .loop .i) (search needs) (omega arith) in
     let twice = stands-before busId _ _ small _ _ _ (start .pre .1) _ _ (loop .loop .i) within (p .position-of .ensures) in
     c .judge-bus .ensures ∙ ap (λ l. judge l (loop .loop .place)) (bus-faults _ _ _ _ read twice)
 

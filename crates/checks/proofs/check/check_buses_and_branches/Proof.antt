@@ -8,9 +8,8 @@ use Rattle.network.specs.AnswerLaws.{refused-then, accepted-then}
 use Rattle.network.specs.Limits.{busId}
 use Rattle.ids.specs.Ids.{idRows}
 use Rattle.network.specs.LookupLaws.{listed-first}
-use Rattle.network.specs.ReadLaws.{length-of}
 use Rattle.network.specs.Records.{noBus, listed, recordsOf}
-use Rattle.network.proofs.bus.Bus.{the-type}
+use Rattle.network.proofs.ArrayLengths.{buses-256}
 use Rattle.checks.proofs.check.check_buses_and_branches.Statement.{statement}
 use Rattle.checks.proofs.check.check_buses_and_branches.Tie as tie
 
@@ -33,7 +32,7 @@ in-rows : (c : tie.After-bus-rows)
 in-rows c =
     let start = c .before .before .before .before .before in
     let n = start .args .network in
-    let sized : length (n .buses) ≡ 256 = length-of (the-type .to) (n .buses) (start .good .0 .1 .1 .0 .1 .0 .1) in
+    let sized : length (n .buses) ≡ 256 = buses-256 n (start .good .0) in
     c .bus-rows .ensures ∙ ap (λ l. idRows (map busId l)) (listed-first noBus (n .buses) (n .«bus_count») (omega arith))
 
 check-bus-list-requires : tie.Need-check-bus-list-requires

@@ -9,9 +9,8 @@ use Rattle.network.specs.Check.{headOf}
 use Rattle.network.specs.Limits.{switchId}
 use Rattle.ids.specs.Ids.{idRows}
 use Rattle.network.specs.LookupLaws.{listed-first}
-use Rattle.network.specs.ReadLaws.{length-of}
 use Rattle.network.specs.Records.{noSwitch, recordsOf}
-use Rattle.network.proofs.switch.Switch.{the-type}
+use Rattle.network.proofs.ArrayLengths.{switches-512}
 use Rattle.checks.proofs.check.check_switches.Statement.{statement}
 use Rattle.checks.proofs.check.check_switches.Tie as tie
 
@@ -32,7 +31,7 @@ check-switch-list-requires c κs =
     let rows = c .before .before .before .before in
     let start = rows .before .before .before .before in
     let n = start .args .network in
-    let sized : length (n .switches) ≡ 512 = length-of (the-type .to) (n .switches) (start .good .0 .1 .1 .1 .1 .0 .1 .0 .1) in (
+    let sized : length (n .switches) ≡ 512 = switches-512 n (start .good .0) in (
       start .pre .2,
       omega arith,
       start .pre .1,

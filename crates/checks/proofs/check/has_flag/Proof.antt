@@ -4,9 +4,6 @@ use borrow.Author.Tests.{lt-ltb, le-ltb}
 use Rattle.checks.proofs.check.has_flag.Statement.{statement}
 use Rattle.checks.proofs.check.has_flag.Tie as tie
 
-cast-if1 : tie.Need-cast-if1
-cast-if1 c = search needs
-
 element-copy-out-result : tie.Need-element-copy-out-result
 element-copy-out-result c = search needs
 
@@ -17,4 +14,4 @@ returns-2 : tie.Need-returns-2
 returns-2 c = rw (le-ltb _ _ (c .if1 .left))
 
 pub has-flag-spec : {M : Type 1} → statement M
-has-flag-spec = tie.close (tie.spec cast-if1 element-copy-out-result returns returns-2)
+has-flag-spec = tie.close (tie.spec element-copy-out-result returns returns-2)

@@ -1,4 +1,5 @@
 -- `feeder_answer_text` meets its contract: the printer's answer in numbers.
+use Rattle.controller.specs.Calls.{numbersOf}
 use Rattle.controller.specs.CallLaws.{numbers-beside}
 use borrow.Author.Needs.{needs}
 use Rattle.controller.proofs.calls.feeder_answer_text.Statement.{statement}
@@ -14,7 +15,7 @@ same-length : tie.Need-same-length
 same-length c = search needs
 
 returns : tie.Need-returns
-returns c = numbers-beside _ _ _ _ (c .text-numbers .ensures) (c .before .before .before .answer-text .ensures)
+returns c = numbers-beside numbersOf (c .text-numbers .ensures) (c .before .before .before .answer-text .ensures)
 
 pub feeder-answer-text-spec : {M : Type 1} → statement M
 feeder-answer-text-spec =

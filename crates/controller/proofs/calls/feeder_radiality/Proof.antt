@@ -1,8 +1,8 @@
 -- `feeder_radiality` meets its contract: the text is refused, or the call on its records answers.
 use mathlib.Core.Path.{ap, _∙_}
 use Rattle.frames.specs.ReadingLaws.{read-refused, read-accepted}
-use Rattle.controller.specs.Calls.{numbersOf}
-use Rattle.controller.specs.CallLaws.{radiality-refused, radiality-answered}
+use Rattle.controller.specs.Calls.{numbersOf, textRadiality}
+use Rattle.controller.specs.CallLaws.{reading-refused, reading-answered}
 use borrow.Author.Needs.{needs}
 use Rattle.controller.proofs.calls.feeder_radiality.Statement.{statement}
 use Rattle.controller.proofs.calls.feeder_radiality.Tie as tie
@@ -17,10 +17,11 @@ refusal-requires : tie.Need-refusal-requires
 refusal-requires c κs = search needs
 
 returns : tie.Need-returns
+unfolding textRadiality
 returns c =
     let verdict = c .before .before in
     let so = read-refused _ _ _ _ (verdict .before .before .read-text .ensures) (verdict .verdict .given .1) in
-    c .refusal .ensures ∙ ap numbersOf (radiality-refused _ _ _ so _)
+    c .refusal .ensures ∙ ap numbersOf (reading-refused _ _ _ so)
 
 enum-told : tie.Need-enum-told
 enum-told c = search needs
@@ -32,10 +33,11 @@ radiality-numbers-requires : tie.Need-radiality-numbers-requires
 radiality-numbers-requires c κs = search needs
 
 returns-2 : tie.Need-returns-2
+unfolding textRadiality
 returns-2 c =
-    let told = c .before .before .before in
+    let told = c .before .before in
     let so = read-accepted _ _ (told .before .before .read-text .ensures) (told .enum-told .given .1) in
-    c .radiality-numbers .ensures ∙ ap numbersOf (radiality-answered _ _ so _ _ (c .before .verify-radiality .ensures))
+    c .radiality-numbers .ensures ∙ ap numbersOf (reading-answered _ _ _ so (c .before .verify-radiality .ensures))
 
 pub feeder-radiality-spec : {M : Type 1} → statement M
 feeder-radiality-spec =

@@ -1,5 +1,5 @@
--- `branch_exchange_step` meets its contract: the best is that of the first i switches. A switch is not seen, or its loop has no section, or its trial does not improve, or it takes the place of
--- the best before.
+-- `branch_exchange_step` meets its contract: `last` is the last improving trial of the first i switches. A switch is not seen, or its loop has no section, or its trial does not improve, or it
+-- takes the place of the one before.
 use mathlib.Core.Path.{_≡_, refl, sym, ap, _∙_}
 use mathlib.Core.Logic.{⊎-elim}
 use mathlib.Core.Option.{some}
@@ -8,10 +8,9 @@ use native.Mathlib.Omega.{arith}
 use lib.ListN.{length, getD}
 use borrow.Author.Needs.{needs}
 use Rattle.numbers.specs.UpTo.{upTo}
-use Rattle.network.specs.ReadLaws.{pastBranch, length-of}
+use Rattle.network.specs.ReadLaws.{pastBranch}
 use Rattle.network.specs.Records.{noSwitch, recordsOf}
-use Rattle.network.proofs.branch.Branch as branch
-use Rattle.network.proofs.bus.Bus as bus
+use Rattle.network.proofs.ArrayLengths.{branches-512, buses-256}
 use Rattle.radiality.specs.FeederRows.{liveFlags}
 use Rattle.losses.specs.Loss.{lossIn}
 use Rattle.searches.specs.States.{stateOf}
@@ -30,11 +29,11 @@ use Rattle.exchange.proofs.exchange.branch_exchange_step.Statement.{sta
 use Rattle.exchange.proofs.exchange.branch_exchange_step.Tie as tie
 
 abbrev Inv-loop : tie.InvT-loop
-Inv-loop graph loads configuration current network sections live state branches base-mva count best₀ i₀ best i =
-    (i ≤ count) × (best ≡ trialOf (recordsOf network) configuration (lastSome (improving (recordsOf network) (stateOf network configuration) current) i))
+Inv-loop graph loads configuration current network sections live state branches base-mva count last₀ i₀ last i =
+    (i ≤ count) × (last ≡ trialOf (recordsOf network) configuration (lastSome (improving (recordsOf network) (stateOf network configuration) current) i))
 
 abbrev μ-loop : tie.MeasureT-loop
-μ-loop graph loads configuration current network sections live state branches base-mva count best₀ i₀ best i = count - i
+μ-loop graph loads configuration current network sections live state branches base-mva count last₀ i₀ last i = count - i
 
 live-branches-requires : tie.Need-live-branches-requires Inv-loop μ-loop
 live-branches-requires c κs = search needs
@@ -92,7 +91,7 @@ here c =
     let loop = c .before .before .before in
     let start = loop .before .before .before .before .before in
     let n = start .args .t1 in
-    switch-read n (start .pre .0 .0) (loop .loop .i) (listed (c .before .before)) _ refl (length-of (branch.the-type .to) (n .branches) (start .good .0 .1 .1 .1 .0 .1 .0 .1)) _ (c .wide162 .ensures .0)
+    switch-read n (start .pre .0 .0) (loop .loop .i) (listed (c .before .before)) _ refl (branches-512 n (start .good .0)) _ (c .wide162 .ensures .0)
 
 -- the live branches of the round's state
 flags : (c : tie.After-live-branches Inv-loop μ-loop) → let args = c .before .args in c .live-branches .result ≡ liveFlags (recordsOf (args .t1)) (stateOf (args .t1) (args .configuration))
@@ -119,7 +118,7 @@ tried c =
     let made = loop .before .before .before .before in
     let start = made .before in
     let n = start .args .t1 in
-    let sized = length-of (bus.the-type .to) (n .buses) (start .good .0 .1 .1 .0 .1 .0 .1) in
+    let sized = buses-256 n (start .good .0) in
     tie-tried n (start .pre .0 .0) (start .args .configuration) (start .pre .2) (loop .loop .i) _ _ (here read) _ (flags made) sized _ (start .pre .0 .1) _ (start .pre .1) _ (c .try-tie .ensures)
 
 enum-known-found : tie.Need-enum-known-found Inv-loop μ-loop
@@ -177,14 +176,14 @@ lost c =
     let start = made .before in
     let n = start .args .t1 in
     let given = start .pre .0 in
-    let sized = length-of (bus.the-type .to) (n .buses) (start .good .0 .1 .1 .0 .1 .0 .1) in
+    let sized = buses-256 n (start .good .0) in
     let live = tried-flags n (given .0) (start .args .configuration) (start .pre .2) (loop .loop .i) _ _ (here read) _ (flags made) (found .wide163 .result) (below found) _ _
     (read .wide162 .ensures .0) (opened .wide164 .ensures .0) in
     flags-loss n sized (given .0) (swapped (stateOf n (start .args .configuration)) (loop .loop .i) (found .wide163 .result)) _ _ (given .1) (moved .swapped-live .ensures ∙ live) _ _ (given .2)
     (c .compute-losses-estimate .ensures .0)
 
-better-of-requires : tie.Need-better-of-requires Inv-loop μ-loop
-better-of-requires c κs =
+last-improving-requires : tie.Need-last-improving-requires Inv-loop μ-loop
+last-improving-requires c κs =
     let found = c .before .before .before in
     let goes = found .before .before .before .before .before .before .before .before .before .before .before in
     (inside goes, byte found)
@@ -213,7 +212,7 @@ loop-again c =
     let current = start .args .current in
     let i = loop .loop .i in
     let so-far = lastSome (improving N s current) i in
-    let best = loop .loop .inv .1 in
+    let last = loop .loop .inv .1 in
     let seen = seen-read n ok held i _ _ (here read) _ (asked .is-seen .ensures) in
     let more = ap (trialOf N held) (sym (last-more (improving N s current) i)) in (
       omega arith,
@@ -224,12 +223,12 @@ loop-again c =
           let loses = lost (record { before = record { before = record { before = found; wide164 = w .8 }; swapped-live = w .9 }; compute-losses-estimate = w .10 }) in
           let swaps = swapped-held n held i (w .7 .result) (listed goes) (below found) (start .pre .2) (few-switches n ok) in
           let so = tried call .found (w .5 .given .1) ∙ ap (λ section. some (swapped s i section)) (sym (w .7 .ensures .0)) in
-          w .12 ∙ w .11 .ensures ∙ see-tried N held s current so-far _ best i (seen ∙ w .0 .taken) (swapped s i (w .7 .result)) so _ loses _ swaps ∙ more)
+          w .12 ∙ w .11 .ensures ∙ see-tried N held s current so-far _ last i (seen ∙ w .0 .taken) (swapped s i (w .7 .result)) so _ loses _ swaps ∙ more)
           (⊎-elim
           (λ w.
           let call : tie.After-try-tie Inv-loop μ-loop = record { before = record { before = record { before = record { before = asked; if1 = w .0 }; sections = w .1 }; state2 = w .2 }; try-tie = w .3 } in
-          w .6 ∙ see-none N held s current so-far _ best i (seen ∙ w .0 .taken) (tried call .absent (w .5 .given .1)) ∙ more)
-          (λ w. w .1 ∙ see-unseen N held s current so-far _ best i (seen ∙ w .0 .left) ∙ more))
+          w .6 ∙ see-none N held s current so-far _ last i (seen ∙ w .0 .taken) (tried call .absent (w .5 .given .1)) ∙ more)
+          (λ w. w .1 ∙ see-unseen N held s current so-far _ last i (seen ∙ w .0 .left) ∙ more))
           (c .if1 .came),
     )
 
@@ -266,7 +265,7 @@ branch-exchange-step-spec =
     wide16-requires-4
     swapped-live-requires
     compute-losses-estimate-requires
-    better-of-requires
+    last-improving-requires
     enum-told
     add-i
     loop-less

@@ -2,11 +2,10 @@
 use mathlib.Core.Path.{_≡_, refl, sym, ap, _∙_}
 use Prim.Native.Nat.{_≤_, _-_}
 use native.Mathlib.Omega.{arith}
-use denote.Struct.Field.{u16-field}
 use lib.ListN.{length, take, drop, length-take}
 use borrow.Author.Needs.{needs}
 use Rattle.numbers.specs.Choose.{firstSome}
-use Rattle.network.specs.ReadLaws.{length-of}
+use Rattle.graph.proofs.ArrayLengths.{path-256}
 use Rattle.numbers.specs.FirstLaws.{first-none}
 use Rattle.exchange.specs.ExchangeTrials.{along-next, along-found}
 use Rattle.exchange.specs.ExchangeValues.{sectionAt, rowSwap}
@@ -23,7 +22,7 @@ abbrev μ-loop : tie.MeasureT-loop
 
 -- the path's array has room for its branches
 room : (c : tie.Start Inv-loop μ-loop) → c .args .t5 .count ≤ length (c .args .t5 .branch)
-room c = omega (arith, c .pre .2, length-of (u16-field .into) (c .args .t5 .branch) (c .good .1 .1 .1 .1 .0 .1 .1 .1 .0 .1 .0 .1))
+room c = omega (arith, c .pre .2, path-256 (c .args .t5) (c .good .1 .1 .1 .1 .0))
 
 wide16-requires : tie.Need-wide16-requires Inv-loop μ-loop
 wide16-requires c κs = search needs

@@ -1,7 +1,6 @@
 -- `search` meets its contract: the rounds go from the base, and what is found is read off them, with the loss of its state.
-use Rattle.network.specs.ReadLaws.{length-of}
 use Rattle.network.specs.Records.{recordsOf}
-use Rattle.network.proofs.bus.Bus.{the-type}
+use Rattle.network.proofs.ArrayLengths.{buses-256}
 use Rattle.searches.specs.SearchValues.{foundOf}
 use Rattle.searches.specs.StartLaws.{start-given, start-base}
 use Rattle.exchange.specs.Exchange.{exchangeBest}
@@ -14,7 +13,7 @@ branch-exchange-rounds-requires : tie.Need-branch-exchange-rounds-requires
 branch-exchange-rounds-requires c κs =
     let start = c .before .before .before in
     let n = start .args .network in
-    let sized = length-of (the-type .to) (n .buses) (start .good .0 .1 .1 .0 .1 .0 .1) in
+    let sized = buses-256 n (start .good .0) in
     (start-given n sized (start .pre .0) (start .pre .1), start-base n sized (start .pre .0) (start .pre .1))
 
 returns : tie.Need-returns

@@ -18,11 +18,12 @@ element-copy-out-section : tie.Need-element-copy-out-section
 element-copy-out-section c = search needs
 
 -- what is read
-entry : (c : tie.After-wide16) → let args = c .before .before .args in getD (args .sections .now) (c .wide16 .result) 0 ≡ getD (args .sections .now) (args .k) 512
+entry : (c : tie.Then1) → let args = c .before .before .args in getD (args .sections .now) (c .before .wide16 .result) 0 ≡ getD (args .sections .now) (args .k) 512
 entry c =
-    let start = c .before .before in
-    ap (λ i. getD (start .args .sections .now) i 0) (c .wide16 .ensures .0)
-    ∙ any-default (start .args .sections .now) (start .args .k) 0 512 (omega (arith, start .pre, c .before .if1 .taken))
+    let at = c .before in
+    let start = at .before in
+    ap (λ i. getD (start .args .sections .now) i 0) (at .wide16 .ensures .0)
+    ∙ any-default (start .args .sections .now) (start .args .k) 0 512 (omega (arith, start .pre, at .wide16 .ensures .0, c .if1 .taken))
 
 returns : tie.Need-returns
 returns c = read-some _ _ _ (entry (c .before .before)) (c .if2 .taken)
@@ -32,8 +33,9 @@ returns-2 c = read-none _ _ (λ h. omega (arith, entry (c .before .before), c .i
 
 returns-3 : tie.Need-returns-3
 returns-3 c =
-    let args = c .before .args in
-    read-none _ _ (λ h. omega (arith, List·getD-eq-default (args .sections .now) 512 {n = args .k} (omega arith)))
+    let at = c .before in
+    let args = at .before .args in
+    read-none _ _ (λ h. omega (arith, List·getD-eq-default (args .sections .now) 512 {n = args .k} (omega (arith, at .wide16 .ensures .0))))
 
 pub section-on-spec : {M : Type 1} → statement M
 section-on-spec =

@@ -1,10 +1,9 @@
 -- `try_tie` meets its contract: the first swap along the path by the rows, with the tie's branch live where it is in service.
 use mathlib.Core.Path.{ap, _∙_}
-use denote.Struct.Field.{u16-field}
 use lib.ListN.{take, set}
 use borrow.Author.Needs.{needs}
 use Rattle.numbers.specs.Choose.{firstSome}
-use Rattle.network.specs.ReadLaws.{length-of}
+use Rattle.graph.proofs.ArrayLengths.{path-256}
 use Rattle.graph.specs.Filled.{path-few}
 use Rattle.exchange.specs.ExchangeTrials.{path-list}
 use Rattle.exchange.specs.ExchangeValues.{sectionAt, rowSwap, rowTrial}
@@ -24,8 +23,8 @@ first-swap-requires : tie.Need-first-swap-requires
 first-swap-requires c κs =
     let found = c .before in
     let start = found .before in
-    let long = length-of (u16-field .into) (found .find-loop-branches-closed-tie .result .branch) (found .find-loop-branches-closed-tie .ok .1 .1 .1 .0 .1 .0 .1) in
-    (start .pre .0, start .pre .1, path-few _ _ (found .find-loop-branches-closed-tie .ensures) long)
+    let path = found .find-loop-branches-closed-tie in
+    (start .pre .0, start .pre .1, path-few _ _ (path .ensures) (path-256 (path .result) (path .ok)))
 
 returns : tie.Need-returns
 unfolding rowTrial

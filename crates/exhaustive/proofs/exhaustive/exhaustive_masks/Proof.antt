@@ -7,9 +7,8 @@ use borrow.Author.Needs.{needs}
 use lib.Pow.{pow-pos}
 use Rattle.numbers.specs.UpTo.{upTo, upTo-more}
 use Rattle.network.specs.InsideLaws.{check-inside}
-use Rattle.network.specs.ReadLaws.{length-of}
 use Rattle.network.specs.Records.{recordsOf}
-use Rattle.network.proofs.bus.Bus.{the-type}
+use Rattle.network.proofs.ArrayLengths.{buses-256}
 use Rattle.radiality.specs.Feeder.{radialIn}
 use Rattle.radiality.specs.FeederRows.{liveFlags}
 use Rattle.radiality.specs.FeederRowLaws.{flags-radial}
@@ -85,7 +84,7 @@ judged c =
     let loop = c .before .before .before in
     let start = loop .before .before .before .before in
     let n = start .args .network in
-    let sized = length-of (the-type .to) (n .buses) (start .good .0 .1 .1 .0 .1 .0 .1) in
+    let sized = buses-256 n (start .good .0) in
     flags-radial n sized (start .pre .0 .0) (masked (recordsOf n) (loop .loop .mask)) _ _ (start .pre .0 .1) (flags (c .before)) _ (c .is-radial .ensures)
 
 with-mask-requires : tie.Need-with-mask-requires Inv-loop μ-loop

@@ -6,9 +6,9 @@ use native.Mathlib.Omega.{arith}
 use borrow.Author.Needs.{needs}
 use lib.ListN.{getD}
 use Rattle.numbers.specs.Counts.{count}
-use Rattle.network.specs.ReadLaws.{pastBranch, length-of}
+use Rattle.network.specs.ReadLaws.{pastBranch}
 use Rattle.network.specs.Records.{noSwitch, recordsOf}
-use Rattle.network.proofs.branch.Branch.{the-type}
+use Rattle.network.proofs.ArrayLengths.{branches-512}
 use Rattle.states.specs.Listed.{few-switches, switches-listed}
 use Rattle.states.specs.Switches.{size, isTie}
 use Rattle.exhaustive.specs.ExhaustiveValues.{tiesOf}
@@ -66,7 +66,7 @@ here c =
     let loop = c .before .before .before in
     let start = loop .before .before .before in
     let n = start .args .t1 in
-    switch-read n (start .pre .0) (loop .loop .i) (omega arith) _ refl (length-of (the-type .to) (n .branches) (start .good .0 .1 .1 .1 .0 .1 .0 .1)) _ (c .wide162 .ensures .0)
+    switch-read n (start .pre .0) (loop .loop .i) (omega arith) _ refl (branches-512 n (start .good .0)) _ (c .wide162 .ensures .0)
 
 -- whether it is a tie
 tie-here : (c : tie.After-is-tie Inv-loop μ-loop) → let loop = c .before .before .before .before in isTie (recordsOf (loop .before .before .before .args .t1)) (loop .loop .i) ≡ c .is-tie .result

@@ -1,6 +1,5 @@
 -- `search` meets its contract: the masks go from the base, and what is found is read off them, with the loss of its state.
-use Rattle.network.specs.ReadLaws.{length-of}
-use Rattle.network.proofs.bus.Bus.{the-type}
+use Rattle.network.proofs.ArrayLengths.{buses-256}
 use Rattle.searches.specs.SearchValues.{foundOf}
 use Rattle.searches.specs.StartLaws.{start-given, start-base, start-live, start-radial}
 use Rattle.exhaustive.specs.Exhaustive.{exhaustiveBest}
@@ -13,7 +12,7 @@ exhaustive-masks-requires : tie.Need-exhaustive-masks-requires
 exhaustive-masks-requires c κs =
     let start = c .before .before .before .before in
     let n = start .args .network in
-    let sized = length-of (the-type .to) (n .buses) (start .good .0 .1 .1 .0 .1 .0 .1) in
+    let sized = buses-256 n (start .good .0) in
     let ok = start .pre .0 in
     let e = start .pre .1 in
     (start-given n sized ok e, start-base n sized ok e, start-live n sized ok e, start-radial n sized ok e, start .pre .2)

@@ -1,8 +1,7 @@
 -- `solve_as_exhaustive` meets its contract: it is refused, or answers with what the exhaustive search finds.
 use mathlib.Core.Path.{_∙_}
 use borrow.Author.Needs.{needs}
-use Rattle.network.specs.ReadLaws.{length-of}
-use Rattle.network.proofs.bus.Bus.{the-type}
+use Rattle.network.proofs.ArrayLengths.{buses-256}
 use Rattle.searches.specs.SearchLaws.{search-refused, search-checked, search-answered}
 use Rattle.exhaustive.specs.Exhaustive.{exhaustiveBest}
 use Rattle.exhaustive.specs.ExhaustiveLaws.{exhaustive-sound}
@@ -47,7 +46,7 @@ returns-2 c =
     let args = tested .before .before in
     answered .answer-with .ensures
     ∙ search-answered _ exhaustiveBest exhaustive-sound _ _ (tested .check-search .ensures) (told .enum-told .given .1)
-    (length-of (the-type .to) (args .args .network .buses) (args .good .0 .1 .1 .0 .1 .0 .1)) (start .start-of .ensures) (found .search .ensures)
+    (buses-256 (args .args .network) (args .good .0)) (start .start-of .ensures) (found .search .ensures)
 
 pub solve-as-exhaustive-spec : {M : Type 1} → statement M
 solve-as-exhaustive-spec =

@@ -1,9 +1,8 @@
 -- `with_mask` meets its contract: the loss by the rows is the loss of the mask's state, which is one radial state more.
 use mathlib.Core.Path.{ap, _∙_}
 use borrow.Author.Needs.{needs}
-use Rattle.network.specs.ReadLaws.{length-of}
 use Rattle.network.specs.Records.{recordsOf}
-use Rattle.network.proofs.bus.Bus.{the-type}
+use Rattle.network.proofs.ArrayLengths.{buses-256}
 use Rattle.states.specs.Listed.{few-switches}
 use Rattle.searches.specs.StateRows.{flags-loss}
 use Rattle.exhaustive.specs.Exhaustive.{masked}
@@ -28,7 +27,7 @@ returns c =
     let start = lost .before .before in
     let n = start .args .network in
     let given = start .pre .0 in
-    let sized = length-of (the-type .to) (n .buses) (start .good .0 .1 .1 .0 .1 .0 .1) in
+    let sized = buses-256 n (start .good .0) in
     let loses = flags-loss n sized (given .0) (masked (recordsOf n) (start .args .mask)) _ _ (given .1) (start .pre .2) _ _ (given .2) (lost .compute-losses-estimate .ensures .0) in
     λ x e. c .with-radial .ensures (recordsOf n) x _ e (made .masked .ensures) ∙ ap (exhaustiveOf (recordsOf n)) (mask-radial (recordsOf n) x (start .args .mask) (start .pre .3) _ loses)
 

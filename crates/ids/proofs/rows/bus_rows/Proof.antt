@@ -7,9 +7,6 @@ use Rattle.ids.specs.IdLaws.{rows-listed}
 use Rattle.ids.proofs.rows.bus_rows.Statement.{statement}
 use Rattle.ids.proofs.rows.bus_rows.Tie as tie
 
-cast-at-most : tie.Need-cast-at-most
-cast-at-most c = search needs
-
 at-most-requires : tie.Need-at-most-requires
 at-most-requires c κs = search needs
 
@@ -22,8 +19,8 @@ rows-of-requires c κs = search needs
 returns : tie.Need-returns
 returns c =
     let start = c .before .before .before in
-    let sized : length (start .args .buses) ≡ 256 = start .good .0 .1 .0 .1 in
+    let sized : length (start .args .buses) ≡ 256 = search needs in
     c .rows-of .ensures ∙ rows-listed busId (start .args .buses) (start .args .count) _ 256 _ sized (c .before .before .at-most .ensures) (c .before .bus-ids .ensures)
 
 pub bus-rows-spec : {M : Type 1} → statement M
-bus-rows-spec = tie.close (tie.spec cast-at-most at-most-requires bus-ids-requires rows-of-requires returns)
+bus-rows-spec = tie.close (tie.spec at-most-requires bus-ids-requires rows-of-requires returns)

@@ -1,57 +1,38 @@
--- `line_length` meets its contract: the invariant is that the `n` characters from `at` on are no line feed.
-use Prim.Native.Nat.{_-_}
-use native.Mathlib.Omega.{arith}
-use Rattle.lines.proofs.LineEndLaws.{Sought, none-sought, other-sought, text-ends, feed-found, line-long}
+-- `line_length` meets its contract: what is found among the first 37 characters is where the line ends.
+use borrow.Author.Needs.{needs}
+use Rattle.lines.proofs.LineEndLaws.{line-ends}
 use Rattle.lines.proofs.line.line_length.Statement.{statement}
 use Rattle.lines.proofs.line.line_length.Tie as tie
 
-abbrev Inv-loop : tie.InvT-loop
-Inv-loop text at n₀ n = Sought text at n
+sub-rest : tie.Need-sub-rest
+sub-rest c = search needs
 
-abbrev μ-loop : tie.MeasureT-loop
-μ-loop text at n₀ n = 37 - n
+part-rest-start : tie.Need-part-rest-start
+part-rest-start c = search needs
 
-loop-holds : tie.Need-loop-holds Inv-loop μ-loop
-loop-holds c = none-sought _ _ (c .pre)
+part-rest-end : tie.Need-part-rest-end
+part-rest-end c = search needs
 
-add-i : tie.Need-add-i Inv-loop μ-loop
-add-i c = omega arith
+add-at-most : tie.Need-add-at-most
+add-at-most c = search needs
 
-returns : tie.Need-returns Inv-loop μ-loop
-returns c = text-ends _ _ (c .before .before .loop .inv) (c .if1 .taken)
+at-most-requires : tie.Need-at-most-requires
+at-most-requires c κs = search needs
 
-shared-slice-read-if2 : tie.Need-shared-slice-read-if2 Inv-loop μ-loop
-shared-slice-read-if2 c = omega arith
+find-requires : tie.Need-find-requires
+find-requires c κs = search needs
 
-returns-2 : tie.Need-returns-2 Inv-loop μ-loop
-returns-2 c = feed-found _ _ (c .before .before .before .before .loop .inv) (c .if2 .taken)
-
-add-n : tie.Need-add-n Inv-loop μ-loop
-add-n c = omega arith
-
-loop-less : tie.Need-loop-less Inv-loop μ-loop
-loop-less c = omega arith
-
-loop-again : tie.Need-loop-again Inv-loop μ-loop
-loop-again c =
-    let d = c .before .before in
-    other-sought _ _ (d .before .before .loop .inv) (d .before .loop-test .taken) (d .if1 .left) (c .if2 .left)
-
-returns-3 : tie.Need-returns-3 Inv-loop μ-loop
-returns-3 c = line-long _ _ (c .before .loop .inv) (c .loop-test .left)
+returns : tie.Need-returns
+returns c = let start = c .before .before .before .before in line-ends (start .args .text .now) (start .args .at) _ _ (c .before .at-most .ensures) (c .find .ensures .0)
 
 pub line-length-spec : {M : Type 1} → statement M
 line-length-spec =
     tie.close
     (tie.spec
-    Inv-loop
-    μ-loop
-    loop-holds
-    add-i
-    returns
-    shared-slice-read-if2
-    returns-2
-    add-n
-    loop-less
-    loop-again
-    returns-3)
+    sub-rest
+    part-rest-start
+    part-rest-end
+    add-at-most
+    at-most-requires
+    find-requires
+    returns)

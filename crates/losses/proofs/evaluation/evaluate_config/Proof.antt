@@ -4,8 +4,7 @@ use mathlib.Core.Path.{sym, ap, _∙_}
 use borrow.Author.Needs.{needs}
 use Rattle.network.specs.Answers.{accepted, answerOf}
 use Rattle.network.specs.AnswerLaws.{refused-first, accepted-then}
-use Rattle.network.specs.ReadLaws.{length-of}
-use Rattle.network.proofs.bus.Bus.{the-type}
+use Rattle.network.proofs.ArrayLengths.{buses-256}
 use Rattle.radiality.specs.FeederRowLaws.{state-flags}
 use Rattle.losses.specs.FeederLoss.{feeder-loss}
 use Rattle.losses.proofs.evaluation.evaluate_config.Statement.{statement}
@@ -66,7 +65,7 @@ returns-3 c =
     let good = sym (state .check-state .ensures) ∙ ap answerOf (passed .enum-told2 .given .1) in
     ap accepted
     (c .compute-losses-estimate .ensures .0
-    ∙ feeder-loss (start .args .network) (length-of (the-type .to) (start .args .network .buses) (start .good .0 .1 .1 .0 .1 .0 .1)) ok _ _ _ _ (c .before .graph-of .ensures) (loads .loads-of .ensures)
+    ∙ feeder-loss (start .args .network) (buses-256 (start .args .network) (start .good .0)) ok _ _ _ _ (c .before .graph-of .ensures) (loads .loads-of .ensures)
     (state-flags _ _ 0 ok good _ _ (flags .before .of .ensures) (flags .live-branches .ensures)))
     ∙ accepted-then _ _ _ (passed .enum-told2 .given .1) (state .check-state .ensures)
     ∙ accepted-then _ _ _ (head .enum-told .given .1) (records .check .ensures)

@@ -15,20 +15,20 @@ abbrev μ-loop : tie.MeasureT-loop
 loop-holds : tie.Need-loop-holds Inv-loop μ-loop
 loop-holds c = none-led _ _ _ _
 
+cast-count : tie.Need-cast-count Inv-loop μ-loop
+cast-count c = omega arith
+
 returns : tie.Need-returns Inv-loop μ-loop
 returns c = back-at-start _ _ _ _ (c .before .before .loop .inv) (c .before .loop-test .taken) (c .if1 .taken) _ _
 
 wide8-requires : tie.Need-wide8-requires Inv-loop μ-loop
 wide8-requires c κs = tt
 
-wide16-requires : tie.Need-wide16-requires Inv-loop μ-loop
-wide16-requires c κs = tt
-
 mul-k : tie.Need-mul-k Inv-loop μ-loop
-mul-k c = omega (arith, c .before .wide8 .ensures .1)
+mul-k c = omega (arith, c .wide8 .ensures .1)
 
 array-read-k : tie.Need-array-read-k Inv-loop μ-loop
-array-read-k c = c .before .wide8 .ensures .1
+array-read-k c = c .wide8 .ensures .1
 
 mul-branch : tie.Need-mul-branch Inv-loop μ-loop
 mul-branch c = omega arith
@@ -47,11 +47,12 @@ loop-less c = omega arith
 
 loop-again : tie.Need-loop-again Inv-loop μ-loop
 loop-again c =
-    let e = c .before .before in
-    let x = e .before in
+    let x = c .before .before in
     let f = x .before in
-    one-led _ _ _ _ (f .before .before .loop .inv) _ _ (f .before .loop-test .taken) (f .if1 .left) (x .wide8 .ensures .0) (x .wide8 .ensures .1) (e .wide16 .ensures .0)
-    (c .across .ensures)
+    one-led _ _ _ _ (f .before .before .loop .inv) _ (f .before .loop-test .taken) (f .if1 .left) (x .wide8 .ensures .0) (x .wide8 .ensures .1) (c .across .ensures)
+
+cast-count-2 : tie.Need-cast-count-2 Inv-loop μ-loop
+cast-count-2 c = omega (arith, c .before .loop .inv .within)
 
 returns-2 : tie.Need-returns-2 Inv-loop μ-loop
 returns-2 c = led-enough _ _ _ _ (c .before .loop .inv) (c .loop-test .left) _ _
@@ -63,9 +64,9 @@ way-back-spec =
     Inv-loop
     μ-loop
     loop-holds
+    cast-count
     returns
     wide8-requires
-    wide16-requires
     mul-k
     array-read-k
     mul-branch
@@ -74,4 +75,5 @@ way-back-spec =
     add-i
     loop-less
     loop-again
+    cast-count-2
     returns-2)

@@ -6,9 +6,8 @@ use Prim.Native.Nat.{_-_}
 use lib.ListN.{length}
 use borrow.Author.Needs.{needs}
 use Rattle.states.specs.Listed.{few-switches}
-use Rattle.network.specs.ReadLaws.{length-of}
 use Rattle.states.specs.Switches.{State}
-use Rattle.network.proofs.bus.Bus.{the-type}
+use Rattle.network.proofs.ArrayLengths.{buses-256}
 use Rattle.changes.specs.Passing.{Passed}
 use Rattle.plan.proofs.Pairing.{Made, passed, none-made, not-closed, pair-room, one-made, few-made, all-made}
 use Rattle.plan.proofs.pairs.pairs_of.Statement.{statement}
@@ -56,7 +55,7 @@ is-closing-requires c κs = search needs
 
 -- the network has 256 entries for buses
 buses : (s : tie.Start Inv-loop μ-loop) → length (s .args .t1 .buses) ≡ 256
-buses s = length-of (the-type .to) (s .args .t1 .buses) (s .good .0 .1 .1 .0 .1 .0 .1)
+buses s = buses-256 (s .args .t1) (s .good .0)
 
 pair-done-requires : tie.Need-pair-done-requires Inv-loop μ-loop
 pair-done-requires c κs =

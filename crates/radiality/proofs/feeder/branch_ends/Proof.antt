@@ -51,7 +51,7 @@ loop-again : tie.Need-loop-again Inv-loop μ-loop
 loop-again c =
     let at = c .before .before .before in
     let start = at .before .before in
-    let sized : length (start .args .t1) ≡ 512 = start .good .0 .1 .0 .1 in
+    let sized : length (start .args .t1) ≡ 512 = search needs in
     let small : at .loop .k < 512 = omega arith in (
       omega arith,
       λ l long e.

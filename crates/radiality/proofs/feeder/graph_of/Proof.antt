@@ -2,8 +2,7 @@
 use mathlib.Core.Path.{_≡_, sym, ap₂, _∙_}
 use lib.ListN.{length, length-map, length-take}
 use borrow.Author.Needs.{needs}
-use Rattle.network.specs.ReadLaws.{length-of}
-use Rattle.network.proofs.bus.Bus.{the-type}
+use Rattle.network.proofs.ArrayLengths.{buses-256}
 use Rattle.radiality.specs.FeederRows.{listedIds, feederGraph}
 use Rattle.graph.specs.Rows.{graphOf}
 use Rattle.radiality.proofs.feeder.graph_of.Statement.{statement}
@@ -34,7 +33,7 @@ returns c =
     let rows = ends .before .before .before .before .before in
     let start = rows .before .before .before .before .before .before in
     let n = start .args .network in
-    let sized : length (n .buses) ≡ 256 = length-of (the-type .to) (n .buses) (start .good .0 .1 .1 .0 .1 .0 .1) in
+    let sized : length (n .buses) ≡ 256 = buses-256 n (start .good .0) in
     let long : rows .before .at-most .result ≡ length (listedIds n) = rows .before .at-most .ensures ∙ sym (simp (length-map, length-take, sized)) in
     let resolved = ends .branch-ends .ensures (listedIds n) long (rows .bus-rows .ensures) in
     c .new .ensures ∙ ap₂ (graphOf _ _) (resolved .0) (resolved .1)

@@ -4,8 +4,7 @@ use mathlib.Core.Path.{sym, ap, _∙_}
 use borrow.Author.Needs.{needs}
 use Rattle.network.specs.Answers.{accepted, answerOf}
 use Rattle.network.specs.AnswerLaws.{refused-first, accepted-then}
-use Rattle.network.specs.ReadLaws.{length-of}
-use Rattle.network.proofs.bus.Bus.{the-type}
+use Rattle.network.proofs.ArrayLengths.{buses-256}
 use Rattle.radiality.specs.FeederRowLaws.{state-flags, flags-radial}
 use Rattle.radiality.proofs.radiality.verify_radiality.Statement.{statement}
 use Rattle.radiality.proofs.radiality.verify_radiality.Tie as tie
@@ -60,7 +59,7 @@ returns-3 c =
     let ok = sym (records .check .ensures) ∙ ap answerOf (head .enum-told .given .1) in
     let good = sym (state .check-state .ensures) ∙ ap answerOf (passed .enum-told2 .given .1) in
     ap accepted
-    (flags-radial (start .args .network) (length-of (the-type .to) (start .args .network .buses) (start .good .0 .1 .1 .0 .1 .0 .1)) ok _ _ _ (c .before .graph-of .ensures)
+    (flags-radial (start .args .network) (buses-256 (start .args .network) (start .good .0)) ok _ _ _ (c .before .graph-of .ensures)
     (state-flags _ _ 0 ok good _ _ (flags .before .of .ensures) (flags .live-branches .ensures))
     _
     (c .is-radial .ensures))

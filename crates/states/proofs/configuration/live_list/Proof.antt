@@ -18,9 +18,6 @@ Inv-loop count opened branches m flags₀ k₀ flags k = (k ≤ m) × (flags ≡
 abbrev μ-loop : tie.MeasureT-loop
 μ-loop count opened branches m flags₀ k₀ flags k = m - k
 
-cast-at-most : tie.Need-cast-at-most Inv-loop μ-loop
-cast-at-most c = search needs
-
 at-most-requires : tie.Need-at-most-requires Inv-loop μ-loop
 at-most-requires c κs = search needs
 
@@ -55,7 +52,7 @@ loop-again : tie.Need-loop-again Inv-loop μ-loop
 loop-again c =
     let at = c .before .before .before .before in
     let start = at .before .before .before in
-    let read = branch-read (start .args .t1) (at .loop .k) (start .good .0 .1 .0 .1) (search needs) in (
+    let read = branch-read (start .args .t1) (at .loop .k) (search needs) (search needs) in (
       search needs,
       rw (
         at .loop .inv .1,
@@ -78,7 +75,6 @@ live-list-spec =
     (tie.spec
     Inv-loop
     μ-loop
-    cast-at-most
     at-most-requires
     no-branches-requires
     loop-holds

@@ -4,13 +4,12 @@ use mathlib.Core.Logic.{⊎-elim}
 use Prim.Native.Nat.{_≤_, _<_, _-_}
 use native.Mathlib.Omega.{arith}
 use lib.ListN.{length, getD}
-use denote.Struct.Field.{u8-field}
 use borrow.Author.Needs.{needs}
 use Rattle.numbers.specs.UpTo.{table}
 use Rattle.numbers.specs.TableLaws.{table-cong}
 use Rattle.states.specs.LiveLaws.{openSoFar, open-none, open-closed, open-beyond, open-set, open-all}
-use Rattle.network.specs.ReadLaws.{length-of}
 use Rattle.network.specs.Records.{noSwitch}
+use Rattle.states.proofs.ArrayLengths.{bytes-512}
 use Rattle.states.proofs.configuration.open_branches.Statement.{statement}
 use Rattle.states.proofs.configuration.open_branches.Tie as tie
 
@@ -41,9 +40,6 @@ wide16-requires c κs = search needs
 element-copy-out-if1 : tie.Need-element-copy-out-if1 Inv-loop μ-loop
 element-copy-out-if1 c = search needs
 
-cast-if2 : tie.Need-cast-if2 Inv-loop μ-loop
-cast-if2 c = search needs
-
 array-write-opened : tie.Need-array-write-opened Inv-loop μ-loop
 array-write-opened c = search needs
 
@@ -55,7 +51,7 @@ loop-less c = search needs
 
 -- the configuration has 512 bytes
 bytes : (c : tie.Start Inv-loop μ-loop) → length (c .args .t3 .switches) ≡ 512
-bytes c = length-of (u8-field .into) (c .args .t3 .switches) (c .good .1 .1 .0 .1 .1 .0 .1 .0 .1)
+bytes c = bytes-512 (c .args .t3) (c .good .1 .1 .0)
 
 loop-again : tie.Need-loop-again Inv-loop μ-loop
 loop-again c =
@@ -90,7 +86,6 @@ open-branches-spec =
     element-copy-out-wide16
     wide16-requires
     element-copy-out-if1
-    cast-if2
     array-write-opened
     add-i
     loop-less

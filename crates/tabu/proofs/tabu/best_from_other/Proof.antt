@@ -8,10 +8,9 @@ use native.Mathlib.Omega.{arith}
 use lib.ListN.{length, getD}
 use borrow.Author.Needs.{needs}
 use Rattle.numbers.specs.UpTo.{upTo}
-use Rattle.network.specs.ReadLaws.{pastBranch, length-of}
+use Rattle.network.specs.ReadLaws.{pastBranch}
 use Rattle.network.specs.Records.{noSwitch, recordsOf}
-use Rattle.network.proofs.branch.Branch as branch
-use Rattle.network.proofs.bus.Bus as bus
+use Rattle.network.proofs.ArrayLengths.{branches-512, buses-256}
 use Rattle.states.specs.Listed.{few-switches, switches-listed}
 use Rattle.radiality.specs.FeederRowLaws.{flags-radial}
 use Rattle.searches.specs.StateRows.{flags-loss}
@@ -109,10 +108,10 @@ here c =
     let goes = c .before .before in
     let start = goes .before .before .before .before .before .before .before in
     let n = start .args .t1 in
-    switch-read n (start .pre .0 .0) (goes .before .loop .i) (listed goes) _ refl (length-of (branch.the-type .to) (n .branches) (start .good .0 .1 .1 .1 .0 .1 .0 .1)) _ (c .wide162 .ensures .0)
+    switch-read n (start .pre .0 .0) (goes .before .loop .i) (listed goes) _ refl (branches-512 n (start .good .0)) _ (c .wide162 .ensures .0)
 
 sized : (c : tie.Start Inv-loop μ-loop) → length (c .args .t1 .buses) ≡ 256
-sized c = length-of (bus.the-type .to) (c .args .t1 .buses) (c .good .0 .1 .1 .0 .1 .0 .1)
+sized c = buses-256 (c .args .t1) (c .good .0)
 
 loop-again : tie.Need-loop-again Inv-loop μ-loop
 loop-again c =

@@ -8,9 +8,9 @@ use native.Mathlib.Omega.{arith}
 use lib.ListN.{getD}
 use borrow.Author.Needs.{needs}
 use Rattle.numbers.specs.UpTo.{upTo}
-use Rattle.network.specs.ReadLaws.{pastBranch, length-of}
+use Rattle.network.specs.ReadLaws.{pastBranch}
 use Rattle.network.specs.Records.{noSwitch, recordsOf}
-use Rattle.network.proofs.branch.Branch.{the-type}
+use Rattle.network.proofs.ArrayLengths.{branches-512}
 use Rattle.states.specs.Listed.{few-switches, switches-listed}
 use Rattle.states.specs.Switches.{size}
 use Rattle.searches.specs.SwitchReads.{SwitchAt, on-branch, switch-read}
@@ -80,7 +80,7 @@ here c =
     let loop = c .before .before .before in
     let start = loop .before .before .before .before in
     let n = start .args .t1 in
-    switch-read n (start .pre .0) (loop .loop .i) (omega arith) _ refl (length-of (the-type .to) (n .branches) (start .good .0 .1 .1 .1 .0 .1 .0 .1)) _ (c .wide162 .ensures .0)
+    switch-read n (start .pre .0) (loop .loop .i) (omega arith) _ refl (branches-512 n (start .good .0)) _ (c .wide162 .ensures .0)
 
 loop-again : tie.Need-loop-again Inv-loop μ-loop
 loop-again c =

@@ -7,8 +7,8 @@ use lib.ListN.{length, getD, take, length-take, length-map}
 use borrow.Author.Needs.{needs}
 use Rattle.network.specs.Limits.{busId}
 use Rattle.network.specs.LookupLaws.{Unseen, unseen-none, unseen-more, seen-here, seen-nowhere, found-at, not-found, key-at}
-use Rattle.network.specs.ReadLaws.{pastBus, length-of}
-use Rattle.network.proofs.bus.Bus.{the-type}
+use Rattle.network.specs.ReadLaws.{pastBus}
+use Rattle.network.proofs.ArrayLengths.{buses-256}
 use Rattle.network.proofs.topology.PowerNetwork.bus_index.Statement.{statement}
 use Rattle.network.proofs.topology.PowerNetwork.bus_index.Tie as tie
 
@@ -20,9 +20,6 @@ abbrev μ-loop : tie.MeasureT-loop
 
 cast-at-most : tie.Need-cast-at-most Inv-loop μ-loop
 cast-at-most c = search needs
-
-cast-at-most-2 : tie.Need-cast-at-most-2 Inv-loop μ-loop
-cast-at-most-2 c = search needs
 
 at-most-requires : tie.Need-at-most-requires Inv-loop μ-loop
 at-most-requires c κs = search needs
@@ -37,7 +34,7 @@ element-copy-out-if1 : tie.Need-element-copy-out-if1 Inv-loop μ-loop
 element-copy-out-if1 c = search needs
 
 size : (c : tie.Start Inv-loop μ-loop) → length (c .args .t1 .buses) ≡ 256
-size c = length-of (the-type .to) (c .args .t1 .buses) (c .good .0 .1 .1 .0 .1 .0 .1)
+size c = buses-256 (c .args .t1) (c .good .0)
 
 -- position i is one of the listed buses, and the bus that is read there has the id of the list
 listed : (c : tie.In-loop Inv-loop μ-loop)
@@ -83,7 +80,6 @@ bus-index-spec =
     Inv-loop
     μ-loop
     cast-at-most
-    cast-at-most-2
     at-most-requires
     loop-holds
     mul-if1

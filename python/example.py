@@ -1,0 +1,24 @@
+"""A feeder of three buses: what its search finds, and in which order the switches move to it. Before it: python/build."""
+import lugwefa
+
+FEEDER = '''\
+010003000300023FF0000000000000000064
+0200010000000000000000
+0200023FF0000000000000
+0200034000000000000000
+03000100023FD000000000000001
+03000200033FDC00000000000001
+03000100033FC800000000000001
+04000A000102
+04000B000203
+'''
+
+base = lugwefa.base_state(FEEDER)
+found = lugwefa.solve(FEEDER)
+print(f'base {base}: {lugwefa.loss(FEEDER, base)} MW lost; best {found.state}: {found.best_loss} MW, {found.reduction} percent less')
+for pair in lugwefa.plan(FEEDER, base, found.state):
+    print(f'close switch {pair.close}, then open switch {pair.open}')
+try:
+    lugwefa.plan(FEEDER, base, {10: lugwefa.OPEN, 11: lugwefa.OPEN})
+except lugwefa.Refused as refusal:
+    print(refusal)

@@ -1,0 +1,211 @@
+"""Lugwefa from Python: the calls of include/feeder.h, with states by switch id and refusals as exceptions.
+
+Tested (tests/interface/run), not proved: what is proved are the calls of the library that this module loads. `python/build` makes it;
+LUGWEFA_LIBRARY names it, else liblugwefa.so is taken from beside this file or from target/python. Nothing but Python's own library is needed.
+
+A text is a feeder in the frames of docs/INTERFACE.md, as bytes or str. A state says of each switch, by its id, how it stands:
+
+    >>> base_state(triangle)
+    {10: 'closed', 11: 'open'}
+
+A state that is handed over is such a mapping, or the bytes of the calls (0 closed, 1 open, in the text's order). What is not acceptable is
+refused by the call itself, and raises Refused with the number and place that docs/INTERFACE.md has. python/example.py shows the rest.
+"""
+
+import ctypes
+import os
+from collections import namedtuple
+from collections.abc import Mapping
+
+CLOSED = 'closed'
+OPEN = 'open'
+_STANDS = (CLOSED, OPEN)
+
+# Close one switch, then open the other: the pairs of a plan are carried out in their order.
+Pair = namedtuple('Pair', 'close open')
+# What is done with a switch. A list of these is NO order to switch in: that is the plan's.
+Operation = namedtuple('Operation', 'switch stands')
+# What a search answers: its best state, and the fields of the 81 line. Losses are in MW, the reduction in percent of the base's loss.
+Solution = namedtuple('Solution', 'state radial base_loss best_loss reduction iterations converged')
+
+# document 01's words
+CONDITIONS = {
+    1: 'unended line, odd digits, another character',
+    2: 'wrong kind or length, line missing or too many',
+    3: 'method, status or flags byte has no meaning, or iterations over 1,000',
+    4: 'head count over its limit',
+    5: 'float outside its range, or not finite',
+    6: 'branch end not listed, or branch position not below the count',
+    7: 'bus or switch id twice in its kind',
+    8: 'second switch on a branch',
+    9: 'eleventh normally open switch, method 02',
+    10: "state isn't one byte 00 (closed) or 01 (open) for each switch",
+    11: "a plan's state isn't radial",
+    12: "a differing live branch's switch is locked",
+    13: 'lent slice shorter than the answer',
+}
+
+
+class Refused(ValueError):
+    """A refusal: its number and place. `why` says what is wrong with a state that was handed over by ids, where that is known."""
+
+    def __init__(self, number, place, why=''):
+        super().__init__(number, place, why)
+        self.number, self.place, self.why = number, place, why
+
+    def __str__(self):
+        return f'refused {self.number} at {self._where()}: {CONDITIONS[self.number]}' + (f' ({self.why})' if self.why else '')
+
+    def _where(self):
+        if self.number <= 9:
+            return f'line {self.place}'
+        if self.number <= 11:
+            return 'the wanted state' if self.place else 'the present or only state'
+        return f'switch {self.place}' if self.number == 12 else 'place 0'
+
+
+def radiality(text, state):
+    """Whether the state is radial: every bus connected, and no loop."""
+    return bool(_on_states(_library().feeder_radiality, text, state).value)
+
+
+def loss(text, state):
+    """The loss of the state in MW; it need not be radial."""
+    bits = _on_states(_library().feeder_loss, text, state).value
+    return ctypes.c_double.from_buffer(ctypes.c_uint64(bits)).value
+
+
+def plan(text, present, wanted):
+    """The pairs that lead from the present state to the wanted one, in the order in which they are carried out."""
+    lines = _lines_on_states(_library().feeder_plan, text, present, wanted)
+    return [Pair(int(line[2:6], 16), int(line[6:10], 16)) for line in lines]
+
+
+def answer_text(text):
+    """What the program feeder prints for an accepted text: 81, 82 and, from a radial base, 83 lines."""
+    text = _bytes(text)
+    answer, room = _lent(_library().feeder_answer_text, text)
+    return _checked(answer, room[:answer.value]).decode()
+
+
+def base_state(text):
+    """The base: exactly the normally open switches are open."""
+    text = _bytes(text)
+    answer, room = _lent(_library().feeder_base_state, text)
+    return _by_id(text, _checked(answer, room[:answer.value]))
+
+
+def solve(text):
+    """The search that the text's head asks for."""
+    text = _bytes(text)
+    answer, room = _lent(_library().feeder_solve, text)
+    _checked(answer)
+    state = _by_id(text, room)
+    return Solution(state, bool(answer.radial), answer.base_loss, answer.best_loss, answer.reduction, answer.iterations, bool(answer.converged))
+
+
+def operations(text, present, wanted):
+    """The switches that stand otherwise in the wanted state, in the text's order, and how they stand there."""
+    lines = _lines_on_states(_library().feeder_operations, text, present, wanted)
+    return [Operation(int(line[2:6], 16), CLOSED if line[6:8] == '01' else OPEN) for line in lines]
+
+
+def switch_ids(text):
+    """The ids of the text's switches, in its order."""
+    return list(base_state(text))
+
+
+# How a call is made.
+
+class _Answer(ctypes.Structure):
+    _fields_ = [('number', ctypes.c_uint8), ('place', ctypes.c_uint16), ('value', ctypes.c_uint64)]
+
+
+class _Solved(ctypes.Structure):
+    _fields_ = [('number', ctypes.c_uint8), ('place', ctypes.c_uint16), ('radial', ctypes.c_uint8), ('converged', ctypes.c_uint8),
+                ('iterations', ctypes.c_uint16), ('base_loss', ctypes.c_double), ('best_loss', ctypes.c_double), ('reduction', ctypes.c_double)]
+
+
+# each call with what it answers and how many slices it takes
+_CALLS = {'feeder_radiality': (_Answer, 2), 'feeder_loss': (_Answer, 2), 'feeder_plan': (_Answer, 4), 'feeder_answer_text': (_Answer, 2),
+          'feeder_base_state': (_Answer, 2), 'feeder_solve': (_Solved, 2), 'feeder_operations': (_Answer, 4)}
+_loaded = None
+
+
+def _library():
+    global _loaded
+    if _loaded is None:
+        here = os.path.dirname(os.path.abspath(__file__))
+        places = [os.path.join(here, 'liblugwefa.so'), os.path.join(here, '..', 'target', 'python', 'liblugwefa.so')]
+        path = os.environ.get('LUGWEFA_LIBRARY') or next(filter(os.path.exists, places), None)
+        if path is None:
+            raise OSError('liblugwefa.so is not there: python/build makes it, or LUGWEFA_LIBRARY names it')
+        library = ctypes.CDLL(path)
+        for name, (answer, slices) in _CALLS.items():
+            call = getattr(library, name)
+            call.restype, call.argtypes = answer, [ctypes.c_char_p, ctypes.c_size_t] * slices
+        _loaded = library
+    return _loaded
+
+
+def _bytes(text):
+    return text.encode(errors='surrogatepass') if isinstance(text, str) else bytes(iter(text))
+
+
+def _call(call, slices):
+    return call(*(word for each in slices for word in (each, len(each))))
+
+
+def _lent(call, *slices):
+    """The call with a slice of its own to write to, doubled while it is too short; what it answers, and the slice."""
+    size = 8192
+    while True:
+        room = ctypes.create_string_buffer(size)
+        answer = _call(call, (*slices, room))
+        if answer.number != 13:
+            return answer, room.raw
+        size *= 2
+
+
+def _checked(answer, value=None, whys=()):
+    if answer.number:
+        raise Refused(answer.number, answer.place, whys[answer.place] if answer.number == 10 and whys else '')
+    return value
+
+
+def _on_states(call, text, state):
+    text = _bytes(text)
+    state, why = _in_order(text, state)
+    answer = _call(call, (text, state))
+    return _checked(answer, answer, [why])
+
+
+def _lines_on_states(call, text, present, wanted):
+    text = _bytes(text)
+    (present, why), (wanted, other_why) = _in_order(text, present), _in_order(text, wanted)
+    answer, room = _lent(call, text, present, wanted)
+    _checked(answer, None, [why, other_why])
+    return [line.decode() for line in room.split(b'\n')[:answer.value]]
+
+
+def _ids(text):
+    return [int(line[2:6], 16) for line in text.split(b'\n') if line[:2] == b'04']
+
+
+def _by_id(text, state):
+    return {switch: _STANDS[byte] for switch, byte in zip(_ids(text), state)}
+
+
+def _in_order(text, state):
+    """A state's bytes in the text's order, and what is wrong with it by its ids. What is no state gets a byte 2, and the call refuses it."""
+    if not isinstance(state, Mapping):
+        return bytes(byte if byte in (0, 1) else 2 for byte in state), ''
+    base_state(text)
+    ids = _ids(text)
+    missing = [f'switch {switch} is missing' for switch in ids if switch not in state]
+    unknown = [f'{switch!r} is no switch of the text' for switch in state if switch not in ids]
+    neither = [f'switch {switch} is {stands!r}' for switch, stands in state.items() if stands not in _STANDS]
+    why = '; '.join((missing + unknown + neither)[:3])
+    if why:
+        return b'\2' * (len(ids) + 1), why
+    return bytes(_STANDS.index(state[switch]) for switch in ids), ''

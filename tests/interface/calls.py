@@ -1,0 +1,176 @@
+"""python/lugwefa.py over the library: the triangle, refusals, states by id, the bytes that no call may touch, and every text of the list that
+`replay` has (tests/answers.md). usage: calls.py LIST EXAMPLE"""
+
+import ctypes
+import io
+import runpy
+import struct
+import sys
+from contextlib import redirect_stdout
+
+import lugwefa
+from lugwefa import CLOSED, OPEN, Operation, Pair, Refused
+
+HEAD = '010003000300023FF0000000000000000064\n'
+BUSES = '0200010000000000000000\n0200023FF0000000000000\n0200034000000000000000\n'
+BRANCHES = '03000100023FD000000000000001\n03000200033FDC00000000000001\n03000100033FC800000000000001\n'
+TRIANGLE = HEAD + BUSES + BRANCHES + '04000A000102\n04000B000203\n'
+LOCKED = HEAD + BUSES + BRANCHES + '04000A000100\n04000B000203\n'
+PRINTED = '810140100000000000003FF00000000000004052C00000000000000201\n82000A00\n82000B01\n83000B000A\n'
+BASE = {10: CLOSED, 11: OPEN}
+BEST = {10: OPEN, 11: CLOSED}
+ALL_CLOSED = {10: CLOSED, 11: CLOSED}
+ALL_OPEN = {10: OPEN, 11: OPEN}
+
+checks = 0
+wrong = 0
+
+
+def expect(value, right, what):
+    global checks, wrong
+    checks += 1
+    if value != right:
+        wrong += 1
+        print(f'interface: Python: wrong: {what}: {value!r} for {right!r}')
+
+
+def refusal(ask, *words):
+    """The number and the place that a call is refused with, None where it is not."""
+    try:
+        ask(*words)
+    except Refused as refused:
+        return refused.number, refused.place
+    return None
+
+
+def triangle():
+    for text in (TRIANGLE, TRIANGLE.encode(), bytearray(TRIANGLE.encode())):
+        expect(lugwefa.base_state(text), BASE, 'the base')
+        expect(lugwefa.answer_text(text), PRINTED, 'what is printed')
+    expect(lugwefa.switch_ids(TRIANGLE), [10, 11], 'the ids')
+    expect([lugwefa.radiality(TRIANGLE, s) for s in (BASE, BEST, ALL_CLOSED, ALL_OPEN)], [True, True, False, False], 'radiality')
+    expect([lugwefa.loss(TRIANGLE, s) for s in (BASE, BEST, ALL_CLOSED)], [4.0, 1.0, 5.6875], 'loss')
+    expect(lugwefa.plan(TRIANGLE, BASE, BEST), [Pair(close=11, open=10)], 'the plan')
+    expect(lugwefa.plan(TRIANGLE, BEST, BASE), [Pair(close=10, open=11)], 'the way back')
+    expect(lugwefa.plan(TRIANGLE, BASE, BASE), [], 'no plan is needed')
+    expect(lugwefa.operations(TRIANGLE, BASE, BEST), [Operation(10, OPEN), Operation(11, CLOSED)], 'the operations')
+    expect(lugwefa.operations(TRIANGLE, BASE, ALL_OPEN), [Operation(10, OPEN)], 'one operation')
+    expect(lugwefa.solve(TRIANGLE), lugwefa.Solution(BEST, True, 4.0, 1.0, 75.0, 2, True), 'the search')
+
+
+def states_by_id():
+    swapped = {11: OPEN, 10: CLOSED}
+    expect(lugwefa.loss(TRIANGLE, swapped), 4.0, 'a state in another order')
+    for state in (b'\0\1', bytearray(b'\0\1'), [0, 1], (0, 1)):
+        expect(lugwefa.loss(TRIANGLE, state), 4.0, "a state in the call's bytes")
+    for state, why in (({10: CLOSED}, 'switch 11 is missing'), ({**BASE, 12: OPEN}, '12 is no switch of the text'),
+                       ({10: CLOSED, 11: 1}, 'switch 11 is 1'), ({}, 'switch 10 is missing; switch 11 is missing')):
+        for number, ask in ((0, lambda s: lugwefa.loss(TRIANGLE, s)), (0, lambda s: lugwefa.radiality(TRIANGLE, s)),
+                            (0, lambda s: lugwefa.plan(TRIANGLE, s, {})), (1, lambda s: lugwefa.plan(TRIANGLE, BASE, s)),
+                            (0, lambda s: lugwefa.operations(TRIANGLE, s, {})), (1, lambda s: lugwefa.operations(TRIANGLE, BASE, s))):
+            try:
+                ask(state)
+                expect(None, why, 'a state that is none')
+            except Refused as refused:
+                expect((refused.number, refused.place, refused.why), (10, number, why), 'a state that is none')
+    expect(refusal(lugwefa.plan, TRIANGLE, b'\2', {}), (10, 0), "the present state's refusal first")
+    expect(refusal(lugwefa.plan, TRIANGLE, ALL_OPEN, {}), (10, 1), '10 before 11')
+
+
+def refusals():
+    bad = HEAD + BUSES + BRANCHES
+    texts = {
+        (1, 1): '0G',
+        (2, 1): '',
+        (3, 8): bad + '04000A000104\n04000B000203\n',
+        (4, 1): '01010100000000' + '3FF0000000000000' + '000064\n',
+        (5, 3): HEAD + '0200010000000000000000\n0200027FF0000000000000\n0200034000000000000000\n' + BRANCHES + '04000A000102\n04000B000203\n',
+        (6, 8): bad + '04000A000302\n04000B000203\n',
+        (7, 9): bad + '04000A000102\n04000A000203\n',
+        (8, 9): bad + '04000A000102\n04000B000103\n',
+        (9, 24): '010001000B000B3FF0000000000000020000\n' + BUSES[:23] + '03000100013FD000000000000000\n' * 11
+                 + ''.join(f'04{k + 1:04X}{k:04X}03\n' for k in range(11)),
+    }
+    for right, text in texts.items():
+        for ask in (lugwefa.answer_text, lugwefa.base_state, lugwefa.solve, lugwefa.switch_ids):
+            expect(refusal(ask, text), right, f'a text that is refused {right[0]}')
+        for ask in (lugwefa.radiality, lugwefa.loss):
+            expect(refusal(ask, text, BASE), right, f'{right[0]} before the state')
+            expect(refusal(ask, text, b'\2'), right, f'{right[0]} before the state')
+        for ask in (lugwefa.plan, lugwefa.operations):
+            expect(refusal(ask, text, BASE, {}), right, f'{right[0]} before the states')
+    expect(refusal(lugwefa.plan, LOCKED, ALL_CLOSED, BEST), (11, 0), 'a present state that is not radial')
+    expect(refusal(lugwefa.plan, LOCKED, BASE, ALL_OPEN), (11, 1), 'a wanted state that is not radial')
+    expect(refusal(lugwefa.plan, LOCKED, BASE, BEST), (12, 10), 'a locked switch')
+    expect(str(Refused(12, 10)), "refused 12 at switch 10: a differing live branch's switch is locked", 'words')
+    expect(str(Refused(5, 3)), 'refused 5 at line 3: float outside its range, or not finite', 'words')
+    expect(str(Refused(11, 1)), "refused 11 at the wanted state: a plan's state isn't radial", 'words')
+    expect(sorted(lugwefa.CONDITIONS), list(range(1, 14)), 'a condition for each number')
+
+
+def tails():
+    """Guard bytes around the lent slice: what is behind the answer stays, and a refusal writes nothing."""
+    library, text = lugwefa._library(), TRIANGLE.encode()
+    base, best = b'\0\1', b'\1\0'
+    lent = (('feeder_plan', (text, base, best), b'83000B000A\n'), ('feeder_operations', (text, base, best), b'82000A00\n82000B01\n'),
+            ('feeder_answer_text', (text,), PRINTED.encode()), ('feeder_base_state', (text,), base), ('feeder_solve', (text,), best))
+    for name, slices, written in lent:
+        for room in (len(written) + 8, len(written), len(written) - 1, 0):
+            fits = room >= len(written)
+            buffer = ctypes.create_string_buffer(b'\xAA' * 256, 256)
+            middle = ctypes.c_char_p(ctypes.addressof(buffer) + 16)
+            words = [word for each in slices for word in (each, len(each))]
+            answer = getattr(library, name)(*words, middle, room)
+            right = b'\xAA' * 16 + (written if fits else b'')
+            expect(buffer.raw, right + b'\xAA' * (256 - len(right)), f'{name}: the bytes with room for {room}')
+            expect((answer.number, answer.place), (0 if fits else 13, 0), f'{name}: the answer with room for {room}')
+
+
+def bits(x):
+    return struct.pack('>d', x).hex().upper()
+
+
+def entries(path):
+    with open(path, 'rb') as file:
+        while head := file.read(9):
+            yield file.read(int(head[:4], 16)), file.read(int(head[4:8], 16)).decode()
+
+
+def every_text(path):
+    """The printed lines of each text, made again from what the calls answer."""
+    texts = 0
+    for text, printed in entries(path):
+        texts += 1
+        what = f'entry {texts}'
+        if printed.startswith('8F'):
+            expect(refusal(lugwefa.answer_text, text), (int(printed[2:4], 16), int(printed[4:8], 16)), what)
+            continue
+        expect(lugwefa.answer_text(text), printed, what)
+        base, found = lugwefa.base_state(text), lugwefa.solve(text)
+        lines = [f'81{found.radial:02X}{bits(found.base_loss)}{bits(found.best_loss)}{bits(found.reduction)}{found.iterations:04X}{found.converged:02X}']
+        lines += [f'82{switch:04X}{stands == CLOSED:02X}' for switch, stands in lugwefa.operations(text, base, found.state)]
+        if lugwefa.radiality(text, base):
+            lines += [f'83{pair.close:04X}{pair.open:04X}' for pair in lugwefa.plan(text, base, found.state)]
+        else:
+            expect(refusal(lugwefa.plan, text, base, found.state), (11, 0), what)
+        expect('\n'.join(lines) + '\n', printed, what)
+        expect((lugwefa.loss(text, base), lugwefa.radiality(text, found.state)), (found.base_loss, found.radial), what)
+    return texts
+
+
+def example(path):
+    with redirect_stdout(io.StringIO()) as printed:
+        runpy.run_path(path)
+    expect(printed.getvalue(), "base {10: 'closed', 11: 'open'}: 4.0 MW lost; best {10: 'open', 11: 'closed'}: 1.0 MW, 75.0 percent less\n"
+           'close switch 11, then open switch 10\n'
+           "refused 11 at the wanted state: a plan's state isn't radial\n", 'the example')
+
+
+triangle()
+states_by_id()
+refusals()
+tails()
+example(sys.argv[2])
+count = every_text(sys.argv[1])
+print(f'interface: Python: {checks} checks, {wrong} wrong ({count} texts of the list)')
+sys.exit(wrong > 0)

@@ -1,0 +1,220 @@
+/* The stack of each call of include/feeder.h, measured. A call runs on a stack that ends at a page which nobody may touch, in a child of its own, and the least
+ * stack on which it does not fault is found to 64 bytes: on a feeder of three buses, and on those of the largest texts. Then every text of the list that
+ * `replay` has (tests/answers.md) is tried on as much stack as the header says. usage: stack LIST */
+#define _GNU_SOURCE
+#include "feeder.h"
+#include <stdio.h>
+#include <stdlib.h>
+#include <string.h>
+#include <sys/mman.h>
+#include <sys/resource.h>
+#include <sys/wait.h>
+#include <ucontext.h>
+#include <unistd.h>
+
+enum { FINENESS = 64, PAGE = 4096, ROOM = 1 << 20 };
+
+/* An entry of the list. */
+struct entry {
+    const char *text, *printed;
+    size_t text_length, printed_length;
+};
+
+static int checks = 0;
+static int failures = 0;
+
+static void expect(int good, const char *name, const char *what) {
+    checks++;
+    if (!good) {
+        failures++;
+        printf("interface: stack: wrong: %s: %s\n", name, what);
+    }
+}
+
+/* What the calls are asked about: a text, its base, and what its search finds. */
+static const uint8_t *text;
+static size_t text_length, switches;
+static uint8_t present[FEEDER_MAX_SWITCHES], wanted[FEEDER_MAX_SWITCHES], out[FEEDER_TEXT_LENGTH];
+static volatile uint8_t number;
+
+static void ask_radiality(void) { number = feeder_radiality(text, text_length, present, switches).number; }
+static void ask_loss(void) { number = feeder_loss(text, text_length, wanted, switches).number; }
+static void ask_plan(void) { number = feeder_plan(text, text_length, present, switches, wanted, switches, out, sizeof out).number; }
+static void ask_answer_text(void) { number = feeder_answer_text(text, text_length, out, sizeof out).number; }
+static void ask_base_state(void) { number = feeder_base_state(text, text_length, out, sizeof out).number; }
+static void ask_solve(void) { number = feeder_solve(text, text_length, out, sizeof out).number; }
+static void ask_operations(void) {
+    number = feeder_operations(text, text_length, present, switches, wanted, switches, out, sizeof out).number;
+}
+
+struct call {
+    const char *name;
+    void (*ask)(void);
+    size_t said;
+};
+
+static const struct call calls[] = {
+    {"FEEDER_RADIALITY_STACK", ask_radiality, FEEDER_RADIALITY_STACK},
+    {"FEEDER_LOSS_STACK", ask_loss, FEEDER_LOSS_STACK},
+    {"FEEDER_PLAN_STACK", ask_plan, FEEDER_PLAN_STACK},
+    {"FEEDER_ANSWER_TEXT_STACK", ask_answer_text, FEEDER_ANSWER_TEXT_STACK},
+    {"FEEDER_BASE_STATE_STACK", ask_base_state, FEEDER_BASE_STATE_STACK},
+    {"FEEDER_SOLVE_STACK", ask_solve, FEEDER_SOLVE_STACK},
+    {"FEEDER_OPERATIONS_STACK", ask_operations, FEEDER_OPERATIONS_STACK},
+};
+enum { CALLS = sizeof calls / sizeof calls[0] };
+
+static unsigned long digits_at(const char *at, int count) {
+    char digits[9] = {0};
+    memcpy(digits, at, count);
+    return strtoul(digits, NULL, 16);
+}
+
+/* The base from the text's 04 lines, and what differs from it from the printed 82 lines. A refused text has no states. */
+static void lay(const struct entry *e) {
+    static unsigned long ids[FEEDER_MAX_SWITCHES];
+    text = (const uint8_t *)e->text;
+    text_length = e->text_length;
+    switches = 0;
+    if (strncmp(e->printed, "81", 2) != 0)
+        return;
+    for (const char *at = e->text; at < e->text + e->text_length; at = strchr(at, '\n') + 1)
+        if (strncmp(at, "04", 2) == 0) {
+            ids[switches] = digits_at(at + 2, 4);
+            present[switches++] = digits_at(at + 10, 2) & 1;
+        }
+    memcpy(wanted, present, sizeof wanted);
+    for (const char *at = e->printed; at < e->printed + e->printed_length; at = strchr(at, '\n') + 1)
+        for (size_t k = 0; strncmp(at, "82", 2) == 0 && k < switches; k++)
+            if (ids[k] == digits_at(at + 2, 4))
+                wanted[k] = digits_at(at + 6, 2) == 0;
+}
+
+/* The stack: its lowest byte is the first behind a page that faults. */
+static char *lowest;
+static ucontext_t here, there;
+
+static void make_stack(void) {
+    char *pages = mmap(NULL, PAGE + ROOM, PROT_NONE, MAP_PRIVATE | MAP_ANONYMOUS, -1, 0);
+    if (pages == MAP_FAILED || mprotect(pages + PAGE, ROOM, PROT_READ | PROT_WRITE) != 0)
+        exit(1);
+    lowest = pages + PAGE;
+}
+
+static void ask_on(size_t size, void (*ask)(void)) {
+    getcontext(&there);
+    there.uc_stack.ss_sp = lowest;
+    there.uc_stack.ss_size = size;
+    there.uc_link = &here;
+    makecontext(&there, ask, 0);
+    swapcontext(&here, &there);
+}
+
+static int child_ended(pid_t child) {
+    int status;
+    if (child < 0 || waitpid(child, &status, 0) != child)
+        exit(1);
+    return WIFEXITED(status);
+}
+
+static int is_enough(size_t size, void (*ask)(void)) {
+    pid_t child = fork();
+    if (child == 0) {
+        ask_on(size, ask);
+        _exit(0);
+    }
+    return child_ended(child);
+}
+
+/* The least stack, by halving what lies between one that is too small and one that is enough; a guess is tried first. */
+static size_t least(void (*ask)(void), size_t guess) {
+    size_t small = 0, enough = ROOM;
+    if (!is_enough(ROOM, ask))
+        return ROOM + FINENESS;
+    if (guess > 0 && is_enough(guess, ask)) {
+        enough = guess;
+        if (!is_enough(guess - FINENESS, ask))
+            small = guess - FINENESS;
+    }
+    while (enough - small > FINENESS) {
+        size_t middle = (small + enough) / 2 / FINENESS * FINENESS;
+        if (is_enough(middle, ask))
+            enough = middle;
+        else
+            small = middle;
+    }
+    return enough;
+}
+
+/* Every text of the list on so much stack. */
+static int is_enough_for_all(size_t size, void (*ask)(void), const struct entry *entries, size_t count) {
+    pid_t child = fork();
+    if (child == 0) {
+        for (size_t k = 0; k < count; k++) {
+            lay(&entries[k]);
+            ask_on(size, ask);
+        }
+        _exit(0);
+    }
+    return child_ended(child);
+}
+
+static size_t measure(const struct call *c, const struct entry *entries, size_t count) {
+    size_t three = 0, largest = 0;
+    for (size_t k = 0; k < count; k++) {
+        const struct entry *e = &entries[k];
+        int has_plan = memmem(e->printed, e->printed_length, "\n83", 3) != NULL;
+        if (e->text_length == FEEDER_LONGEST_TEXT || (three == 0 && has_plan && strncmp(e->text, "010003", 6) == 0)) {
+            lay(e);
+            size_t size = least(c->ask, three);
+            if (e->text_length == FEEDER_LONGEST_TEXT)
+                largest = size > largest ? size : largest;
+            else
+                three = size;
+        }
+    }
+    printf("interface: stack: %s %zu: measured %zu with 3 buses, %zu with 256\n", c->name, c->said, three, largest);
+    expect(three > 0 && three <= c->said, c->name, "three buses need more");
+    expect(largest > 0 && largest <= c->said, c->name, "the largest texts need more");
+    expect(is_enough_for_all(c->said, c->ask, entries, count), c->name, "a text of the list needs more");
+    return three > largest ? three : largest;
+}
+
+static struct entry *read_list(const char *path, size_t *count) {
+    FILE *file = fopen(path, "rb");
+    char *bytes = calloc(1, 1 << 24);
+    struct entry *entries = calloc(1 << 16, sizeof *entries);
+    if (file == NULL || bytes == NULL || entries == NULL)
+        exit(1);
+    char *end = bytes + fread(bytes, 1, (1 << 24) - 1, file);
+    for (char *at = bytes; at < end; (*count)++) {
+        struct entry *e = &entries[*count];
+        e->text_length = digits_at(at, 4);
+        e->printed_length = digits_at(at + 4, 4);
+        e->text = at + 9;
+        e->printed = e->text + e->text_length;
+        at += 9 + e->text_length + e->printed_length;
+    }
+    fclose(file);
+    return entries;
+}
+
+int main(int words, char **word) {
+    const struct rlimit no_core = {0, 0};
+    size_t count = 0, greatest = 0;
+    if (words != 2)
+        return 1;
+    struct entry *entries = read_list(word[1], &count);
+    make_stack();
+    setrlimit(RLIMIT_CORE, &no_core);
+    setvbuf(stdout, NULL, _IOLBF, 0);
+    for (size_t k = 0; k < CALLS; k++) {
+        size_t size = measure(&calls[k], entries, count);
+        greatest = size > greatest ? size : greatest;
+    }
+    expect(FEEDER_STACK >= greatest + greatest / 4, "FEEDER_STACK", "less than the greatest and a quarter");
+    expect(FEEDER_STACK % PAGE == 0, "FEEDER_STACK", "no whole pages");
+    printf("interface: stack: FEEDER_STACK %d: the greatest and a quarter is %zu\n", FEEDER_STACK, greatest + greatest / 4);
+    printf("interface: stack: %d checks, %d wrong\n", checks, failures);
+    return failures == 0 ? 0 : 1;
+}
