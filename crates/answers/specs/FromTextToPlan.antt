@@ -34,11 +34,11 @@ Done Open before after = (before ≡ 0) × (after ≡ 1)
 Done Close before after = (before ≡ 1) × (after ≡ 0)
 
 module _ (N : Network) where
-  abbrev base : State
+  abbrev pub base : State
   base = baseState N
 
   -- the best state of the search that the head asks for
-  abbrev wanted : State
+  abbrev pub wanted : State
   wanted = best N .state
 
   -- what the bytes say that are printed for the feeder N

@@ -21,7 +21,6 @@ use Rattle.network.specs.AnswerLaws.{no-refusal}
 use Rattle.network.specs.Check.{checkRecords}
 use Rattle.network.specs.Inside.{Each}
 use Rattle.network.specs.EachLaws.{each-anywhere, each-if, each-made, map-kept}
-use Rattle.states.specs.Live.{baseState}
 use Rattle.states.specs.Switches.{State, byte, size, switch, GoodState}
 use Rattle.lines.specs.Hex.{Fields}
 use Rattle.lines.specs.Lines.{Line, cut}
@@ -40,7 +39,7 @@ use Rattle.radiality.specs.FeederLaws.{radial-in-tree}
 use Rattle.plan.specs.Plan.{pairs, Moves, movesOf, switchOn, plan, planText}
 use Rattle.searches.specs.FromBase.{base-good}
 use Rattle.searches.specs.Results.{Result}
-use Rattle.reconfiguration.specs.Solve.{best, result}
+use Rattle.reconfiguration.specs.Solve.{result}
 use Rattle.reconfiguration.specs.AnswersHavePlans.{best-good, solve-has-plan}
 use Rattle.operations.specs.Operations.{operationTo, operationOf, operations, operationsText}
 use Rattle.operations.specs.OperationValues.{differs}
@@ -50,7 +49,7 @@ use Rattle.answers.specs.Printing.{resultText, operationLines, planLines
 use Rattle.answers.specs.ReadBack.{ofKind, readOperation, operationsIn, readPair, pairsIn}
 use Rattle.answers.specs.ReadBackLaws.{own-kind, other-kind, answer-kind, operation-kind, pair-kind, operation-kept, pair-kept}
 use Rattle.answers.specs.Full.{always-printed}
-use Rattle.answers.specs.FromTextToPlan.{Done, FromTextToPlan, MainStatement}
+use Rattle.answers.specs.FromTextToPlan.{Done, base, wanted, FromTextToPlan, MainStatement}
 
 -- ---- what the call writes
 network-printed : (text : List ℕ) (N : Network) → readText text ≡ accepted N → printed text ≡ networkText N
@@ -169,21 +168,15 @@ unfolding planText flatMap
 no-lines = refl
 
 module _ (N : Network) where
-  abbrev base : State
-  base = baseState N
-
-  abbrev wanted : State
-  wanted = best N .state
-
   -- "only for a radial base"
   abbrev pairsPrinted : List Moves
-  pairsPrinted = cond (radialIn N base) (plan N base wanted) []
+  pairsPrinted = cond (radialIn N (base N)) (plan N (base N) (wanted N)) []
 
-  network-lines : networkText N ≡ linesText (result N) (operations N base wanted) pairsPrinted
+  network-lines : networkText N ≡ linesText (result N) (operations N (base N) (wanted N)) pairsPrinted
   unfolding networkText moveLines operationLines planLines linesText
-  network-lines = ap (λ (x : List ℕ). resultText (result N) ++ (operationsText (operations N base wanted) ++ x)) (go (radialIn N base))
+  network-lines = ap (λ (x : List ℕ). resultText (result N) ++ (operationsText (operations N (base N) (wanted N)) ++ x)) (go (radialIn N (base N)))
     where
-      go : (b : Bool) → cond b (planText (plan N base wanted)) [] ≡ planText (cond b (plan N base wanted) [])
+      go : (b : Bool) → cond b (planText (plan N (base N) (wanted N))) [] ≡ planText (cond b (plan N (base N) (wanted N)) [])
       go true = refl
       go false = sym no-lines
 
@@ -196,25 +189,25 @@ module _ (N : Network) where
     unfolding plan switchOn
     pairs-read =
         ap pairsIn network-lines
-        ∙ pairs-back (result N) (operations N base wanted) pairsPrinted
-        (each-if Named (radialIn N base) (plan N base wanted) (each-made Named (movesOf N) (λ q. (switch-short _, switch-short _)) (pairs N base wanted)))
+        ∙ pairs-back (result N) (operations N (base N) (wanted N)) pairsPrinted
+        (each-if Named (radialIn N (base N)) (plan N (base N) (wanted N)) (each-made Named (movesOf N) (λ q. (switch-short _, switch-short _)) (pairs N (base N) (wanted N))))
 
-    operations-named : Each (λ o. Short (o .«switch_id»)) (operations N base wanted)
+    operations-named : Each (λ o. Short (o .«switch_id»)) (operations N (base N) (wanted N))
     unfolding operationTo
-    operations-named = rw (by-position N base wanted) (each-made (λ o. Short (o .«switch_id»)) (operationOf N wanted) switch-short (moving N base wanted))
+    operations-named = rw (by-position N (base N) (wanted N)) (each-made (λ o. Short (o .«switch_id»)) (operationOf N (wanted N)) switch-short (moving N (base N) (wanted N)))
 
-    operations-read : operationsIn (networkText N) ≡ operations N base wanted
-    operations-read = ap operationsIn network-lines ∙ operations-back (result N) (operations N base wanted) pairsPrinted operations-named
+    operations-read : operationsIn (networkText N) ≡ operations N (base N) (wanted N)
+    operations-read = ap operationsIn network-lines ∙ operations-back (result N) (operations N (base N) (wanted N)) pairsPrinted operations-named
 
     network-read : checkRecords N ≡ accepted tt → FromTextToPlan N (networkText N)
     network-read ok = record {
       pairs = λ r. pairs-read ∙ rw r;
       safe = solve-has-plan N ok;
       no-pairs = λ r. pairs-read ∙ rw r;
-      radial = radial-in-tree N ok base;
+      radial = radial-in-tree N ok (base N);
       moves = operations-read;
-      in-order = operations-read ∙ by-position N base wanted;
-      moved = λ o. rw (operations-read, by-position N base wanted) (moved-so N base wanted (base-good N) (best-good N) o, moved-if N base wanted (base-good N) (best-good N) o);
+      in-order = operations-read ∙ by-position N (base N) (wanted N);
+      moved = λ o. rw (operations-read, by-position N (base N) (wanted N)) (moved-so N (base N) (wanted N) (base-good N) (best-good N) o, moved-if N (base N) (wanted N) (base-good N) (best-good N) o);
       whole = network-lines ∙ rw (pairs-read, operations-read) (unfold linesText in refl);
     }
 
