@@ -22,7 +22,7 @@ module _ (p : ℕ → Bool) where
   those-more n = refl
 
   -- as many as are counted
-  those-long : (n : ℕ) → length (those p n) ≡ count p n
+  pub those-long : (n : ℕ) → length (those p n) ≡ count p n
   unfolding those upTo count
   those-long zero = refl
   those-long (suc n) = go (p n) (those-long n)

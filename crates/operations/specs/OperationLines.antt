@@ -7,12 +7,13 @@ use native.Mathlib.Numerals.{add-one}
 use native.Mathlib.Nat.{add-zero, add-suc, zero-add}
 use native.Mathlib.Omega.{arith}
 use lib.Dec.{eqb}
-use lib.ListN.{length, take, drop, length-append}
+use lib.ListN.{length, take, drop, length-append, length-map}
 use lib.Seq.{sets, length-sets}
 use borrow.Rule.Slice.PartMut.{putMid}
 use borrow.Author.Tests.{eq-eqb, ne-eqb}
 use Rattle.numbers.specs.UpTo.{upTo, upTo-more}
 use Rattle.numbers.specs.Choose.{those}
+use Rattle.numbers.specs.ChooseLaws.{those-long}
 use Rattle.numbers.specs.TableLaws.{map-snoc}
 use Rattle.numbers.specs.Counts.{count, count-yes, count-no}
 use Rattle.network.specs.declared.switch.Switch.{Switch}
@@ -86,19 +87,6 @@ module _ (N : Network) (from to : State) where
   unfolding first operations
   first-all = refl
 
-  length-first : (i : ℕ) → length (first i) ≡ count (differs from to) i
-  unfolding first upTo count
-  length-first zero = refl
-  length-first (suc i) = go (eqb (byte from i) (byte to i)) (length-first i)
-    where
-      go : (b : Bool) → length (first i) ≡ count (differs from to) i
-          → length (cond b (first i) (first i ++ (operationOf N to i ∷ []))) ≡ cond (not b) (suc (count (differs from to) i)) (count (differs from to) i)
-      go true e = e
-      go false e = length-append (first i) (operationOf N to i ∷ []) ∙ omega arith
-
-  pub length-operations : length (operations N from to) ≡ count (differs from to) (size N)
-  length-operations = ap length (sym first-all) ∙ length-first (size N)
-
   -- an operation for each position at which the two states differ, rising
   first-those : (i : ℕ) → first i ≡ map (operationOf N to) (those (differs from to) i)
   unfolding first upTo those
@@ -112,6 +100,9 @@ module _ (N : Network) (from to : State) where
 
   pub by-position : operations N from to ≡ map (operationOf N to) (those (differs from to) (size N))
   by-position = sym first-all ∙ first-those (size N)
+
+  pub length-operations : length (operations N from to) ≡ count (differs from to) (size N)
+  length-operations = ap length by-position ∙ length-map (those (differs from to) (size N)) (operationOf N to) ∙ those-long (differs from to) (size N)
 
   -- ---- their lines
   text : ℕ → List ℕ
