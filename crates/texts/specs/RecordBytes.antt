@@ -1,0 +1,45 @@
+-- Records in bytes, as a caller in C hands them over: each record's kind byte and its fields in document 01's order, u16 in two bytes, f64 bits in eight, most significant
+-- first, one record behind the other. They are the frames with a byte for two digits and no line feeds.
+use mathlib.Core.Bool.{cond}
+use mathlib.Core.List.{List, [], _∷_, _++_, flatMap}
+use Prim.Native.Nat.{ℕ, zero, suc, _/_, min}
+use lib.Dec.{eqb}
+use lib.ListN.{length, take, drop}
+use Rattle.lines.specs.Hex.{digits, total}
+use Rattle.lines.specs.Frames.{Frame, layout}
+use Rattle.record_lines.specs.Kinds.{head, bus, branch, switch}
+use Rattle.frames.specs.Conditions.{judgementOf}
+use Rattle.frames.specs.Text.{readText}
+use Rattle.printing.specs.Calls.{Call, called}
+
+-- a byte for two digits: 18 of the head, 11 of a bus, 14 of a branch, 6 of a switch
+abbrev pub bytesOf : Frame → ℕ
+bytesOf F = total (layout F) / 2
+
+-- "a frame has as many bytes as its kind byte says, and where the kind is none of these or fewer bytes are left, all that is left is one line"
+unfoldable pub frameBytes : ℕ → ℕ → ℕ
+frameBytes kind left =
+    cond (eqb kind (head .kind)) (min (bytesOf head) left)
+    (cond (eqb kind (bus .kind)) (min (bytesOf bus) left)
+    (cond (eqb kind (branch .kind)) (min (bytesOf branch) left)
+    (cond (eqb kind (switch .kind)) (min (bytesOf switch) left) left)))
+
+-- "each frame in digits with its line feed"
+abbrev pub lineOfBytes : List ℕ → List ℕ
+lineOfBytes frame = flatMap (digits 2) frame ++ (10 ∷ [])
+
+-- the lines of at most so many frames
+unfoldable pub linesOfBytes : ℕ → List ℕ → List ℕ
+linesOfBytes zero bytes = []
+linesOfBytes (suc more) [] = []
+linesOfBytes (suc more) (kind ∷ bytes) =
+    let n = frameBytes kind (length (kind ∷ bytes)) in
+    lineOfBytes (take n (kind ∷ bytes)) ++ linesOfBytes more (drop n (kind ∷ bytes))
+
+-- the text of records in bytes: there are no more frames than bytes
+unfoldable pub textOfBytes : List ℕ → List ℕ
+textOfBytes bytes = linesOfBytes (length bytes) bytes
+
+-- the refusal of that text, then 13, else how many bytes it has, and the text at the slice's front
+unfoldable pub writtenRecords : List ℕ → List ℕ → Call ℕ
+writtenRecords bytes out = called (judgementOf (readText (textOfBytes bytes))) (length (textOfBytes bytes)) (textOfBytes bytes) out
