@@ -1,2 +1,6 @@
 pub mod Texts
-pub mod RecordBytes
+pub mod TextLaws
+pub mod LineLaws
+pub mod Loops
+pub mod Behind
+pub mod Listed
