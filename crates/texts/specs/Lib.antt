@@ -1,2 +1,6 @@
 pub mod Texts
+pub mod TextLaws
 pub mod RecordBytes
+pub mod RecordSteps
+pub mod RecordCalls
+pub mod RecordBytesLaws
