@@ -2,16 +2,20 @@
 -- first, one record behind the other. They are the frames with a byte for two digits and no line feeds.
 use mathlib.Core.Bool.{cond}
 use mathlib.Core.List.{List, [], _∷_, _++_, flatMap}
-use Prim.Native.Nat.{ℕ, zero, suc, _/_, min}
+use Prim.Native.Nat.{ℕ, zero, suc, _/_, _%_, _^_, min}
 use lib.Dec.{eqb}
 use lib.ListN.{length, take, drop}
-use Rattle.lines.specs.Hex.{digits, total}
+use Rattle.network.specs.Check.{headOf}
+use Rattle.network.specs.Records.{Network}
+use Rattle.lines.specs.Hex.{digits, Fields, total}
 use Rattle.lines.specs.Frames.{Frame, layout}
 use Rattle.record_lines.specs.Kinds.{head, bus, branch, switch}
+use Rattle.frames.specs.Acceptable.{headFields, busFields, branchFields, switchFields}
 use Rattle.frames.specs.Conditions.{judgementOf}
 use Rattle.frames.specs.Text.{readText}
 use Rattle.printing.specs.Calls.{Call, called}
 
+-- ---- the text of such bytes
 -- a byte for two digits: 18 of the head, 11 of a bus, 14 of a branch, 6 of a switch
 abbrev pub bytesOf : Frame → ℕ
 bytesOf F = total (layout F) / 2
@@ -43,3 +47,26 @@ textOfBytes bytes = linesOfBytes (length bytes) bytes
 -- the refusal of that text, then 13, else how many bytes it has, and the text at the slice's front
 unfoldable pub writtenRecords : List ℕ → List ℕ → Call ℕ
 writtenRecords bytes out = called (judgementOf (readText (textOfBytes bytes))) (length (textOfBytes bytes)) (textOfBytes bytes) out
+
+-- ---- the records of a network in such bytes: their text is the network's (`RecordBytesLaws.records-of`), and they are answered as the network is (`records-alike`)
+-- "most significant first": a number in n bytes
+unfoldable pub numberBytes : ℕ → ℕ → List ℕ
+numberBytes zero number = []
+numberBytes (suc n) number = number / 256 ^ n ∷ numberBytes n (number % 256 ^ n)
+
+-- each field in its bytes
+unfoldable pub fieldBytes : (ws : List ℕ) → Fields ws → List ℕ
+fieldBytes [] f = []
+fieldBytes (w ∷ ws) f = numberBytes (w / 2) (f .0) ++ fieldBytes ws (f .1)
+
+-- "its kind byte and its fields in the table's order"
+abbrev pub recordBytes : (F : Frame) → Fields (F .widths) → List ℕ
+recordBytes F f = fieldBytes (layout F) (F .kind, f)
+
+-- "one behind the other": head, buses, branches, switches
+unfoldable pub bytesOfRecords : Network → List ℕ
+bytesOfRecords N =
+    recordBytes head (headFields (headOf N))
+    ++ (flatMap (λ b. recordBytes bus (busFields b)) (N .buses)
+    ++ (flatMap (λ b. recordBytes branch (branchFields b)) (N .branches)
+    ++ flatMap (λ s. recordBytes switch (switchFields s)) (N .switches)))

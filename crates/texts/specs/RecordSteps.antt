@@ -7,7 +7,7 @@ use native.Mathlib.Numerals.{add-one}
 use native.Mathlib.Omega.{arith}
 use lib.Dec.{eqb}
 use lib.ListN.{length, getD, take, drop, length-append, length-drop}
-use lib.Seq.{drop-cons}
+use lib.Seq.{drop-cons, take-append-seam, drop-append-seam}
 use borrow.Author.Tests.{ne-eqb}
 use Rattle.lines.specs.Hex.{digits}
 use Rattle.lines.specs.HexLaws.{length-digits}
@@ -96,6 +96,14 @@ line-from (suc n) (b ∷ bytes) h =
 begins : (n : ℕ) (kind : ℕ) (bytes : List ℕ) → frameBytes kind (length (kind ∷ bytes)) ≡ suc n → textFrom 0 (kind ∷ bytes) ≡ textFrom (suc n) (kind ∷ bytes)
 unfolding textFrom lineBytes
 begins n kind bytes e = rw e
+
+-- a frame with all its bytes, and what is behind it
+pub frame-from : (kind : ℕ) (fields rest : List ℕ) → frameBytes kind (length (kind ∷ (fields ++ rest))) ≡ suc (length fields)
+    → textFrom 0 (kind ∷ (fields ++ rest)) ≡ lineOfBytes (kind ∷ fields) ++ textFrom 0 rest
+frame-from kind fields rest e =
+    begins (length fields) kind (fields ++ rest) e
+    ∙ line-from (length fields) (kind ∷ (fields ++ rest)) (omega (arith, length-append fields rest))
+    ∙ rw (take-append-seam, drop-append-seam)
 
 pub frames-from : (more : ℕ) (bytes : List ℕ) → length bytes ≤ more → textFrom 0 bytes ≡ linesOfBytes more bytes
 unfolding textFrom linesOfBytes
