@@ -44,11 +44,13 @@ linesOfBytes (suc more) (kind ∷ bytes) =
 unfoldable pub textOfBytes : List ℕ → List ℕ
 textOfBytes bytes = linesOfBytes (length bytes) bytes
 
--- the refusal of that text, then 13, else how many bytes it has, and the text at the slice's front
+-- the refusal of that text, then 13, else how many bytes it has, and the text at the slice's front. Where the text is accepted with N that is what `write_text`
+-- answers for N (`RecordBytesLaws.records-accepted`); of bytes the refusal is 2 to 9 or 13 (`RecordRefusals.records-refusals`)
 unfoldable pub writtenRecords : List ℕ → List ℕ → Call ℕ
 writtenRecords bytes out = called (judgementOf (readText (textOfBytes bytes))) (length (textOfBytes bytes)) (textOfBytes bytes) out
 
--- ---- the records of a network in such bytes: their text is the network's (`RecordBytesLaws.records-of`), and they are answered as the network is (`records-alike`)
+-- ---- the records of a network in such bytes: their text is the network's (`RecordBytesLaws.records-of`), they are bytes (`records-bytes`), and they are answered
+-- as the network is (`records-alike`)
 -- "most significant first": a number in n bytes
 unfoldable pub numberBytes : ℕ → ℕ → List ℕ
 numberBytes zero number = []

@@ -4,21 +4,23 @@ use mathlib.Core.Path.{_≡_, refl, sym, ap, _∙_}
 use mathlib.Core.List.{List, [], _∷_, _++_, flatMap, append-assoc, append-nil}
 use Prim.Native.Nat.{ℕ, zero, suc, _+_, _*_, _/_, _%_, _^_, _≤_, _<_}
 use native.Mathlib.Omega.{arith}
-use native.Mathlib.Nat.{mod-lt, pow-suc, mul-comm, mul-assoc, div-div-eq-div-mul}
+use native.Mathlib.Nat.{mod-lt, pow-suc, pow-succ', mul-comm, mul-assoc, div-div-eq-div-mul, div-lt-iff-lt-mul}
 use lib.Arith.{mod-mul, digits-div, digits-mod}
 use lib.Dec.{lit<}
 use lib.ListN.{length, length-append}
 use Rattle.network.specs.Answers.{accepted, refused, _andThen_, Judgement}
 use Rattle.network.specs.Check.{headOf, checkRecords}
 use Rattle.network.specs.Inside.{Each}
+use Rattle.network.specs.EachLaws.{each-append}
 use Rattle.network.specs.Records.{Network}
-use Rattle.lines.specs.Hex.{digit, digits, Fields, writeFields, total}
+use Rattle.lines.specs.Hex.{digit, digits, Fields, writeFields, Fit, total}
 use Rattle.lines.specs.HexLaws.{pow-pos, length-digits, length-fields}
 use Rattle.lines.specs.Frames.{Frame, layout, frameText}
 use Rattle.record_lines.specs.Kinds.{head, bus, branch, switch}
 use Rattle.frames.specs.Acceptable.{headFields, busFields, branchFields, switchFields, textOf, Writable}
 use Rattle.frames.specs.Conditions.{judgementOf}
 use Rattle.frames.specs.Proof.{claim, passed}
+use Rattle.frames.specs.RecordLaws.{Kind, headKind, busKind, branchKind, switchKind}
 use Rattle.frames.specs.Text.{readText}
 use Rattle.printing.specs.LineTexts.{length-lines}
 use Rattle.texts.specs.RecordBytes.{bytesOf, frameBytes, lineOfBytes, textOfBytes, writtenRecords, numberBytes, fieldBytes, recordBytes, bytesOfRecords}
@@ -41,7 +43,7 @@ unfolding digits
 first-two w n =
     let low : n % 16 ^ w < 16 ^ w = mod-lt n (pow-pos w) in
     let first : n / 16 ^ suc w ≡ n / 16 ^ w / 16 = rw pow-suc (sym (div-div-eq-div-mul n (16 ^ w) 16)) in
-    let rest : n % 16 ^ suc w ≡ n / 16 ^ w % 16 * 16 ^ w + n % 16 ^ w = rw (pow-suc, mul-comm) (mod-mul n {m = 16} (lit< tt) (pow-pos w)) in
+    let rest : n % 16 ^ suc w ≡ n / 16 ^ w % 16 * 16 ^ w + n % 16 ^ w = rw (pow-suc, mul-comm (16 ^ w) 16) (mod-mul n {m = 16} (lit< tt) (pow-pos w)) in
     let one : n / 16 ^ w % 16 / 1 ≡ n / 16 ^ w % 16 = omega arith in
     rw (first, rest, digits-div (n / 16 ^ w % 16) low, digits-mod (n / 16 ^ w % 16) low, one)
 
@@ -49,7 +51,7 @@ weight : (n : ℕ) → 256 ^ n ≡ 16 ^ (2 * n)
 weight zero = refl
 weight (suc n) =
     let twice : 2 * suc n ≡ suc (suc (2 * n)) = omega arith in
-    rw (twice, pow-suc, pow-suc, pow-suc, weight n, mul-assoc)
+    rw (twice, pow-suc 256 n, pow-suc 16 (suc (2 * n)), pow-suc 16 (2 * n), weight n, mul-assoc)
 
 number-digits : (n number : ℕ) → flatMap (digits 2) (numberBytes n number) ≡ digits (2 * n) number
 unfolding numberBytes flatMap
@@ -126,7 +128,7 @@ records-of N =
     let branches = flatMap (λ b. recordBytes branch (branchFields b)) (N .branches) in
     let buses = flatMap (λ b. recordBytes bus (busFields b)) (N .buses) in
     let last : textFrom 0 switches ≡ flatMap (λ s. frameText switch (switchFields s)) (N .switches) =
-        ap (textFrom 0) (sym (append-nil switches)) ∙ records-from switch switch-known switchFields (N .switches) [] ∙ append-nil _ in
+    ap (textFrom 0) (sym (append-nil switches)) ∙ records-from switch switch-known switchFields (N .switches) [] ∙ append-nil _ in
     sym (text-from (bytesOfRecords N))
     ∙ record-from head head-known (headFields (headOf N)) (buses ++ (branches ++ switches))
     ∙ rw (records-from bus bus-known busFields (N .buses) (branches ++ switches), records-from branch branch-known branchFields (N .branches) switches, last)
@@ -135,3 +137,38 @@ records-of N =
 pub records-alike : (N : Network) → Writable N → (out : List ℕ) → writtenRecords (bytesOfRecords N) out ≡ writtenText N out
 unfolding writtenRecords writtenText
 records-alike N w out = rw (records-of N, claim .alike N w, judgement-then (checkRecords N) N)
+
+-- ---- and they are bytes, where each field has room in its digits
+abbrev pub Byte : ℕ → Type 0
+Byte b = b < 256
+
+number-bytes : (n number : ℕ) → number < 256 ^ n → Each Byte (numberBytes n number)
+unfolding numberBytes
+number-bytes zero number h = tt
+number-bytes (suc n) number h =
+    let some : 0 < 256 ^ n = rw (weight n) (pow-pos (2 * n)) in
+    (div-lt-iff-lt-mul {k = 256 ^ n} some .1 (rw pow-succ' at h), number-bytes n (number % 256 ^ n) (mod-lt number some))
+
+field-bytes : (ws : List ℕ) (f : Fields ws) → Even ws → Fit ws f → Each Byte (fieldBytes ws f)
+unfolding fieldBytes
+field-bytes [] f e h = tt
+field-bytes (w ∷ ws) f e h =
+    let room : f .0 < 256 ^ (w / 2) = rw (weight (w / 2), e .0) (h .0) in
+    each-append Byte (numberBytes (w / 2) (f .0)) (fieldBytes ws (f .1)) (number-bytes (w / 2) (f .0) room) (field-bytes ws (f .1) (e .1) (h .1))
+
+module _ {A : Type 0} (K : Kind A) (k : Known (K .frame)) where
+  record-bytes : (a : A) → K .Room a → Each Byte (recordBytes (K .frame) (K .fields a))
+  record-bytes a r = field-bytes (layout (K .frame)) (K .frame .kind, K .fields a) (refl, k .even) (K .sound .byte, K .fit a r)
+
+  all-bytes : (l : List A) → Each (K .Room) l → Each Byte (flatMap (λ a. recordBytes (K .frame) (K .fields a)) l)
+  unfolding flatMap
+  all-bytes [] r = tt
+  all-bytes (a ∷ l) r = each-append Byte (recordBytes (K .frame) (K .fields a)) _ (record-bytes a (r .0)) (all-bytes l (r .1))
+
+pub records-bytes : (N : Network) → Writable N → Each Byte (bytesOfRecords N)
+unfolding bytesOfRecords
+records-bytes N w =
+    each-append Byte (recordBytes head (headFields (headOf N))) _ (record-bytes headKind head-known (headOf N) (w .head-room))
+    (each-append Byte (flatMap (λ b. recordBytes bus (busFields b)) (N .buses)) _ (all-bytes busKind bus-known (N .buses) (w .bus-room))
+    (each-append Byte (flatMap (λ b. recordBytes branch (branchFields b)) (N .branches)) _ (all-bytes branchKind branch-known (N .branches) (w .branch-room))
+    (all-bytes switchKind switch-known (N .switches) (w .switch-room))))
