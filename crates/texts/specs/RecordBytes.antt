@@ -20,7 +20,7 @@ use Rattle.printing.specs.Calls.{Call, called}
 abbrev pub bytesOf : Frame → ℕ
 bytesOf F = total (layout F) / 2
 
--- "a frame has as many bytes as its kind byte says, and where the kind is none of these or fewer bytes are left, all that is left is one line"
+-- how many bytes the frame has that begins with this kind byte: as many as its kind has; where the kind is none of the four or fewer are left, all that are left
 unfoldable pub frameBytes : ℕ → ℕ → ℕ
 frameBytes kind left =
     cond (eqb kind (head .kind)) (min (bytesOf head) left)
@@ -28,7 +28,7 @@ frameBytes kind left =
     (cond (eqb kind (branch .kind)) (min (bytesOf branch) left)
     (cond (eqb kind (switch .kind)) (min (bytesOf switch) left) left)))
 
--- "each frame in digits with its line feed"
+-- a frame in digits, with its line feed
 abbrev pub lineOfBytes : List ℕ → List ℕ
 lineOfBytes frame = flatMap (digits 2) frame ++ (10 ∷ [])
 
@@ -51,7 +51,7 @@ writtenRecords bytes out = called (judgementOf (readText (textOfBytes bytes))) (
 
 -- ---- the records of a network in such bytes: their text is the network's (`RecordBytesLaws.records-of`), they are bytes (`records-bytes`), and they are answered
 -- as the network is (`records-alike`)
--- "most significant first": a number in n bytes
+-- a number in n bytes, the most significant first
 unfoldable pub numberBytes : ℕ → ℕ → List ℕ
 numberBytes zero number = []
 numberBytes (suc n) number = number / 256 ^ n ∷ numberBytes n (number % 256 ^ n)
@@ -61,11 +61,11 @@ unfoldable pub fieldBytes : (ws : List ℕ) → Fields ws → List ℕ
 fieldBytes [] f = []
 fieldBytes (w ∷ ws) f = numberBytes (w / 2) (f .0) ++ fieldBytes ws (f .1)
 
--- "its kind byte and its fields in the table's order"
+-- a record's kind byte and its fields, in the order of document 01's table
 abbrev pub recordBytes : (F : Frame) → Fields (F .widths) → List ℕ
 recordBytes F f = fieldBytes (layout F) (F .kind, f)
 
--- "one behind the other": head, buses, branches, switches
+-- one behind the other: "Lines come in this order, as many as the head says"
 unfoldable pub bytesOfRecords : Network → List ℕ
 bytesOfRecords N =
     recordBytes head (headFields (headOf N))

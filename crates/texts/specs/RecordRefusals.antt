@@ -169,7 +169,7 @@ text-rows bytes h =
     subst ByRow (sym (claim .first (textOfBytes bytes)))
     (lines-rows 1 (conditions (cut (textOfBytes bytes))) (all-rows (cut (textOfBytes bytes)) (lines-well (length bytes) bytes h)))
 
--- "2 to 9 with its line", then 13
+-- a row of the table, or 13
 pub records-refusals : (bytes out : List ℕ) → Each Byte bytes → (number place : ℕ) → writtenRecords bytes out .answer ≡ refused number place
     → ((2 ≤ number) × (number ≤ 9)) ⊎ ((number ≡ 13) × (place ≡ 0))
 unfolding writtenRecords called _andThen_ checkRoom judge
