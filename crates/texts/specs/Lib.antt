@@ -4,3 +4,9 @@ pub mod LineLaws
 pub mod Loops
 pub mod Behind
 pub mod Listed
+pub mod RecordBytes
+pub mod RecordSteps
+pub mod RecordCalls
+pub mod RecordBytesLaws
+pub mod RecordRefusals
+pub mod RecordExamples
