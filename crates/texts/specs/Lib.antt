@@ -4,6 +4,8 @@ pub mod LineLaws
 pub mod Loops
 pub mod Behind
 pub mod Listed
+pub mod Claim
+pub mod Proof
 pub mod RecordBytes
 pub mod RecordSteps
 pub mod RecordCalls

@@ -81,5 +81,9 @@ pub(crate) fn write_switch(out: &mut [u8], switch: Switch)
 {
     let flags = truth_byte(switch.normally_open) as u64 + 2 * truth_byte(switch.can_operate) as u64;
     let fields = 0x100_0000 * switch.id as u64 + 0x100 * switch.branch_idx as u64 + flags;
-    write_line(out, switch::SIZE as u8, 0x100_0000_0000 * switch::KIND as u64 + fields);
+    write_line(
+        out,
+        switch::SIZE as u8,
+        0x100_0000_0000 * switch::KIND as u64 + fields,
+    );
 }

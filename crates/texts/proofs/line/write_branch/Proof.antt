@@ -58,7 +58,6 @@ returns c =
     (omega arith)
     ∙ rw (status .truth-byte .ensures)
 
-
 pub write-branch-spec : {M : Type 1} → statement M
 write-branch-spec =
     tie.close

@@ -37,7 +37,6 @@ returns c =
     let b = line .before .before .before .before .before .args .bus in
     around-line (2 ∷ 4 ∷ []) [] (2, (b .id, tt)) _ tt _ (line .write-around .ensures) (lit< tt, (search needs, tt)) tt (omega arith) refl
 
-
 pub write-bus-spec : {M : Type 1} → statement M
 write-bus-spec =
     tie.close

@@ -77,7 +77,6 @@ returns c =
     (omega arith)
     ∙ rw (method .method-byte .ensures)
 
-
 pub write-head-spec : {M : Type 1} → statement M
 write-head-spec =
     tie.close

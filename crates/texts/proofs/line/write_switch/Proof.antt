@@ -72,7 +72,6 @@ returns c =
     let flags = flags-byte (s .«normally_open») (s .«can_operate») (tie .truth-byte .ensures) (operable .truth-byte2 .ensures) in
     frame-line switch (s .id, (s .«branch_idx», (flagsByte (s .«normally_open») (s .«can_operate»), tt))) _ (lit< tt, (search needs, (search needs, (flags .1, tt)))) (omega (arith, flags .0)) (line .write-line .ensures)
 
-
 pub write-switch-spec : {M : Type 1} → statement M
 write-switch-spec =
     tie.close
