@@ -8,7 +8,7 @@ use native.Mathlib.Nat.{mod-lt, pow-suc, pow-succ', mul-comm, mul-assoc, div-div
 use lib.Arith.{mod-mul, digits-div, digits-mod}
 use lib.Dec.{lit<}
 use lib.ListN.{length, length-append}
-use Rattle.network.specs.Answers.{accepted, refused, _andThen_, Judgement}
+use Rattle.network.specs.Answers.{accepted}
 use Rattle.network.specs.Check.{headOf, checkRecords}
 use Rattle.network.specs.Inside.{Each}
 use Rattle.network.specs.EachLaws.{each-append}
@@ -19,6 +19,7 @@ use Rattle.lines.specs.Frames.{Frame, layout, frameText}
 use Rattle.record_lines.specs.Kinds.{head, bus, branch, switch}
 use Rattle.frames.specs.Acceptable.{headFields, busFields, branchFields, switchFields, textOf, Writable}
 use Rattle.frames.specs.Conditions.{judgementOf}
+use Rattle.frames.specs.FirstFault.{judgement-then}
 use Rattle.frames.specs.Proof.{claim, passed}
 use Rattle.frames.specs.RecordLaws.{Kind, headKind, busKind, branchKind, switchKind}
 use Rattle.frames.specs.Text.{readText}
@@ -26,11 +27,6 @@ use Rattle.printing.specs.LineTexts.{length-lines}
 use Rattle.texts.specs.RecordBytes.{bytesOf, frameBytes, lineOfBytes, textOfBytes, writtenRecords, numberBytes, fieldBytes, recordBytes, bytesOfRecords}
 use Rattle.texts.specs.RecordSteps.{textFrom, text-from, frame-from}
 use Rattle.texts.specs.Texts.{writtenText}
-
-judgement-then : {A : Type 0} (v : Judgement) (a : A) → judgementOf (v andThen accepted a) ≡ v
-unfolding judgementOf _andThen_
-judgement-then (accepted u) a = refl
-judgement-then (refused n p) a = refl
 
 pub records-accepted : (bytes out : List ℕ) (N : Network) → readText (textOfBytes bytes) ≡ accepted N → writtenRecords bytes out ≡ writtenText N out
 unfolding writtenRecords writtenText judgementOf
