@@ -4,7 +4,7 @@ ghost use Rattle.network.specs.Answers.{accepted};
 ghost use Rattle.network.specs.Check.{checkRecords};
 ghost use Rattle.network.specs.Records.{recordsOf};
 ghost use Rattle.answers.specs.Printing.{answeredText};
-ghost use Rattle.texts.specs.RecordBytes.{writtenRecords};
+ghost use Rattle.record_bytes.specs.RecordBytes.{writtenRecords};
 ghost use Rattle.controller.specs.Calls.{numbersOf, textRadiality, textLoss, textPlan, textOperations, textSolved, baseCall, textBase, writtenNumbers, writtenSolved};
 use crate::answer::CallAnswer;
 use crate::answer::SolvedAnswer;
@@ -28,9 +28,9 @@ use operations::operations::compute_switch_operations;
 use plan::planner::plan;
 use radiality::radiality::verify_radiality;
 use reconfiguration::solve::solve;
+use record_bytes::records::write_records;
 use slices::writer::write_bytes;
 use states::configuration::build_base_configuration;
-use texts::records::write_records;
 
 // Whether a state is radial: the value is 1 where it is, else 0.
 #[no_mangle]

@@ -1,7 +1,7 @@
 -- A frame whose fields are put together into one number: its digits are those of the fields, one behind the other. A longer frame is written in three
 -- pieces: the fields of the first and of the last are one number each.
 use mathlib.Core.Path.{_≡_, refl, sym, _∙_}
-use mathlib.Core.List.{List, [], _∷_, _++_, append-assoc, append-nil}
+use mathlib.Core.List.{List, [], _∷_, _++_, append-assoc}
 use Prim.Native.Nat.{ℕ, _+_, _*_, _-_, _^_, _<_, _≤_}
 use native.Mathlib.Omega.{arith}
 use lib.Arith.{digits-lt}
@@ -11,7 +11,6 @@ use lib.Pow.{pow-add}
 use borrow.Rule.Slice.PartMut.{putMid}
 use Rattle.lines.specs.Hex.{digits, Fields, writeFields, Fit, total}
 use Rattle.lines.specs.Frames.{Frame, layout, frameText}
-use Rattle.lines.specs.HexLaws.{length-digits}
 use Rattle.slices.specs.Written.{written, lastDigits}
 use Rattle.slices.specs.WrittenLaws.{written-short, written-append}
 use Rattle.slices.specs.DigitLaws.{all-digits, digits-join}

@@ -1,14 +1,8 @@
 pub mod Texts
+pub mod Lines
 pub mod TextLaws
 pub mod LineLaws
-pub mod Loops
-pub mod Behind
-pub mod Listed
+pub mod PartLaws
+pub mod ValueLaws
 pub mod Claim
 pub mod Proof
-pub mod RecordBytes
-pub mod RecordSteps
-pub mod RecordCalls
-pub mod RecordBytesLaws
-pub mod RecordRefusals
-pub mod RecordExamples

@@ -1,28 +1,26 @@
 -- The claim about the text that is made of records: from what is proved of reading, and the cases of a call that is lent a slice.
 use mathlib.Core.Path.{_≡_, refl, sym, ap, _∙_}
-use mathlib.Core.Bool.{Bool, true, false, cond}
+use mathlib.Core.Logic.{_⊎_, inl, inr}
 use mathlib.Core.List.{List, _++_}
 use Prim.Native.Nat.{ℕ, _≤_, _<_, _^_}
 use native.Mathlib.Omega.{arith}
-use lib.Dec.{ltb, lit<}
+use lib.Dec.{lit<}
 use lib.Ieee.{Float, binary64, ofBits, isNan}
 use lib.Ieee.Bits.{ofBits-toBits, toBits-ofBits}
 use lib.ListN.{length, take, drop}
 use lib.Seq.{take-append-seam}
-use borrow.Author.Tests.{ltb-true}
-use Rattle.network.specs.Answers.{Answer, accepted, refused, _andThen_}
+use Rattle.network.specs.Answers.{accepted, refused, _andThen_}
 use Rattle.network.specs.AnswerLaws.{no-refusal, same-value}
 use Rattle.network.specs.Records.{Network, recordsOf}
 use Rattle.network.specs.Check.{checkRecords}
-use Rattle.network.specs.Inside.{Inside}
 use Rattle.frames.specs.Text.{readText}
 use Rattle.frames.specs.Acceptable.{bitsOf, Held, textOf, Writable}
 use Rattle.frames.specs.HandedOver.{typed-writable}
 use Rattle.frames.specs.Proof as frames
 use Rattle.frames.specs.TypedValues.{value-typed}
-use Rattle.printing.specs.Calls.{Call}
-use Rattle.printing.specs.CallLaws.{call-short, call-passed, call-answered, in-full}
-use Rattle.texts.specs.Texts.{HasBits, writtenText}
+use Rattle.printing.specs.CallLaws.{call-refused, call-short, call-answered, call-refusals, in-full}
+use Rattle.texts.specs.Lines.{IsNumber}
+use Rattle.texts.specs.Texts.{writtenText}
 use Rattle.texts.specs.Claim.{Claim}
 
 -- ---- reading
@@ -37,15 +35,6 @@ only-records : (N M : Network) → checkRecords N ≡ accepted tt → checkRecor
 only-records N M ok ok′ room room′ same = same-value (sym (accepted-back N ok room) ∙ ap readText same ∙ accepted-back M ok′ room′)
 
 -- ---- the call
--- what a refusal says
-abbrev number : Answer ℕ → ℕ
-number (accepted n) = 0
-number (refused n p) = n
-
-abbrev place : Answer ℕ → ℕ
-place (accepted n) = 0
-place (refused n p) = p
-
 module _ (N : Network) (out : List ℕ) where
   text-in-full : checkRecords N ≡ accepted tt → length (textOf N) ≤ length out
       → writtenText N out ≡ record { answer = accepted (length (textOf N)); out = textOf N ++ drop (length (textOf N)) out }
@@ -56,16 +45,18 @@ module _ (N : Network) (out : List ℕ) where
   unfolding writtenText
   text-short-slice ok short = sym (call-short (length (textOf N)) (textOf N) out ok refl short)
 
+  records-refused : (number place : ℕ) → checkRecords N ≡ refused number place → writtenText N out ≡ record { answer = refused number place; out = out }
+  unfolding writtenText
+  records-refused number place e = sym (call-refused (length (textOf N)) (textOf N) out e)
+
   -- with its tests passed the call is refused by 13 or not at all
   refused-13 : checkRecords N ≡ accepted tt → (n p : ℕ) → writtenText N out .answer ≡ refused n p → (n ≡ 13) × (p ≡ 0) × (length out < length (textOf N))
   unfolding writtenText
-  refused-13 ok n p e = go (ltb (length out) (length (textOf N))) refl (sym (ap (λ (c : Call ℕ). c .answer) (call-passed (length (textOf N)) (textOf N) out ok)) ∙ e)
+  refused-13 ok n p e = go (call-refusals (checkRecords N) (length (textOf N)) (textOf N) out e)
     where
-      go : (short : Bool) → ltb (length out) (length (textOf N)) ≡ short
-          → cond {A = Call ℕ} short (record { answer = refused 13 0; out = out }) (record { answer = accepted (length (textOf N)); out = textOf N ++ drop (length (textOf N)) out }) .answer ≡ refused n p
-          → (n ≡ 13) × (p ≡ 0) × (length out < length (textOf N))
-      go true q a = (sym (ap number a), sym (ap place a), ltb-true (length out) (length (textOf N)) q)
-      go false q a = no-refusal (sym a)
+      go : (checkRecords N ≡ refused n p) ⊎ ((checkRecords N ≡ accepted tt) × (n ≡ 13) × (p ≡ 0) × (length out < length (textOf N))) → (n ≡ 13) × (p ≡ 0) × (length out < length (textOf N))
+      go (inl not) = no-refusal (sym not ∙ ok)
+      go (inr (passed, number, place, short)) = (number, place, short)
 
   -- what it left at the front of the slice is the text
   front-back : Writable N → (after : List ℕ) (count : ℕ) → record { answer = accepted count; out = after } ≡ writtenText N out → readText (take count after) ≡ accepted N
@@ -78,7 +69,7 @@ module _ (N : Network) (out : List ℕ) where
 held-bits : (x y : Float) → Held x → Held y → bitsOf x ≡ bitsOf y → x ≡ y
 held-bits x y h k e = sym (ofBits-toBits binary64 x h) ∙ ap (ofBits binary64) e ∙ ofBits-toBits binary64 y k
 
-bits-kept : (pattern : ℕ) → pattern < 2 ^ 64 → HasBits (ofBits binary64 pattern) → bitsOf (ofBits binary64 pattern) ≡ pattern
+bits-kept : (pattern : ℕ) → pattern < 2 ^ 64 → IsNumber (ofBits binary64 pattern) → bitsOf (ofBits binary64 pattern) ≡ pattern
 bits-kept pattern h k = toBits-ofBits binary64 pattern h k
 
 two-zeros : ofBits binary64 0 ≡ ofBits binary64 0x8000_0000_0000_0000 → ⊥
@@ -99,6 +90,7 @@ claim = record {
   only-text = only-text;
   one-text = λ t u N e f. only-text t N e ∙ sym (only-text u N f);
   only-records = only-records;
+  refused-first = records-refused;
   written-back = λ t N out e room. rw (only-text t N e) (text-in-full N out (frames.passed t N e) (rw (sym (only-text t N e)) room));
   written-in-full = λ N out inside room. text-in-full N out (frames.claim .checked N .1 inside) room;
   too-short = λ N out inside short. text-short-slice N out (frames.claim .checked N .1 inside) short;

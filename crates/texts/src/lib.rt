@@ -1,4 +1,3 @@
-// The frame text of records: of a network, and of records in bytes.
+// The frame text of a network.
 mod line;
-pub mod records;
 pub mod writer;

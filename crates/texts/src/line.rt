@@ -4,7 +4,7 @@ ghost use Rattle.network.specs.Limits.{methodByte};
 ghost use Rattle.record_lines.specs.LineAnswers.{headOfCode};
 ghost use Rattle.slices.specs.Written.{written};
 ghost use Rattle.texts.specs.LineLaws.{around};
-ghost use Rattle.texts.specs.Texts.{HasBits, headText, busText, branchText, switchText};
+ghost use Rattle.texts.specs.Lines.{IsNumber, headText, busText, branchText, switchText};
 use network::branch::Branch;
 use network::bus::Bus;
 use network::switch::ReconfigAlgorithm;
@@ -44,8 +44,9 @@ fn method_byte(algorithm: ReconfigAlgorithm) -> u8
     }
 }
 
+// Kind and counts before the base have 2 + 4 + 4 + 4 digits, the method and the iterations behind it 2 + 4.
 pub(crate) fn write_head(out: &mut [u8], head: Head)
-    requires { ⌜ HasBits (head .«base_mva») ⌝ }
+    requires { ⌜ IsNumber (head .«base_mva») ⌝ }
     ensures { λ _. ⌜ now (out .exit) ≡ written (headText (headOfCode head)) (now (out .entry)) ⌝ }
 {
     let algorithm = head.algorithm;
@@ -57,16 +58,18 @@ pub(crate) fn write_head(out: &mut [u8], head: Head)
     write_around(out, 14, first, f64::to_bits(head.base_mva), 6, last);
 }
 
+// Kind and id have 2 + 4 digits; nothing stands behind the load.
 pub(crate) fn write_bus(out: &mut [u8], bus: Bus)
-    requires { ⌜ HasBits (bus .pd .0) ⌝ }
+    requires { ⌜ IsNumber (bus .pd .0) ⌝ }
     ensures { λ _. ⌜ now (out .exit) ≡ written (busText bus) (now (out .entry)) ⌝ }
 {
     let first = 0x1_0000 * bus::KIND as u64 + bus.id as u64;
     write_around(out, 6, first, f64::to_bits(bus.pd.0), 0, 0);
 }
 
+// Kind and ends have 2 + 4 + 4 digits, the status behind r 2.
 pub(crate) fn write_branch(out: &mut [u8], branch: Branch)
-    requires { ⌜ HasBits (branch .r) ⌝ }
+    requires { ⌜ IsNumber (branch .r) ⌝ }
     ensures { λ _. ⌜ now (out .exit) ≡ written (branchText branch) (now (out .entry)) ⌝ }
 {
     let ends = 0x1_0000 * branch.from_bus as u64 + branch.to_bus as u64;

@@ -9,7 +9,8 @@ ghost use Rattle.network.specs.Records.{recordsOf};
 ghost use Rattle.record_lines.specs.LineAnswers.{headOfCode};
 ghost use Rattle.slices.specs.Written.{written};
 ghost use Rattle.frames.specs.Acceptable.{textOf};
-ghost use Rattle.texts.specs.Texts.{busText, branchText, switchText, cableLines, listedLines, writtenText, writeAnswerOf};
+ghost use Rattle.texts.specs.Lines.{busText, branchText, switchText, branchesOn, busesOn};
+ghost use Rattle.texts.specs.Texts.{writtenText, writeAnswerOf};
 use crate::line::write_branch;
 use crate::line::write_bus;
 use crate::line::write_head;
@@ -87,33 +88,33 @@ fn write_switches(out: &mut [u8], network: PowerNetwork)
     }
 }
 
-// The branch lines, and the switch lines behind them.
-fn write_cables(out: &mut [u8], network: PowerNetwork)
-    requires { ⌜ (checkRecords (recordsOf network) ≡ accepted tt) × (length (cableLines (recordsOf network)) ≤ length (now out)) ⌝ }
-    ensures { λ _. ⌜ now (out .exit) ≡ written (cableLines (recordsOf network)) (now (out .entry)) ⌝ }
+// The lines from the branches on.
+fn write_from_branches(out: &mut [u8], network: PowerNetwork)
+    requires { ⌜ (checkRecords (recordsOf network) ≡ accepted tt) × (length (branchesOn (recordsOf network)) ≤ length (now out)) ⌝ }
+    ensures { λ _. ⌜ now (out .exit) ≡ written (branchesOn (recordsOf network)) (now (out .entry)) ⌝ }
 {
     write_branches(out, network);
     let switches = (branch::SIZE + 1) * wide16(network.branch_count);
     write_switches(&mut out[switches..], network);
 }
 
-// The bus lines, and those of the cables behind them.
-fn write_listed(out: &mut [u8], network: PowerNetwork)
-    requires { ⌜ (checkRecords (recordsOf network) ≡ accepted tt) × (length (listedLines (recordsOf network)) ≤ length (now out)) ⌝ }
-    ensures { λ _. ⌜ now (out .exit) ≡ written (listedLines (recordsOf network)) (now (out .entry)) ⌝ }
+// The lines from the buses on.
+fn write_from_buses(out: &mut [u8], network: PowerNetwork)
+    requires { ⌜ (checkRecords (recordsOf network) ≡ accepted tt) × (length (busesOn (recordsOf network)) ≤ length (now out)) ⌝ }
+    ensures { λ _. ⌜ now (out .exit) ≡ written (busesOn (recordsOf network)) (now (out .entry)) ⌝ }
 {
     write_buses(out, network);
-    let cables = (bus::SIZE + 1) * wide16(network.bus_count);
-    write_cables(&mut out[cables..], network);
+    let branches = (bus::SIZE + 1) * wide16(network.bus_count);
+    write_from_branches(&mut out[branches..], network);
 }
 
-// All lines: the head's, and those of the records behind it.
+// All lines: the head's, and behind it those from the buses on.
 fn write_lines(out: &mut [u8], network: PowerNetwork)
     requires { ⌜ (checkRecords (recordsOf network) ≡ accepted tt) × (length (textOf (recordsOf network)) ≤ length (now out)) ⌝ }
     ensures { λ _. ⌜ now (out .exit) ≡ written (textOf (recordsOf network)) (now (out .entry)) ⌝ }
 {
     write_head(out, head_of(network));
-    write_listed(&mut out[head::SIZE + 1..], network);
+    write_from_buses(&mut out[head::SIZE + 1..], network);
 }
 
 // How many bytes the text has.

@@ -1,6 +1,5 @@
 -- `write_around` meets its contract: the slice is too short for the line, or its pieces are written one behind the other.
 use mathlib.Core.Path.{_∙_}
-use native.Mathlib.Omega.{arith}
 use Rattle.texts.specs.LineLaws.{around-short, around-written}
 use borrow.Author.Needs.{needs}
 use Rattle.texts.proofs.line.write_around.Statement.{statement}

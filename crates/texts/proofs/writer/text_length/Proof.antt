@@ -1,6 +1,6 @@
 -- `text_length` meets its contract: the law `text-length`, of a value that lists as many records as its counts say.
 use native.Mathlib.Omega.{arith}
-use Rattle.texts.specs.Listed.{listed-length}
+use Rattle.texts.specs.ValueLaws.{value-length}
 use borrow.Author.Needs.{needs}
 use Rattle.texts.proofs.writer.text_length.Statement.{statement}
 use Rattle.texts.proofs.writer.text_length.Tie as tie
@@ -48,7 +48,7 @@ returns : tie.Need-returns
 returns c =
     let branches = c .before in
     let buses = branches .before in
-    omega (arith, listed-length (buses .before .args .network), buses .wide16 .ensures .0, branches .wide162 .ensures .0, c .wide163 .ensures .0)
+    omega (arith, value-length (buses .before .args .network), buses .wide16 .ensures .0, branches .wide162 .ensures .0, c .wide163 .ensures .0)
 
 pub text-length-spec : {M : Type 1} → statement M
 text-length-spec =

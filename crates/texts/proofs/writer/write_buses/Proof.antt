@@ -1,5 +1,5 @@
 -- `write_buses` meets its contract. The invariant: the lines of the first i buses have been written; the step is `lines-next`.
-use mathlib.Core.Path.{_≡_}
+use mathlib.Core.Path.{_≡_, refl}
 use Prim.Native.Nat.{_+_, _-_, _≤_, _<_}
 use native.Mathlib.Omega.{arith}
 use lib.ListN.{length, getD}
@@ -11,9 +11,10 @@ use Rattle.record_lines.specs.Kinds.{bus}
 use Rattle.frames.specs.Acceptable.{busFields}
 use Rattle.frames.specs.Lengths.{lineLength}
 use Rattle.printing.specs.LineTexts.{length-frame}
-use Rattle.texts.specs.Texts.{busText}
-use Rattle.texts.specs.Listed.{load-bits, few-buses}
-use Rattle.texts.specs.Loops.{Lines, lines-none, lines-length, lines-room, lines-next, lines-all}
+use Rattle.texts.specs.Lines.{busText}
+use Rattle.states.specs.Listed.{few-buses}
+use Rattle.texts.specs.ValueLaws.{load-bits}
+use Rattle.printing.specs.LineLoops.{Lines, lines-none, lines-length, lines-room, lines-next, lines-all}
 use Rattle.texts.proofs.writer.write_buses.Statement.{statement}
 use Rattle.texts.proofs.writer.write_buses.Tie as tie
 
@@ -90,7 +91,7 @@ loop-again c =
     let line = c .before .before in
     let at = line .before .before .before .before in
     let start = at .before .before .before in
-    lines-next _ _ _ _ _ _ _ _ _ (at .loop .inv) (start .pre .1) (omega (arith, at .before .wide16 .ensures .0)) (read at (line .before .before .before .loop-test .taken)) (line .write-bus .ensures)
+    lines-next _ _ _ _ _ _ _ _ _ (at .loop .inv) (start .pre .1) (omega (arith, at .before .wide16 .ensures .0)) (read at (line .before .before .before .loop-test .taken)) refl (line .write-bus .ensures)
 
 same-length : tie.Need-same-length Inv-loop μ-loop
 same-length c = lines-length _ _ _ _ _ _ _ _ _ (c .before .loop .inv)

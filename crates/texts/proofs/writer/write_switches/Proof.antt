@@ -9,9 +9,9 @@ use Rattle.record_lines.specs.Kinds.{switch}
 use Rattle.frames.specs.Acceptable.{switchFields}
 use Rattle.frames.specs.Lengths.{lineLength}
 use Rattle.printing.specs.LineTexts.{length-frame}
-use Rattle.texts.specs.Texts.{switchText}
-use Rattle.texts.specs.Listed.{few-switches}
-use Rattle.texts.specs.Loops.{Lines, lines-none, lines-length, lines-room, lines-next, lines-all}
+use Rattle.texts.specs.Lines.{switchText}
+use Rattle.states.specs.Listed.{few-switches}
+use Rattle.printing.specs.LineLoops.{Lines, lines-none, lines-length, lines-room, lines-next, lines-all}
 use Rattle.texts.proofs.writer.write_switches.Statement.{statement}
 use Rattle.texts.proofs.writer.write_switches.Tie as tie
 
@@ -78,7 +78,7 @@ loop-again c =
     let line = c .before .before in
     let at = line .before .before .before .before in
     let start = at .before .before .before in
-    lines-next _ _ _ _ _ _ _ _ _ (at .loop .inv) (start .pre .1) (omega (arith, at .before .wide16 .ensures .0)) refl (line .write-switch .ensures)
+    lines-next _ _ _ _ _ _ _ _ _ (at .loop .inv) (start .pre .1) (omega (arith, at .before .wide16 .ensures .0)) refl refl (line .write-switch .ensures)
 
 same-length : tie.Need-same-length Inv-loop μ-loop
 same-length c = lines-length _ _ _ _ _ _ _ _ _ (c .before .loop .inv)

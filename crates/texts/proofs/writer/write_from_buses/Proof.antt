@@ -1,56 +1,55 @@
--- `write_listed` meets its contract: the lines of the cables are written behind the bus lines.
-use mathlib.Core.Path.{sym, _∙_}
+-- `write_from_buses` meets its contract: the lines from the branches on are written behind the bus lines.
 use mathlib.Core.List.{flatMap}
 use native.Mathlib.Omega.{arith}
 use lib.ListN.{length-append}
 use Rattle.network.specs.Records.{recordsOf}
-use Rattle.texts.specs.Texts.{busText, cableLines}
-use Rattle.texts.specs.Listed.{bus-lines}
-use Rattle.texts.specs.Behind.{part-begins, part-room, both-written}
+use Rattle.texts.specs.Lines.{busText, branchesOn}
+use Rattle.texts.specs.ValueLaws.{bus-lines}
+use Rattle.texts.specs.PartLaws.{part-begins, part-room, both-written}
 use borrow.Author.Needs.{needs}
-use Rattle.texts.proofs.writer.write_listed.Statement.{statement}
-use Rattle.texts.proofs.writer.write_listed.Tie as tie
+use Rattle.texts.proofs.writer.write_from_buses.Statement.{statement}
+use Rattle.texts.proofs.writer.write_from_buses.Tie as tie
 
 write-buses-requires : tie.Need-write-buses-requires
 write-buses-requires c κs =
     let start = c .before .before in
     let n = start .args .network in
-    (start .pre .0, omega (arith, start .pre .1, length-append (flatMap busText (recordsOf n .buses)) (cableLines (recordsOf n))))
+    (start .pre .0, omega (arith, start .pre .1, length-append (flatMap busText (recordsOf n .buses)) (branchesOn (recordsOf n))))
 
-add-cables : tie.Need-add-cables
-add-cables c = search needs
+add-branches : tie.Need-add-branches
+add-branches c = search needs
 
 wide16-requires : tie.Need-wide16-requires
 wide16-requires c κs = search needs
 
-mul-cables : tie.Need-mul-cables
-mul-cables c = search needs
+mul-branches : tie.Need-mul-branches
+mul-branches c = search needs
 
-sub-write-cables : tie.Need-sub-write-cables
-sub-write-cables c =
+sub-write-from-branches : tie.Need-sub-write-from-branches
+sub-write-from-branches c =
     let first = c .before .before .before in
     let start = first .before .before .before in
     let n = start .args .network in
     part-begins _ _ _ _ (bus-lines n (c .wide16 .ensures .0)) (start .pre .1) (first .write-buses .ensures)
 
-part-write-cables-start : tie.Need-part-write-cables-start
-part-write-cables-start c =
+part-write-from-branches-start : tie.Need-part-write-from-branches-start
+part-write-from-branches-start c =
     let first = c .before .before .before in
     let start = first .before .before .before in
     let n = start .args .network in
     let begins = part-begins _ _ _ _ (bus-lines n (c .wide16 .ensures .0)) (start .pre .1) (first .write-buses .ensures) in
     search needs
 
-part-write-cables-end : tie.Need-part-write-cables-end
-part-write-cables-end c =
+part-write-from-branches-end : tie.Need-part-write-from-branches-end
+part-write-from-branches-end c =
     let first = c .before .before .before in
     let start = first .before .before .before in
     let n = start .args .network in
     let begins = part-begins _ _ _ _ (bus-lines n (c .wide16 .ensures .0)) (start .pre .1) (first .write-buses .ensures) in
     search needs
 
-write-cables-requires : tie.Need-write-cables-requires
-write-cables-requires c κs =
+write-from-branches-requires : tie.Need-write-from-branches-requires
+write-from-branches-requires c κs =
     let count = c .before in
     let first = count .before .before .before in
     let start = first .before .before .before in
@@ -67,19 +66,19 @@ returns c =
     let first = count .before .before .before in
     let start = first .before .before .before in
     let n = start .args .network in
-    both-written _ _ _ _ (bus-lines n (count .wide16 .ensures .0)) (start .pre .1) (first .write-buses .ensures) (rest .write-cables .ensures)
+    both-written _ _ _ _ (bus-lines n (count .wide16 .ensures .0)) (start .pre .1) (first .write-buses .ensures) (rest .write-from-branches .ensures)
 
-pub write-listed-spec : {M : Type 1} → statement M
-write-listed-spec =
+pub write-from-buses-spec : {M : Type 1} → statement M
+write-from-buses-spec =
     tie.close
     (tie.spec
     write-buses-requires
-    add-cables
+    add-branches
     wide16-requires
-    mul-cables
-    sub-write-cables
-    part-write-cables-start
-    part-write-cables-end
-    write-cables-requires
+    mul-branches
+    sub-write-from-branches
+    part-write-from-branches-start
+    part-write-from-branches-end
+    write-from-branches-requires
     same-length
     returns)

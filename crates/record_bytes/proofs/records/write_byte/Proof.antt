@@ -1,8 +1,8 @@
 -- `write_byte` meets its contract: the last byte of its line, or another.
 use borrow.Author.Needs.{needs}
-use Rattle.texts.specs.RecordCalls.{last-written, more-written}
-use Rattle.texts.proofs.records.write_byte.Statement.{statement}
-use Rattle.texts.proofs.records.write_byte.Tie as tie
+use Rattle.record_bytes.specs.RecordCalls.{last-written, more-written}
+use Rattle.record_bytes.proofs.records.write_byte.Statement.{statement}
+use Rattle.record_bytes.proofs.records.write_byte.Tie as tie
 
 sub-write-line : tie.Need-sub-write-line
 sub-write-line c = search needs

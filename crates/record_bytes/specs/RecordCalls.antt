@@ -22,9 +22,9 @@ use Rattle.slices.specs.Written.{written, lastDigits}
 use Rattle.slices.specs.WrittenLaws.{written-part}
 use Rattle.slices.specs.DigitLaws.{all-digits}
 use Rattle.printing.specs.CallLaws.{call-refused, call-short, call-done}
 use Rattle.texts.specs.TextLaws.{text-short}
-use Rattle.texts.specs.RecordBytes.{textOfBytes, writtenRecords}
-use Rattle.texts.specs.RecordSteps.{lineBytes, byteText, textFrom, byte-last, byte-more, byte-short, next-from, text-from}
+use Rattle.record_bytes.specs.RecordBytes.{textOfBytes, writtenRecords}
+use Rattle.record_bytes.specs.RecordSteps.{lineBytes, byteText, textFrom, byte-last, byte-more, byte-short, next-from, text-from}
 
 -- ---- a byte, written into the part of a slice from a place on
 module _ (text : List ℕ) (at byte : ℕ) (room : at + 3 ≤ length text) (small : byte < 256) (n : ℕ) {part : List ℕ} where

@@ -1,9 +1,9 @@
 -- `line_bytes` meets its contract: a frame begins, or a line goes on.
 use mathlib.Core.Path.{_∙_}
 use borrow.Author.Needs.{needs}
-use Rattle.texts.specs.RecordSteps.{line-begins, line-goes-on}
-use Rattle.texts.proofs.records.line_bytes.Statement.{statement}
-use Rattle.texts.proofs.records.line_bytes.Tie as tie
+use Rattle.record_bytes.specs.RecordSteps.{line-begins, line-goes-on}
+use Rattle.record_bytes.proofs.records.line_bytes.Statement.{statement}
+use Rattle.record_bytes.proofs.records.line_bytes.Tie as tie
 
 frame-bytes-requires : tie.Need-frame-bytes-requires
 frame-bytes-requires c κs = search needs

@@ -2,9 +2,9 @@
 use mathlib.Core.Path.{_∙_}
 use borrow.Author.Needs.{needs}
 use borrow.Author.Tests.{eq-eqb, ne-eqb}
-use Rattle.texts.specs.RecordBytes.{frameBytes}
-use Rattle.texts.proofs.records.frame_bytes.Statement.{statement}
-use Rattle.texts.proofs.records.frame_bytes.Tie as tie
+use Rattle.record_bytes.specs.RecordBytes.{frameBytes}
+use Rattle.record_bytes.proofs.records.frame_bytes.Statement.{statement}
+use Rattle.record_bytes.proofs.records.frame_bytes.Tie as tie
 
 at-most-requires : tie.Need-at-most-requires
 at-most-requires c κs = search needs

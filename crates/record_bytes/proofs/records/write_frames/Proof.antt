@@ -5,10 +5,10 @@ use native.Mathlib.Omega.{arith}
 use lib.ListN.{length, getD}
 use lib.Seq.{length-sets}
 use borrow.Author.Needs.{needs}
-use Rattle.texts.specs.RecordSteps.{line-some}
-use Rattle.texts.specs.RecordCalls.{Made, made-none, made-more, made-all, made-enough}
-use Rattle.texts.proofs.records.write_frames.Statement.{statement}
-use Rattle.texts.proofs.records.write_frames.Tie as tie
+use Rattle.record_bytes.specs.RecordSteps.{line-some}
+use Rattle.record_bytes.specs.RecordCalls.{Made, made-none, made-more, made-all, made-enough}
+use Rattle.record_bytes.proofs.records.write_frames.Statement.{statement}
+use Rattle.record_bytes.proofs.records.write_frames.Tie as tie
 
 abbrev Inv-loop : tie.InvT-loop
 Inv-loop records text₀ at₀ left₀ i₀ text at left i = (length text ≡ length text₀) × Made records text at left i

@@ -3,10 +3,10 @@ use mathlib.Core.List.{[]}
 use native.Mathlib.Numerals.{unary-clauses}
 use native.Mathlib.Omega.{arith}
 use Rattle.frames.specs.ReadingLaws.{read-accepted, read-refused}
-use Rattle.texts.specs.RecordCalls.{text-refused, text-within, text-no-room, text-copied}
+use Rattle.record_bytes.specs.RecordCalls.{text-refused, text-within, text-no-room, text-copied}
 use borrow.Author.Needs.{needs}
-use Rattle.texts.proofs.records.write_records.Statement.{statement}
-use Rattle.texts.proofs.records.write_records.Tie as tie
+use Rattle.record_bytes.proofs.records.write_records.Statement.{statement}
+use Rattle.record_bytes.proofs.records.write_records.Tie as tie
 
 slice-aggregate-write-frames : tie.Need-slice-aggregate-write-frames
 slice-aggregate-write-frames c = search needs

@@ -4,11 +4,10 @@ ghost use Prim.Native.Nat.{_+_, _≤_};
 ghost use lib.ListN.{length};
 ghost use lib.Seq.{sets};
 ghost use Rattle.frames.specs.Lengths.{decidingLength};
 ghost use Rattle.texts.specs.Texts.{writeAnswerOf};
-ghost use Rattle.texts.specs.RecordBytes.{frameBytes, textOfBytes, writtenRecords};
-ghost use Rattle.texts.specs.RecordSteps.{lineBytes, byteText};
-ghost use Rattle.texts.specs.RecordCalls.{Decides};
-use crate::writer::WriteAnswer;
+ghost use Rattle.record_bytes.specs.RecordBytes.{frameBytes, textOfBytes, writtenRecords};
+ghost use Rattle.record_bytes.specs.RecordSteps.{lineBytes, byteText};
+ghost use Rattle.record_bytes.specs.RecordCalls.{Decides};
 use frames::reader::read_text;
 use network::error::Verdict;
 use network::topology::PowerNetwork;
@@ -20,6 +19,7 @@ use record_lines::switch;
 use slices::writer::write_bytes;
 use slices::writer::write_digits;
 use slices::writer::write_line;
+use texts::writer::WriteAnswer;
 
 // The longest text that is accepted.
 const LONGEST_TEXT: usize = head::SIZE
@@ -28,10 +28,13 @@ const LONGEST_TEXT: usize = head::SIZE
     + PowerNetwork::MAX_BRANCHES * (branch::SIZE + 1)
     + PowerNetwork::MAX_SWITCHES * (switch::SIZE + 1);
 
-// So many of a text's bytes decide (frames/specs/Lengths).
-const DECIDING_LENGTH: usize = LONGEST_TEXT + 37;
+// "a line over 36 characters is 2 whatever they are": so many of its characters show it.
+const DECIDING_LINE: usize = 37;
 
-// The bytes that make the text's beginning: a step writes at most three, and begins below DECIDING_LENGTH.
+// So many of a text's bytes decide (frames/specs/Lengths).
+const DECIDING_LENGTH: usize = LONGEST_TEXT + DECIDING_LINE;
+
+// Room for the text's beginning: a step writes at most three bytes, and begins below DECIDING_LENGTH.
 const ROOM: usize = DECIDING_LENGTH + 2;
 
 // How many bytes the frame has that begins with this kind byte, where so many are left: as many as its kind has, and all that are left where the kind is none

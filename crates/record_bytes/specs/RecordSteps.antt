@@ -12,7 +12,7 @@ use borrow.Author.Tests.{ne-eqb}
 use Rattle.lines.specs.Hex.{digits}
 use Rattle.lines.specs.HexLaws.{length-digits}
 use Rattle.record_lines.specs.Kinds.{head, bus, branch, switch}
-use Rattle.texts.specs.RecordBytes.{bytesOf, frameBytes, lineOfBytes, linesOfBytes, textOfBytes}
+use Rattle.record_bytes.specs.RecordBytes.{bytesOf, frameBytes, lineOfBytes, linesOfBytes, textOfBytes}
 
 -- how many bytes of a line there are from this byte on: so many are left of a line that was begun, or a frame begins here
 unfoldable pub lineBytes : ℕ → ℕ → ℕ → ℕ

@@ -1,15 +1,14 @@
--- `write_cables` meets its contract: the switch lines are written behind the branch lines.
-use mathlib.Core.Path.{sym, _∙_}
+-- `write_from_branches` meets its contract: the switch lines are written behind the branch lines.
 use mathlib.Core.List.{flatMap}
 use native.Mathlib.Omega.{arith}
 use lib.ListN.{length-append}
 use Rattle.network.specs.Records.{recordsOf}
-use Rattle.texts.specs.Texts.{branchText, switchText}
-use Rattle.texts.specs.Listed.{branch-lines}
-use Rattle.texts.specs.Behind.{part-begins, part-room, both-written}
+use Rattle.texts.specs.Lines.{branchText, switchText}
+use Rattle.texts.specs.ValueLaws.{branch-lines}
+use Rattle.texts.specs.PartLaws.{part-begins, part-room, both-written}
 use borrow.Author.Needs.{needs}
-use Rattle.texts.proofs.writer.write_cables.Statement.{statement}
-use Rattle.texts.proofs.writer.write_cables.Tie as tie
+use Rattle.texts.proofs.writer.write_from_branches.Statement.{statement}
+use Rattle.texts.proofs.writer.write_from_branches.Tie as tie
 
 write-branches-requires : tie.Need-write-branches-requires
 write-branches-requires c κs =
@@ -69,8 +68,8 @@ returns c =
     let n = start .args .network in
     both-written _ _ _ _ (branch-lines n (count .wide16 .ensures .0)) (start .pre .1) (first .write-branches .ensures) (rest .write-switches .ensures)
 
-pub write-cables-spec : {M : Type 1} → statement M
-write-cables-spec =
+pub write-from-branches-spec : {M : Type 1} → statement M
+write-from-branches-spec =
     tie.close
     (tie.spec
     write-branches-requires

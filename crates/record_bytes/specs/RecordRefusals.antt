@@ -3,17 +3,18 @@ use mathlib.Core.Path.{_≡_, refl, sym, ap, subst, _∙_}
 use mathlib.Core.Logic.{_⊎_, inl, inr}
 use mathlib.Core.Bool.{Bool, true, false}
 use mathlib.Core.List.{List, [], _∷_, _++_, flatMap, append-assoc, append-nil}
-use Prim.Native.Nat.{ℕ, zero, suc, _*_, _%_, _≤_}
+use Prim.Native.Nat.{ℕ, zero, suc, _*_, _%_, _≤_, _<_}
 use native.Mathlib.Omega.{arith}
 use lib.Dec.{ltb, lit≤}
 use lib.ListN.{length, take, drop}
 use borrow.Author.Tests.{ne-eqb}
 use Rattle.numbers.specs.Every.{every, every-append}
 use Rattle.numbers.specs.Tests.{clash}
-use Rattle.network.specs.Answers.{accepted, refused, _andThen_, Fault, _if_, judge, Judgement}
+use Rattle.network.specs.Answers.{Answer, accepted, refused, _andThen_, Fault, _if_, judge, Judgement}
 use Rattle.network.specs.AnswerLaws.{no-refusal}
 use Rattle.network.specs.Inside.{Each}
 use Rattle.network.specs.Limits.{Head}
+use Rattle.network.specs.Records.{Network}
 use Rattle.network.specs.declared.bus.Bus.{Bus}
 use Rattle.network.specs.declared.switch.Switch.{Switch}
 use Rattle.network.specs.Faults.{headFaults, busFaults, branchFaults, switchFaults}
@@ -26,10 +27,12 @@ use Rattle.record_lines.specs.Kinds.{head, bus, branch, switch, fieldsOf, headF
 use Rattle.frames.specs.Conditions.{LineConditions, kindConditions, surplusConditions, busesOf, bodyConditions, conditions, judgeLines, judgementOf}
 use Rattle.frames.specs.Proof.{claim}
 use Rattle.frames.specs.Text.{readText}
-use Rattle.printing.specs.Calls.{checkRoom, answered, called}
+use Rattle.frames.specs.Lengths.{longestText}
+use Rattle.printing.specs.CallLaws.{call-refusals}
 use Rattle.printing.specs.LineTexts.{length-lines}
-use Rattle.texts.specs.RecordBytes.{frameBytes, lineOfBytes, linesOfBytes, textOfBytes, writtenRecords}
-use Rattle.texts.specs.RecordBytesLaws.{Byte}
+use Rattle.texts.specs.TextLaws.{text-short}
+use Rattle.record_bytes.specs.RecordBytes.{frameBytes, lineOfBytes, linesOfBytes, textOfBytes, writtenRecords}
+use Rattle.record_bytes.specs.RecordBytesLaws.{Byte}
 
 -- ---- the lines of the text
 abbrev Well : Line → Type 0
@@ -169,17 +172,32 @@ text-rows bytes h =
     subst ByRow (sym (claim .first (textOfBytes bytes)))
     (lines-rows 1 (conditions (cut (textOfBytes bytes))) (all-rows (cut (textOfBytes bytes)) (lines-well (length bytes) bytes h)))
 
--- a row of the table, or 13
+-- a row of the table, or 13 where the slice is shorter than the text
 pub records-refusals : (bytes out : List ℕ) → Each Byte bytes → (number place : ℕ) → writtenRecords bytes out .answer ≡ refused number place
-    → ((2 ≤ number) × (number ≤ 9)) ⊎ ((number ≡ 13) × (place ≡ 0))
-unfolding writtenRecords called _andThen_ checkRoom judge
-records-refusals bytes out h number place e = tests (judgementOf (readText (textOfBytes bytes))) (text-rows bytes h) e
+    → ((2 ≤ number) × (number ≤ 9)) ⊎ ((number ≡ 13) × (place ≡ 0) × (length out < length (textOfBytes bytes)))
+unfolding writtenRecords
+records-refusals bytes out h number place e = go (call-refusals (judgementOf (readText (textOfBytes bytes))) (length (textOfBytes bytes)) (textOfBytes bytes) out e)
   where
-    room : (short : Bool) → answered (judge ((13 if short) ∷ []) 0) (length (textOfBytes bytes)) (textOfBytes bytes) out .answer ≡ refused number place → (number ≡ 13) × (place ≡ 0)
-    room true q = (cc, cc)
-    room false q = no-refusal (sym q)
+    go : (judgementOf (readText (textOfBytes bytes)) ≡ refused number place)
+        ⊎ ((judgementOf (readText (textOfBytes bytes)) ≡ accepted tt) × (number ≡ 13) × (place ≡ 0) × (length out < length (textOfBytes bytes)))
+        → ((2 ≤ number) × (number ≤ 9)) ⊎ ((number ≡ 13) × (place ≡ 0) × (length out < length (textOfBytes bytes)))
+    go (inl tests) = inl (subst ByRow tests (text-rows bytes h))
+    go (inr (passed, n, p, short)) = inr (n, p, short)
 
-    tests : (j : Judgement) → ByRow j → answered (j andThen checkRoom (length (textOfBytes bytes)) (length out)) (length (textOfBytes bytes)) (textOfBytes bytes) out .answer ≡ refused number place
-        → ((2 ≤ number) × (number ≤ 9)) ⊎ ((number ≡ 13) × (place ≡ 0))
-    tests (accepted u) r q = inr (room (ltb (length out) (length (textOfBytes bytes))) q)
-    tests (refused n p) r q = let same : n ≡ number = cc in inl (rw same at r)
+-- 27,429 bytes are room for every text: then only the text's own refusal can come
+pub records-room : (bytes out : List ℕ) → longestText ≤ length out → (number place : ℕ) → writtenRecords bytes out .answer ≡ refused number place → readText (textOfBytes bytes) ≡ refused number place
+unfolding writtenRecords judgementOf
+records-room bytes out room number place e =
+    go (readText (textOfBytes bytes)) refl (call-refusals (judgementOf (readText (textOfBytes bytes))) (length (textOfBytes bytes)) (textOfBytes bytes) out e)
+  where
+    go : (a : Answer Network) → readText (textOfBytes bytes) ≡ a
+        → (judgementOf (readText (textOfBytes bytes)) ≡ refused number place)
+        ⊎ ((judgementOf (readText (textOfBytes bytes)) ≡ accepted tt) × (number ≡ 13) × (place ≡ 0) × (length out < length (textOfBytes bytes)))
+        → readText (textOfBytes bytes) ≡ refused number place
+    go (accepted N) q (inl tests) = no-refusal (sym tests ∙ ap judgementOf q)
+    go (accepted N) q (inr (passed, n, p, short)) = let a = claim .accepted-texts (textOfBytes bytes) N .0 q in absurd (omega (arith, text-short N (a .inside), ap length (a .text)))
+    go (refused n p) q (inl tests) = q ∙ same (sym (ap judgementOf q) ∙ tests)
+      where
+        same : _≡_ {A = Judgement} (refused n p) (refused number place) → _≡_ {A = Answer Network} (refused n p) (refused number place)
+        same e = let number-same : n ≡ number = cc in let place-same : p ≡ place = cc in rw (number-same, place-same)
+    go (refused n p) q (inr (passed, n13, p0, short)) = no-refusal (sym (ap judgementOf q) ∙ passed)

@@ -24,9 +24,9 @@ use Rattle.frames.specs.Proof.{claim, passed}
 use Rattle.frames.specs.RecordLaws.{Kind, headKind, busKind, branchKind, switchKind}
 use Rattle.frames.specs.Text.{readText}
 use Rattle.printing.specs.LineTexts.{length-lines}
-use Rattle.texts.specs.RecordBytes.{bytesOf, frameBytes, lineOfBytes, textOfBytes, writtenRecords, numberBytes, fieldBytes, recordBytes, bytesOfRecords}
-use Rattle.texts.specs.RecordSteps.{textFrom, text-from, frame-from}
+use Rattle.record_bytes.specs.RecordBytes.{bytesOf, frameBytes, lineOfBytes, textOfBytes, writtenRecords, numberBytes, fieldBytes, recordBytes, bytesOfRecords}
+use Rattle.record_bytes.specs.RecordSteps.{textFrom, text-from, frame-from}
 use Rattle.texts.specs.Texts.{writtenText}
 
 pub records-accepted : (bytes out : List ℕ) (N : Network) → readText (textOfBytes bytes) ≡ accepted N → writtenRecords bytes out ≡ writtenText N out
 unfolding writtenRecords writtenText judgementOf

@@ -1,6 +1,6 @@
 -- Lines of one length, one for each entry of a table, as a loop writes them into a slice that has room for all.
-use mathlib.Core.Path.{_≡_, refl, sym, ap, _∙_}
-use mathlib.Core.List.{List, [], _∷_, _++_, flatMap}
+use mathlib.Core.Path.{_≡_, sym, ap, _∙_}
+use mathlib.Core.List.{List, [], flatMap}
 use Prim.Native.Nat.{ℕ, _+_, _*_, _-_, _≤_, _<_}
 use native.Mathlib.Omega.{arith}
 use native.Mathlib.Nat.{mul-le-mul-left}
@@ -44,11 +44,11 @@ module _ {A : Type 0} (line : A → List ℕ) (width : ℕ) (long : (a : A) → 
           let more : width * (i + 1) ≤ width * n = mul-le-mul-left width (omega arith) in
           omega (arith, lines-length, length-first n, l .here)
 
-      pub lines-next : {x : A} → x ≡ entry i → {part : List ℕ} → part ≡ written (line x) (take (length now - at) (drop at now))
-          → Lines (putMid at (length now - at) now part) (at + width) (i + 1)
-      lines-next e w = record {
+      pub lines-next : {x : A} → x ≡ entry i → {next : ℕ} → next ≡ at + width → {part : List ℕ} → part ≡ written (line x) (take (length now - at) (drop at now))
+          → Lines (putMid at (length now - at) now part) next (i + 1)
+      lines-next e behind w = record {
         within = omega arith;
-        here = omega (arith, l .here);
+        here = omega (arith, l .here, behind);
         so-far =
             written-append (lines i) (line (entry i)) out at (length-first i ∙ sym (l .here)) (omega (arith, long (entry i), lines-room, lines-length)) (l .so-far) (w ∙ rw e)
             ∙ rw (table-more entry i, lines-more line (table entry i) (entry i));
