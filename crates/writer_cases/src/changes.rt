@@ -124,7 +124,7 @@ fn with_ends(mut network: PowerNetwork) -> PowerNetwork {
     network.branches[0] = Branch {
         from_bus: 3,
         to_bus: 1,
-        r: f64::from_bits(1),
+        r: 5e-324,
         status: false,
     };
     network.switches[0] = Switch {

@@ -75,6 +75,13 @@ fn print_slice(out: &[u8], text: &[u8]) {
     io::write_all(STDOUT_FILENO, b"]\n");
 }
 
+// The first bytes were lent.
+fn print_first(bytes: [u8; MOST_ROOM], room: usize, text: &[u8])
+    requires { ⌜ room ≤ 27509 ⌝ }
+{
+    print_slice(&bytes[0..room], text);
+}
+
 fn print_answer(network: PowerNetwork, room: usize, name: &[u8], text: &[u8])
     requires { ⌜ room ≤ 27509 ⌝ }
 {
@@ -87,7 +94,7 @@ fn print_answer(network: PowerNetwork, room: usize, name: &[u8], text: &[u8])
         WriteAnswer::Written(length) => print_written(length),
         WriteAnswer::Refused { number, place } => print_refusal(number, place),
     }
-    print_slice(&out[0..room], text);
+    print_first(out, room, text);
 }
 
 // A text that the reader refuses is said to be no feeder: such a case is wrongly made.
