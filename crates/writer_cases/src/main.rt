@@ -19,8 +19,9 @@ use numbers::at_most;
 use texts::writer::WriteAnswer;
 use texts::writer::write_text;
 
-// 80 bytes more than the longest text.
-const MOST_ROOM: usize = 27509;
+const LONGEST_TEXT: usize = 27429;
+
+const MOST_ROOM: usize = LONGEST_TEXT + 80;
 
 // A dot for each byte.
 fn dots() -> [u8; MOST_ROOM]
@@ -99,7 +100,7 @@ fn print_answer(network: PowerNetwork, room: usize, name: &[u8], text: &[u8])
 
 // A text that the reader refuses is said to be no feeder: such a case is wrongly made.
 fn print_text(name: &[u8], text: &[u8], change: u8) {
-    let n = at_most(text.len(), 27429);
+    let n = at_most(text.len(), LONGEST_TEXT);
     let reading = read_text(text);
     let verdict = reading.verdict;
     let Verdict::Accepted = verdict else {
