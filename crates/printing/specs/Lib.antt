@@ -1,5 +1,6 @@
 pub mod Printed
 pub mod Lengths
 pub mod LineTexts
+pub mod FrameNumbers
 pub mod Calls
 pub mod CallLaws

@@ -1,2 +1,14 @@
 pub mod Texts
+pub mod TextLaws
+pub mod LineLaws
+pub mod Loops
+pub mod Behind
+pub mod Listed
+pub mod Claim
+pub mod Proof
 pub mod RecordBytes
+pub mod RecordSteps
+pub mod RecordCalls
+pub mod RecordBytesLaws
+pub mod RecordRefusals
+pub mod RecordExamples

@@ -1,6 +1,6 @@
 -- What `write_text` answers: document 01's text of a network, `textOf`, into a lent slice.
 use mathlib.Core.Bool.{not}
-use mathlib.Core.List.{List}
+use mathlib.Core.List.{List, _++_, flatMap}
 use Prim.Native.Nat.{ℕ}
 use lib.Dec.{T}
 use lib.Ieee.{Float, isNan}
@@ -40,6 +40,13 @@ branchText b = frameText branch (branchFields b)
 
 abbrev pub switchText : Switch → List ℕ
 switchText s = frameText switch (switchFields s)
+
+-- ---- the lines that stand behind those of the buses, and behind the head's
+abbrev pub cableLines : Network → List ℕ
+cableLines N = flatMap branchText (N .branches) ++ flatMap switchText (N .switches)
+
+abbrev pub listedLines : Network → List ℕ
+listedLines N = flatMap busText (N .buses) ++ cableLines N
 
 -- only a NaN has no bits of its own
 abbrev pub HasBits : Float → Type 0

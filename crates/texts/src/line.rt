@@ -1,10 +1,9 @@
 // The line of each kind of record, written at the front of a lent slice. What stands behind it stays, and a slice too short stays as it is.
 ghost use mathlib.Core.Path.{_≡_};
-ghost use mathlib.Core.List.{[], _∷_, _++_};
-ghost use Rattle.lines.specs.Hex.{digits};
 ghost use Rattle.network.specs.Limits.{methodByte};
 ghost use Rattle.record_lines.specs.LineAnswers.{headOfCode};
-ghost use Rattle.slices.specs.Written.{written, lastDigits};
+ghost use Rattle.slices.specs.Written.{written};
+ghost use Rattle.texts.specs.LineLaws.{around};
 ghost use Rattle.texts.specs.Texts.{HasBits, headText, busText, branchText, switchText};
 use network::branch::Branch;
 use network::bus::Bus;
@@ -22,7 +21,7 @@ use slices::writer::write_line;
 
 // A line with a float in it: the fields before it as one number of so many digits, its bits, the fields behind it as one number.
 fn write_around(out: &mut [u8], front: u8, first: u64, bits: u64, back: u8, last: u64)
-    ensures { λ _. ⌜ now (out .exit) ≡ written ((lastDigits front first ++ digits 16 bits) ++ (lastDigits back last ++ (10 ∷ []))) (now (out .entry)) ⌝ }
+    ensures { λ _. ⌜ now (out .exit) ≡ written (around front first bits back last) (now (out .entry)) ⌝ }
 {
     let float = wide8(front);
     let end = float + 16;
@@ -82,5 +81,9 @@ pub(crate) fn write_switch(out: &mut [u8], switch: Switch)
 {
     let flags = truth_byte(switch.normally_open) as u64 + 2 * truth_byte(switch.can_operate) as u64;
     let fields = 0x100_0000 * switch.id as u64 + 0x100 * switch.branch_idx as u64 + flags;
-    write_line(out, switch::SIZE as u8, 0x100_0000_0000 * switch::KIND as u64 + fields);
+    write_line(
+        out,
+        switch::SIZE as u8,
+        0x100_0000_0000 * switch::KIND as u64 + fields,
+    );
 }

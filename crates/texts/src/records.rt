@@ -1,19 +1,25 @@
 // Records in bytes: each record's kind byte and fields, one record behind the other. Their text has a line for each, a byte in two digits.
 ghost use mathlib.Core.Path.{_≡_};
+ghost use Prim.Native.Nat.{_+_, _≤_};
+ghost use lib.ListN.{length};
+ghost use lib.Seq.{sets};
+ghost use Rattle.frames.specs.Lengths.{decidingLength};
 ghost use Rattle.texts.specs.Texts.{writeAnswerOf};
-ghost use Rattle.texts.specs.RecordBytes.{writtenRecords};
+ghost use Rattle.texts.specs.RecordBytes.{frameBytes, textOfBytes, writtenRecords};
+ghost use Rattle.texts.specs.RecordSteps.{lineBytes, byteText};
+ghost use Rattle.texts.specs.RecordCalls.{Decides};
 use crate::writer::WriteAnswer;
 use frames::reader::read_text;
 use network::error::Verdict;
 use network::topology::PowerNetwork;
 use numbers::at_most;
-use numbers::wide16;
 use record_lines::branch;
 use record_lines::bus;
 use record_lines::head;
 use record_lines::switch;
 use slices::writer::write_bytes;
 use slices::writer::write_digits;
+use slices::writer::write_line;
 
 // The longest text that is accepted.
 const LONGEST_TEXT: usize = head::SIZE
@@ -28,15 +34,10 @@ const DECIDING_LENGTH: usize = LONGEST_TEXT + 37;
 // The bytes that make the text's beginning: a step writes at most three, and begins below DECIDING_LENGTH.
 const ROOM: usize = DECIDING_LENGTH + 2;
 
-// Where the next byte's digits stand, and how many more bytes belong to the line that was begun.
-struct Progress {
-    at: usize,
-    left: usize,
-}
-
 // How many bytes the frame has that begins with this kind byte, where so many are left: as many as its kind has, and all that are left where the kind is none
 // of the four or fewer are left.
 fn frame_bytes(kind: u8, left: usize) -> usize
+    ensures { λ r. ⌜ r ≡ frameBytes kind left ⌝ }
 {
     if kind == head::KIND {
         return at_most(head::SIZE / 2, left);
@@ -53,40 +54,47 @@ fn frame_bytes(kind: u8, left: usize) -> usize
     left
 }
 
-// A byte's digits, and the line feed behind the last byte of a frame.
-fn write_next(text: &mut [u8], byte: u8, progress: Progress) -> Progress
+// How many bytes of a line there are from this byte on: so many are left of a line that was begun, or a frame begins here.
+fn line_bytes(left: usize, byte: u8, rest: usize) -> usize
+    ensures { λ r. ⌜ r ≡ lineBytes left byte rest ⌝ }
 {
-    write_digits(&mut text[progress.at..], 2, byte as u64);
-    let at = progress.at + 2;
-    if progress.left == 1 {
-        text[at] = 10;
-        return Progress {
-            at: at + 1,
-            left: 0,
-        };
+    if left == 0 {
+        return frame_bytes(byte, rest);
     }
-    Progress {
-        at,
-        left: progress.left - 1,
+    left
+}
+
+// A byte with so many bytes of its line from it on, written at a place: its digits, and the line feed behind the last. Where the next byte's digits begin.
+fn write_byte(text: &mut [u8], at: usize, byte: u8, left: usize) -> usize
+    requires { ⌜ at + 3 ≤ length (now text) ⌝ }
+    ensures { λ r. ⌜ (now (text .exit) ≡ sets (now (text .entry)) at (byteText left byte)) × (r ≡ at + length (byteText left byte)) ⌝ }
+{
+    if left == 1 {
+        write_line(&mut text[at..], 2, byte as u64);
+        return at + 3;
     }
+    write_digits(&mut text[at..], 2, byte as u64);
+    at + 2
 }
 
 // The text of the records: all of it, or as much of it as decides. How many bytes stand at the front of the slice then.
 fn write_frames(records: &[u8], text: &mut [u8]) -> usize
+    requires { ⌜ decidingLength + 2 ≤ length (now text) ⌝ }
+    ensures { λ r. ⌜ Decides (textOfBytes (now (records .entry))) (now (text .exit)) r ⌝ }
 {
-    let mut progress = Progress { at: 0, left: 0 };
+    let mut at = 0usize;
+    let mut left = 0usize;
     let mut i = 0usize;
     while i < records.len() {
-        if progress.at >= DECIDING_LENGTH {
-            return progress.at;
+        if at >= DECIDING_LENGTH {
+            return at;
         }
-        if progress.left == 0 {
-            progress.left = frame_bytes(records[i], records.len() - i);
-        }
-        progress = write_next(text, records[i], progress);
+        left = line_bytes(left, records[i], records.len() - i);
+        at = write_byte(text, at, records[i], left);
+        left -= 1;
         i += 1;
     }
-    progress.at
+    at
 }
 
 // The text of records in bytes, at the front of the slice, which keeps what is behind it. The text's refusal comes first, then 13; a refusal writes no byte.

@@ -1,14 +1,15 @@
 // The text of a network, written into a lent slice: the head's line, then one for each bus, branch and switch that is listed.
 ghost use mathlib.Core.Path.{_≡_};
 ghost use mathlib.Core.List.{flatMap};
-ghost use Prim.Native.Nat.{_*_, _≤_};
+ghost use Prim.Native.Nat.{_≤_};
 ghost use lib.ListN.{length};
 ghost use Rattle.network.specs.Answers.{accepted};
-ghost use Rattle.network.specs.Check.{checkRecords};
+ghost use Rattle.network.specs.Check.{checkRecords, headOf};
 ghost use Rattle.network.specs.Records.{recordsOf};
+ghost use Rattle.record_lines.specs.LineAnswers.{headOfCode};
 ghost use Rattle.slices.specs.Written.{written};
 ghost use Rattle.frames.specs.Acceptable.{textOf};
-ghost use Rattle.texts.specs.Texts.{busText, branchText, switchText, writtenText, writeAnswerOf};
+ghost use Rattle.texts.specs.Texts.{busText, branchText, switchText, cableLines, listedLines, writtenText, writeAnswerOf};
 use crate::line::write_branch;
 use crate::line::write_bus;
 use crate::line::write_head;
@@ -29,7 +30,9 @@ pub enum WriteAnswer {
     Refused { number: u8, place: u16 },
 }
 
+// The head line counts the records.
 fn head_of(network: PowerNetwork) -> Head
+    ensures { λ r. ⌜ headOfCode r ≡ headOf (recordsOf network) ⌝ }
 {
     let algorithm = network.algorithm;
     Head {
@@ -43,6 +46,8 @@ fn head_of(network: PowerNetwork) -> Head
 }
 
 fn write_buses(out: &mut [u8], network: PowerNetwork)
+    requires { ⌜ (checkRecords (recordsOf network) ≡ accepted tt) × (length (flatMap busText (recordsOf network .buses)) ≤ length (now out)) ⌝ }
+    ensures { λ _. ⌜ now (out .exit) ≡ written (flatMap busText (recordsOf network .buses)) (now (out .entry)) ⌝ }
 {
     let count = wide16(network.bus_count);
     let mut at = 0usize;
@@ -55,6 +60,8 @@ fn write_buses(out: &mut [u8], network: PowerNetwork)
 }
 
 fn write_branches(out: &mut [u8], network: PowerNetwork)
+    requires { ⌜ (checkRecords (recordsOf network) ≡ accepted tt) × (length (flatMap branchText (recordsOf network .branches)) ≤ length (now out)) ⌝ }
+    ensures { λ _. ⌜ now (out .exit) ≡ written (flatMap branchText (recordsOf network .branches)) (now (out .entry)) ⌝ }
 {
     let count = wide16(network.branch_count);
     let mut at = 0usize;
@@ -67,6 +74,8 @@ fn write_branches(out: &mut [u8], network: PowerNetwork)
 }
 
 fn write_switches(out: &mut [u8], network: PowerNetwork)
+    requires { ⌜ (checkRecords (recordsOf network) ≡ accepted tt) × (length (flatMap switchText (recordsOf network .switches)) ≤ length (now out)) ⌝ }
+    ensures { λ _. ⌜ now (out .exit) ≡ written (flatMap switchText (recordsOf network .switches)) (now (out .entry)) ⌝ }
 {
     let count = wide16(network.switch_count);
     let mut at = 0usize;
@@ -78,20 +87,38 @@ fn write_switches(out: &mut [u8], network: PowerNetwork)
     }
 }
 
-// All lines, each kind's behind those of the kind before.
-fn write_lines(out: &mut [u8], network: PowerNetwork)
+// The branch lines, and the switch lines behind them.
+fn write_cables(out: &mut [u8], network: PowerNetwork)
+    requires { ⌜ (checkRecords (recordsOf network) ≡ accepted tt) × (length (cableLines (recordsOf network)) ≤ length (now out)) ⌝ }
+    ensures { λ _. ⌜ now (out .exit) ≡ written (cableLines (recordsOf network)) (now (out .entry)) ⌝ }
 {
-    let buses = head::SIZE + 1;
-    let branches = buses + (bus::SIZE + 1) * wide16(network.bus_count);
-    let switches = branches + (branch::SIZE + 1) * wide16(network.branch_count);
-    write_head(out, head_of(network));
-    write_buses(&mut out[buses..], network);
-    write_branches(&mut out[branches..], network);
+    write_branches(out, network);
+    let switches = (branch::SIZE + 1) * wide16(network.branch_count);
     write_switches(&mut out[switches..], network);
+}
+
+// The bus lines, and those of the cables behind them.
+fn write_listed(out: &mut [u8], network: PowerNetwork)
+    requires { ⌜ (checkRecords (recordsOf network) ≡ accepted tt) × (length (listedLines (recordsOf network)) ≤ length (now out)) ⌝ }
+    ensures { λ _. ⌜ now (out .exit) ≡ written (listedLines (recordsOf network)) (now (out .entry)) ⌝ }
+{
+    write_buses(out, network);
+    let cables = (bus::SIZE + 1) * wide16(network.bus_count);
+    write_cables(&mut out[cables..], network);
+}
+
+// All lines: the head's, and those of the records behind it.
+fn write_lines(out: &mut [u8], network: PowerNetwork)
+    requires { ⌜ (checkRecords (recordsOf network) ≡ accepted tt) × (length (textOf (recordsOf network)) ≤ length (now out)) ⌝ }
+    ensures { λ _. ⌜ now (out .exit) ≡ written (textOf (recordsOf network)) (now (out .entry)) ⌝ }
+{
+    write_head(out, head_of(network));
+    write_listed(&mut out[head::SIZE + 1..], network);
 }
 
 // How many bytes the text has.
 fn text_length(network: PowerNetwork) -> usize
+    ensures { λ r. ⌜ r ≡ length (textOf (recordsOf network)) ⌝ }
 {
     let buses = (bus::SIZE + 1) * wide16(network.bus_count);
     let branches = (branch::SIZE + 1) * wide16(network.branch_count);
