@@ -1,5 +1,6 @@
 // What the letter of a case does to the records once they are read: A (65) to P (80) give them a fault, Q (81) and R (82) put records behind the counts that would
-// be refused if they were listed, S (83) lists one record more of each kind, T (84) gives the first of each kind values from the ends of their ranges.
+// be refused if they were listed, R with fewer listed than were read, S (83) lists more of each kind, T (84) gives the first of each kind values from the ends of
+// their ranges.
 use network::branch::Branch;
 use network::bus::Bus;
 use network::bus::Power;
@@ -26,8 +27,8 @@ pub(crate) fn changed(mut network: PowerNetwork, change: u8) -> PowerNetwork {
         79 => network.switches[10] = switch(11, 10),
         80 => return two_faults(network),
         81 => return unlisted(network),
-        82 => return unlisted(one_fewer(network)),
-        83 => return one_more(network),
+        82 => return unlisted(with_counts(network, 2, 2, 1)),
+        83 => return with_counts(network, 4, 4, 3),
         84 => return with_ends(network),
         _ => return network,
     }
@@ -69,17 +70,15 @@ fn two_faults(mut network: PowerNetwork) -> PowerNetwork {
     network
 }
 
-fn less_one(count: u16) -> u16 {
-    if count == 0 {
-        return 0;
-    }
-    count - 1
-}
-
-fn one_fewer(mut network: PowerNetwork) -> PowerNetwork {
-    network.bus_count = less_one(network.bus_count);
-    network.branch_count = less_one(network.branch_count);
-    network.switch_count = less_one(network.switch_count);
+fn with_counts(
+    mut network: PowerNetwork,
+    buses: u16,
+    branches: u16,
+    switches: u16,
+) -> PowerNetwork {
+    network.bus_count = buses;
+    network.branch_count = branches;
+    network.switch_count = switches;
     network
 }
 
@@ -98,21 +97,6 @@ fn unlisted(mut network: PowerNetwork) -> PowerNetwork {
     if j < PowerNetwork::MAX_SWITCHES {
         network.switches[j] = network.switches[0];
     }
-    network
-}
-
-fn and_one(count: u16) -> u16 {
-    if count == 65535 {
-        return 65535;
-    }
-    count + 1
-}
-
-// What reading leaves behind the counts is listed.
-fn one_more(mut network: PowerNetwork) -> PowerNetwork {
-    network.bus_count = and_one(network.bus_count);
-    network.branch_count = and_one(network.branch_count);
-    network.switch_count = and_one(network.switch_count);
     network
 }
 
