@@ -1,2 +1,4 @@
 pub mod Rounds
 pub mod RoundLaws
+pub mod TextRounds
+pub mod TextRoundLaws

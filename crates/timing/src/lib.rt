@@ -1,4 +1,5 @@
 // Repeated calls for tests/benchmark. The rounds run here, so that a call on records is measured without the reading of their text.
 pub mod rounds;
 pub mod search_rounds;
+pub mod text_rounds;
 mod values;
