@@ -17,7 +17,7 @@ use original::network::reconfiguration::{verify_radiality, NetworkConfiguration}
 use std::hint::black_box;
 use std::time::{Duration, Instant};
 
-/// Kinds of calls of `timing_rounds`, crates/timing/src/rounds.rt. Searches have `timing_searches`, writing a text has `timing_texts`.
+/// Kinds of calls of `timing_rounds`, crates/timing/src/rounds.rt. Searches have `timing_searches`; writing a text has `timing_texts`, crates/text_timing.
 const READING: u8 = 0;
 const RADIALITY: u8 = 1;
 const LOSS: u8 = 2;

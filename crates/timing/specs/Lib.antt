@@ -1,4 +1,2 @@
 pub mod Rounds
 pub mod RoundLaws
-pub mod TextRounds
-pub mod TextRoundLaws

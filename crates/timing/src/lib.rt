@@ -1,5 +1,4 @@
 // Repeated calls for tests/benchmark. The rounds run here, so that a call on records is measured without the reading of their text.
 pub mod rounds;
 pub mod search_rounds;
-pub mod text_rounds;
 mod values;

@@ -6,7 +6,11 @@ use Rattle.network.specs.Answers.{Answer, accepted, refused}
 use Rattle.network.specs.Records.{Network}
 use Rattle.printing.specs.Calls.{Call}
 use Rattle.texts.specs.Texts.{writtenText}
-use Rattle.timing.specs.Rounds.{valueOf}
+
+-- how many bytes a call wrote
+abbrev pub lengthIn : Answer ℕ → ℕ
+lengthIn (accepted length) = length
+lengthIn (refused number place) = 0
 
 -- a sum, and the slice as the calls leave it
 pub record Added : Type 0 where
@@ -15,13 +19,13 @@ pub record Added : Type 0 where
 
 -- what a call counts for
 abbrev pub counted : Call ℕ → Added
-counted c = record { sum = valueOf (c .answer); out = c .out }
+counted c = record { sum = lengthIn (c .answer); out = c .out }
 
 -- one round more, in 64 bits: the text of the same records is written over the slice that the round before left
 abbrev pub oneMore : Network → Added → Added
 oneMore N a =
     let c = writtenText N (a .out) in
-    record { sum = (a .sum + valueOf (c .answer)) % 2 ^ 64; out = c .out }
+    record { sum = (a .sum + lengthIn (c .answer)) % 2 ^ 64; out = c .out }
 
 unfoldable pub textRounds : Network → List ℕ → ℕ → Added
 textRounds N out n = upTo (λ a i. oneMore N a) (record { sum = 0; out = out }) n

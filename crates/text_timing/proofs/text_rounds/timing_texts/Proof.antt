@@ -1,9 +1,9 @@
 -- `timing_texts` meets its contract: the text is refused, and nothing is written, or the rounds run on its records.
 use Rattle.frames.specs.ReadingLaws.{read-refused, read-accepted}
-use Rattle.timing.specs.TextRoundLaws.{text-refused, text-accepted}
+use Rattle.text_timing.specs.TextRoundLaws.{text-refused, text-accepted}
 use borrow.Author.Needs.{needs}
-use Rattle.timing.proofs.text_rounds.timing_texts.Statement.{statement}
-use Rattle.timing.proofs.text_rounds.timing_texts.Tie as tie
+use Rattle.text_timing.proofs.text_rounds.timing_texts.Statement.{statement}
+use Rattle.text_timing.proofs.text_rounds.timing_texts.Tie as tie
 
 read-text-requires : tie.Need-read-text-requires
 read-text-requires c κs = search needs

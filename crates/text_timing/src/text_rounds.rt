@@ -1,10 +1,9 @@
-// The rounds of writing a text. They have an entry of their own, as the searches have. The slice is lent from outside: what is written into a local one, which nobody
-// reads, the compiler may leave out.
+// The rounds of writing a text. The slice is lent from outside: what is written into a local one, which nobody reads, the compiler may leave out.
 ghost use mathlib.Core.Path.{_≡_};
 ghost use Rattle.network.specs.Records.{recordsOf};
 ghost use Rattle.frames.specs.Text.{readText};
 ghost use Rattle.texts.specs.Texts.{writtenText};
-ghost use Rattle.timing.specs.TextRounds.{counted, textRounds, roundsOn};
+ghost use Rattle.text_timing.specs.TextRounds.{counted, textRounds, roundsOn};
 use frames::reader::read_text;
 use network::error::Verdict;
 use network::topology::PowerNetwork;

@@ -9,12 +9,11 @@ use Rattle.frames.specs.Text.{readText}
 use Rattle.printing.specs.Calls.{Call}
 use Rattle.texts.specs.Texts.{writtenText, writeAnswerOf}
 use Rattle.texts.specs.declared.writer.WriteAnswer.{WriteAnswer}
-use Rattle.timing.specs.Rounds.{valueOf}
-use Rattle.timing.specs.TextRounds.{Added, counted, oneMore, textRounds, roundsOn}
+use Rattle.text_timing.specs.TextRounds.{Added, lengthIn, counted, oneMore, textRounds, roundsOn}
 
 -- ---- a call
 pub counted-by : (call : Call ℕ) (a b : WriteAnswer) (after : List ℕ) → a ≡ b → record { answer = writeAnswerOf a; out = after } ≡ call
-    → record { sum = valueOf (writeAnswerOf b); out = after } ≡ counted call
+    → record { sum = lengthIn (writeAnswerOf b); out = after } ≡ counted call
 counted-by call a b after e h = ap (λ x. counted (record { answer = writeAnswerOf x; out = after })) (sym e) ∙ ap counted h
 
 -- ---- the rounds

@@ -5,10 +5,10 @@ use lib.ListN.{length}
 use native.Mathlib.Omega.{arith}
 use borrow.Author.Needs.{needs}
 use Rattle.network.specs.Records.{recordsOf}
-use Rattle.timing.specs.TextRounds.{Added, textRounds}
-use Rattle.timing.specs.TextRoundLaws.{rounds-none, rounds-more}
-use Rattle.timing.proofs.text_rounds.text_rounds.Statement.{statement}
-use Rattle.timing.proofs.text_rounds.text_rounds.Tie as tie
+use Rattle.text_timing.specs.TextRounds.{Added, textRounds}
+use Rattle.text_timing.specs.TextRoundLaws.{rounds-none, rounds-more}
+use Rattle.text_timing.proofs.text_rounds.text_rounds.Statement.{statement}
+use Rattle.text_timing.proofs.text_rounds.text_rounds.Tie as tie
 
 abbrev Inv-loop : tie.InvT-loop
 Inv-loop network out₀ times sum₀ i₀ out sum i =

@@ -1,8 +1,8 @@
 -- `writing` meets its contract: each case of the call counts for its number.
-use Rattle.timing.specs.TextRoundLaws.{counted-by}
+use Rattle.text_timing.specs.TextRoundLaws.{counted-by}
 use borrow.Author.Needs.{needs}
-use Rattle.timing.proofs.text_rounds.writing.Statement.{statement}
-use Rattle.timing.proofs.text_rounds.writing.Tie as tie
+use Rattle.text_timing.proofs.text_rounds.writing.Statement.{statement}
+use Rattle.text_timing.proofs.text_rounds.writing.Tie as tie
 
 write-text-requires : tie.Need-write-text-requires
 write-text-requires c κs = search needs
