@@ -100,12 +100,19 @@ pub(crate) fn operations_numbers(answer: OperationsAnswer) -> CallAnswer
     }
 }
 
+// How many bytes were written into the slice.
+fn written_bytes(length: u16) -> CallAnswer
+    ensures { λ r. ⌜ r ≡ numbersOf (accepted length) ⌝ }
+{
+    answered(length as u64)
+}
+
 pub(crate) fn text_numbers(answer: TextAnswer) -> CallAnswer
     ensures { λ r. ⌜ r ≡ numbersOf (textAnswerOf answer) ⌝ }
 {
     match answer {
         TextAnswer::Refused { number, place } => refusal(number, place),
-        TextAnswer::Printed(count) => answered(count as u64),
+        TextAnswer::Printed(length) => written_bytes(length),
     }
 }
 
@@ -114,7 +121,7 @@ pub(crate) fn write_numbers(answer: WriteAnswer) -> CallAnswer
 {
     match answer {
         WriteAnswer::Refused { number, place } => refusal(number, place),
-        WriteAnswer::Written(count) => answered(count as u64),
+        WriteAnswer::Written(length) => written_bytes(length),
     }
 }
 
