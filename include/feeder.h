@@ -57,8 +57,8 @@ extern "C" {
 #define FEEDER_PAIR_LENGTH 11
 
 /* Bytes of out that are enough for every text and every state: for feeder_operations; for feeder_plan, as a plan has fewer pairs than there are
- * buses; for feeder_answer_text; for feeder_write_text, which writes no text that is not accepted (27429). FEEDER_MAX_SWITCHES are enough for
- * feeder_base_state and feeder_solve. */
+ * buses; for feeder_answer_text; for feeder_write_text (27429, the longest accepted text). FEEDER_MAX_SWITCHES are enough for feeder_base_state and
+ * feeder_solve. */
 #define FEEDER_OPERATIONS_LENGTH (FEEDER_MAX_SWITCHES * FEEDER_OPERATION_LENGTH)
 #define FEEDER_PLAN_LENGTH ((FEEDER_MAX_BUSES - 1) * FEEDER_PAIR_LENGTH)
 #define FEEDER_TEXT_LENGTH (FEEDER_ANSWER_LENGTH + FEEDER_OPERATIONS_LENGTH + FEEDER_PLAN_LENGTH)

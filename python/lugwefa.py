@@ -205,7 +205,9 @@ def _library():
             raise OSError('liblugwefa.so is not there: python/build makes it, or LUGWEFA_LIBRARY names it')
         library = ctypes.CDLL(path)
         for name, (answer, slices) in _CALLS.items():
-            call = getattr(library, name)
+            call = getattr(library, name, None)
+            if call is None:
+                raise OSError(f'{path} has no {name}: python/build makes it anew')
             call.restype, call.argtypes = answer, [ctypes.c_char_p, ctypes.c_size_t] * slices
         _loaded = library
     return _loaded

@@ -1,5 +1,6 @@
 #!/usr/bin/env python3
 """Makes a small estate's database: three feeders from one intake, and three ties between them. usage: make_database.py DATABASE (a new file)"""
+import os
 import pathlib
 import sqlite3
 import sys
@@ -26,13 +27,22 @@ SWITCHES = [
 ]
 
 
-def main(path):
+def make(path):
     connection = sqlite3.connect(path)
     connection.executescript((pathlib.Path(__file__).parent / 'schema.sql').read_text())
     with connection:
         for table, rows in (('head', [HEAD]), ('buses', BUSES), ('branches', BRANCHES), ('switches', SWITCHES)):
             connection.executemany(f'INSERT INTO {table} VALUES (NULL{", ?" * len(rows[0])})', rows)
     connection.close()
+
+
+def main(path):
+    if os.path.exists(path):
+        sys.exit(f'make_database.py: {path} is there already')
+    try:
+        make(path)
+    except sqlite3.Error as error:
+        sys.exit(f'make_database.py: {path}: {error}')
 
 
 if __name__ == '__main__':

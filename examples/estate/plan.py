@@ -1,9 +1,11 @@
 #!/usr/bin/env python3
-"""The switching plan of an estate's feeder, out of the tables of schema.sql. usage: plan.py DATABASE
-The text is made and answered by the library: nothing is judged here but whether a value can be handed over. Exit status: 0 planned, 1 refused, 2 could not run."""
+"""The switching plan of an estate's feeder, out of the tables of schema.sql. usage: plan.py DATABASE [TEXT]   (TEXT: a file for the text, which feeder reads)
+The text is made and answered by the library. Judged here are: that a value has room in its field, that there is one head, that a cable's number is whole and means
+one cable, and which row a line is. Exit status: 0 planned, 1 refused, 2 could not run."""
 import pathlib
 import sqlite3
 import sys
+from contextlib import closing
 
 sys.path.insert(0, str(pathlib.Path(__file__).resolve().parents[2] / 'python'))
 import lugwefa
@@ -39,10 +41,11 @@ class Fault(Exception):
 
 
 def read_tables(path):
-    """Each table's rows, in their order. The database is only read."""
-    connection = sqlite3.connect(pathlib.Path(path).resolve().as_uri() + '?mode=ro', uri=True)
-    connection.row_factory = sqlite3.Row
-    return {table: connection.execute(f'SELECT {", ".join(columns)} FROM {table} ORDER BY row').fetchall() for table, columns in COLUMNS.items()}
+    """Each table's rows, in their order. The database is only read, in one transaction: an edit meanwhile does not make a text of two plans."""
+    with closing(sqlite3.connect(pathlib.Path(path).resolve().as_uri() + '?mode=ro', uri=True, isolation_level=None)) as connection:
+        connection.row_factory = sqlite3.Row
+        connection.execute('BEGIN')
+        return {table: connection.execute(f'SELECT {", ".join(columns)} FROM {table} ORDER BY row').fetchall() for table, columns in COLUMNS.items()}
 
 
 def shown(value):
@@ -50,29 +53,35 @@ def shown(value):
 
 
 def in_words(table, row):
-    return f'{table}, row {row["row"]} ({", ".join(f"{column} {shown(row[column])}" for column in COLUMNS[table][1:])})'
+    return f'{table}, row {shown(row["row"])} ({", ".join(f"{column} {shown(row[column])}" for column in COLUMNS[table][1:])})'
 
 
 def record_of(record, row):
     return record(*(row[field] for field in record._fields))
 
 
+def cable_number(table, row, column):
+    """Any whole number: it is not in the text."""
+    if not isinstance(row[column], int):
+        raise Fault(f'{in_words(table, row)}: {column} is {shown(row[column])}, which is no whole number')
+    return row[column]
+
+
 def positions_of(branches):
-    """Where the branches stand in their list, by their ids, which the text does not have."""
+    """Where the branches stand in their list, by their ids."""
     positions = {}
     for position, row in enumerate(branches):
-        if not isinstance(row['id'], int):
-            raise Fault(f'{in_words("branches", row)}: id is {shown(row["id"])}, which is no whole number')
-        positions.setdefault(row['id'], []).append(position)
+        positions.setdefault(cable_number('branches', row, 'id'), []).append(position)
     return positions
 
 
 def switch_of(row, positions, behind):
-    """The switch with its branch's position. For an id that no branch has it is the one behind the last, which the library refuses; what is no id stays."""
-    switch, found = record_of(lugwefa.Switch, row), positions.get(row['branch'], [behind])
+    """The switch with its branch's position. For an id that no branch has it is the one behind the last, which the library refuses."""
+    number = cable_number('switches', row, 'branch')
+    found = positions.get(number, [behind])
     if len(found) > 1:
-        raise Fault(f'{in_words("switches", row)}: {len(found)} branches have the id {shown(row["branch"])}')
-    return switch._replace(branch=found[0]) if isinstance(row['branch'], int) else switch
+        raise Fault(f'{in_words("switches", row)}: {len(found)} branches have the id {number}')
+    return record_of(lugwefa.Switch, row)._replace(branch=found[0])
 
 
 def records_of(tables):
@@ -108,8 +117,13 @@ def pairs_of(text, found):
         raise Fault(f'as the switches normally stand, a bus is not connected or there is a loop (refusal {refused.number}): no plan leads from there')
 
 
-def print_plan(tables):
-    text = text_of(tables)
+def keep_text(text, path, database):
+    if path.exists() and path.samefile(database):
+        raise OSError(f'{path} is the database')
+    path.write_bytes(text.encode())
+
+
+def print_plan(tables, text):
     found = lugwefa.solve(text)
     pairs = pairs_of(text, found)
     cables = {row['id']: f'cable {row["id"]} {shown(row["name"])}' for row in tables['branches']}
@@ -121,11 +135,15 @@ def print_plan(tables):
 
 
 def main(words):
-    if len(words) != 2:
-        print('usage: plan.py DATABASE', file=sys.stderr)
+    if len(words) not in (2, 3):
+        print('usage: plan.py DATABASE [TEXT]', file=sys.stderr)
         return 2
     try:
-        print_plan(read_tables(words[1]))
+        tables = read_tables(words[1])
+        text = text_of(tables)
+        if len(words) == 3:
+            keep_text(text, pathlib.Path(words[2]), words[1])
+        print_plan(tables, text)
         return 0
     except Fault as fault:
         print(f'refused: {fault}')
@@ -139,4 +157,6 @@ def main(words):
 
 
 if __name__ == '__main__':
+    # a name may have a letter that the output has not
+    sys.stdout.reconfigure(errors='backslashreplace')
     sys.exit(main(sys.argv))

@@ -34,5 +34,5 @@ CREATE TABLE switches (
     name TEXT,
     branch INTEGER,             -- id of a branch
     normally_open INTEGER,      -- 1 or 0
-    can_operate INTEGER         -- 1 or 0, locked
+    can_operate INTEGER         -- 1; 0: locked
 );

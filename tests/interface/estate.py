@@ -1,4 +1,4 @@
-"""examples/estate: what plan.py prints, and its exit status, on the database that make_database.py makes and on damaged ones.
+"""examples/estate: what plan.py prints and writes, and its exit status, on the database that make_database.py makes and on damaged ones.
 usage: estate.py EXAMPLE FOLDER   (the example's folder; a folder for the databases)"""
 
 import io
@@ -16,6 +16,40 @@ PLAN = """\
 2. close switch 7 'mill lane tie' on cable 402 'mill lane cable',
    then open switch 5 'mill switch' on cable 303 'park feeder 3'
 Every bus stays connected all the way, and after each step there is no loop: a run may stop there.
+"""
+# the database's text, by hand from docs/INTERFACE.md
+TEXT = """\
+01000A000C00084024000000000000000064
+0200010000000000000000
+02000B3FA999999999999A
+02000C3FD999999999999A
+02000D3FD3333333333333
+0200153FA999999999999A
+0200163FD6666666666666
+0200173FECCCCCCCCCCCCD
+02001F3FC3333333333333
+0200203FD999999999999A
+0200213FE0000000000000
+030001000B3F847AE147AE147B01
+03000B000C3F847AE147AE147B01
+03000C000D3F889374BC6A7EFA01
+03000100153FA47AE147AE147B01
+03001500163FA999999999999A01
+03001600173FA47AE147AE147B01
+030001001F3FA1EB851EB851EC01
+03001F00203FA999999999999A01
+03002000213FA70A3D70A3D70A01
+03000D00173F80624DD2F1A9FC01
+03000C00213F947AE147AE147B01
+03001600203FB47AE147AE147B01
+040001000000
+040002000300
+040003000600
+040004000502
+040005000802
+040006000903
+040007000A03
+040008000B03
 """
 HEAD = "head, row 1 (base_mva {}, method {}, max_iterations {})"
 LODGE = "buses, row 2 (id {}, name 'gate lodge', pd {})"
@@ -69,12 +103,15 @@ REFUSED = [
     ("UPDATE switches SET id = 70000 WHERE id = 5", MILL.format(70000, 303, 0, 1) + f': id is 70000, {WHOLE}'),
     ("UPDATE branches SET id = NULL WHERE id = 202", FARM.format('NULL', 21, 22, 0.05, 1) + ': id is NULL, which is no whole number'),
     ("UPDATE branches SET id = 'C5' WHERE id = 202", FARM.format("'C5'", 21, 22, 0.05, 1) + ": id is 'C5', which is no whole number"),
-    ("UPDATE switches SET branch = NULL WHERE id = 5", MILL.format(5, 'NULL', 0, 1) + f': branch is NULL, {WHOLE}'),
-    ("UPDATE switches SET branch = 'mill' WHERE id = 5", MILL.format(5, "'mill'", 0, 1) + f": branch is 'mill', {WHOLE}"),
+    ("UPDATE switches SET branch = NULL WHERE id = 5", MILL.format(5, 'NULL', 0, 1) + ': branch is NULL, which is no whole number'),
+    ("UPDATE switches SET branch = 'mill' WHERE id = 5", MILL.format(5, "'mill'", 0, 1) + ": branch is 'mill', which is no whole number"),
     ("UPDATE switches SET normally_open = 2 WHERE id = 5", MILL.format(5, 303, 2, 1) + ': normally_open is 2, which is no truth value, 0 or 1'),
     ("UPDATE switches SET can_operate = 'yes' WHERE id = 5", MILL.format(5, 303, 0, "'yes'") + ": can_operate is 'yes', which is no truth value, 0 or 1"),
     ("UPDATE head SET max_iterations = NULL", HEAD.format(10, 0, 'NULL') + f': max_iterations is NULL, {WHOLE}'),
     ("UPDATE branches SET id = 403 WHERE id = 202", OLD_DRIVE.format(403) + ': 2 branches have the id 403'),
+    # a view without numbers for its rows
+    ("ALTER TABLE buses RENAME TO loads; CREATE VIEW buses AS SELECT NULL AS row, id, name, NULL AS pd FROM loads WHERE id = 23",
+     "buses, row NULL (id 23, name 'dairy drying tower', pd NULL): pd is NULL, which is no number"),
     (OTHERS.format(66600) + "switches SELECT NULL, n, 'spare', n, 1, 0 FROM k", 'switches: 65609 rows are too many'),
     # accepted, but not radial
     ("UPDATE switches SET normally_open = 1 WHERE id = 4", 'as the switches normally stand, a bus is not connected or there is a loop (refusal 11): no plan leads from there'),
@@ -95,7 +132,7 @@ example, folder = sys.argv[1:]
 sys.path.insert(0, example)
 import plan
 
-good, other = os.path.join(folder, 'estate.db'), os.path.join(folder, 'damaged.db')
+good, other, kept = (os.path.join(folder, name) for name in ('estate.db', 'damaged.db', 'estate.txt'))
 checks = wrong = 0
 
 
@@ -106,9 +143,9 @@ def ask(words):
     return printed.getvalue(), said.getvalue(), status
 
 
-def run(*words, **variables):
-    """The same of the program by itself."""
-    program = [sys.executable, '-B', os.path.join(example, 'plan.py'), *words]
+def run(*words, program='plan.py', **variables):
+    """The same of a program by itself."""
+    program = [sys.executable, '-B', os.path.join(example, program), *words]
     ended = subprocess.run(program, capture_output=True, text=True, env={**os.environ, **variables})
     return ended.stdout, ended.stderr, ended.returncode
 
@@ -129,9 +166,54 @@ def damaged(damage):
     return [other]
 
 
-if os.path.exists(good):
-    os.remove(good)
-subprocess.run([sys.executable, '-B', os.path.join(example, 'make_database.py'), good], check=True)
+def content(path):
+    with open(path, 'rb') as file:
+        return file.read()
+
+
+def made():
+    """make_database.py makes a new file, and nothing else."""
+    nowhere = os.path.join(folder, 'nowhere', 'estate.db')
+    expect(run(good, program='make_database.py'), ('', '', 0), 'a database is made')
+    expect(run(good, program='make_database.py'), ('', f'make_database.py: {good} is there already\n', 1), 'a database that is there')
+    expect(run(nowhere, program='make_database.py'), ('', f'make_database.py: {nowhere}: unable to open database file\n', 1), 'a folder that is not there')
+
+
+def texts():
+    """The text in a file of its own."""
+    before = content(good)
+    expect(run(good, kept), (PLAN, '', 0), 'the program, with a file for the text')
+    expect(content(kept), TEXT.encode(), 'the text')
+    # a text is written where no plan leads from the base, and none where there is no text
+    for damage in ('UPDATE switches SET normally_open = 1 WHERE id = 4', 'DELETE FROM head'):
+        expect(ask([*damaged(damage), kept])[2], 1, damage)
+        expect(content(kept), TEXT.replace('040004000502', '040004000503').encode(), f'the text: {damage}')
+    expect(ask([good, good]), ('', f'plan.py: {good} is the database\n', 2), 'the database is not overwritten')
+    expect(content(good), before, 'the database is not overwritten')
+    expect(ask([good, folder]), ('', f"plan.py: [Errno 21] Is a directory: '{folder}'\n", 2), 'a file that cannot be written')
+
+
+def edited_meanwhile():
+    """Behind each table that is read the switches are deleted: what is read is from before."""
+    editor = sqlite3.connect(*damaged('PRAGMA journal_mode = WAL'), isolation_level=None)
+
+    class Columns(dict):
+        def items(self):
+            for item in super().items():
+                yield item
+                editor.execute('DELETE FROM switches')
+
+    columns, plan.COLUMNS = plan.COLUMNS, Columns(plan.COLUMNS)
+    expect(ask([other]), (PLAN, '', 0), 'a database that is edited meanwhile')
+    plan.COLUMNS = columns
+    expect(editor.execute('SELECT count(*) FROM switches').fetchone(), (0,), 'the edit')
+    editor.close()
+
+
+for path in (good, kept):
+    if os.path.exists(path):
+        os.remove(path)
+made()
 for damage, printed in PLANNED:
     expect(ask(damaged(damage)), (printed, '', 0), damage)
 for damage, printed in REFUSED:
@@ -143,7 +225,14 @@ expect(ask(damaged('DROP TABLE buses')), ('', f'plan.py: {other}: no such table:
 expect(ask(damaged('ALTER TABLE buses RENAME pd TO load')), ('', f'plan.py: {other}: no such column: pd\n', 2), 'a missing column')
 expect(run(good), (PLAN, '', 0), 'the program, planned')
 expect(run(*damaged('DELETE FROM head')), ('refused: head: 0 rows, and one is wanted\n', '', 1), 'the program, refused')
-expect(run(), ('', 'usage: plan.py DATABASE\n', 2), 'the program, no database named')
+expect(run(), ('', 'usage: plan.py DATABASE [TEXT]\n', 2), 'the program, no database named')
 expect(run(good, LUGWEFA_LIBRARY='/no/library')[::2], ('', 2), 'the program, no library')
+expect(run(good, LUGWEFA_LIBRARY='libc.so.6'), ('', 'plan.py: libc.so.6 has no feeder_radiality: python/build makes it anew\n', 2), 'the program, another library')
+expect(run(*damaged("UPDATE branches SET name = 'hölzern' WHERE id = 401"), PYTHONIOENCODING='ascii'), (PLAN.replace('yard cable', 'h\\xf6lzern'), '', 0),
+       'a name with a letter that the output has not')
+texts()
+edited_meanwhile()
+with open(os.path.join(example, 'README.md'), encoding='utf-8') as paper:
+    expect(''.join(f'    {line}\n' for line in PLAN.splitlines()) in paper.read(), True, 'the plan as README has it')
 print(f'interface: estate: {checks} checks, {wrong} wrong ({len(PLANNED)} databases planned, {len(REFUSED)} refused)')
 sys.exit(wrong > 0)

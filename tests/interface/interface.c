@@ -296,6 +296,7 @@ static void written_texts(void) {
     write_records(length, text_length, 0, 0, TRIANGLE, "the triangle's text, an exactly full slice");
     write_records(length, text_length - 1, FEEDER_NO_ROOM, 0, "", "the triangle's text, one byte short");
     write_records(length, 0, FEEDER_NO_ROOM, 0, "", "the triangle's text, no room");
+    expect_answer(feeder_write_text(records, length, NULL, 0), FEEDER_NO_ROOM, 0, 0, "the triangle's text, a null slice");
     comes_back(NO_BUSES, "no buses");
     comes_back("01000200000000" ONE "0203E8\n0200008000000000000000\n02FFFF0000000000000001\n", "ids 0 and FFFF, -0.0, a subnormal");
 }
@@ -343,11 +344,13 @@ static void refused_records(void) {
     comes_back(eleven_ties(1), "eleven ties by tabu");
 }
 
+/* How many bytes each of the triangle's records has. */
+static const size_t sizes[] = {FEEDER_HEAD_BYTES, FEEDER_BUS_BYTES, FEEDER_BUS_BYTES, FEEDER_BUS_BYTES, FEEDER_BRANCH_BYTES,
+                               FEEDER_BRANCH_BYTES, FEEDER_BRANCH_BYTES, FEEDER_SWITCH_BYTES, FEEDER_SWITCH_BYTES};
+
 /* The triangle's records cut off at every length. The lines that are whole are as they must be, so the fault is behind them: a part of a record is a line of another length, and
  * behind a whole one a line is missing. */
 static void cut_off(void) {
-    static const size_t sizes[] = {FEEDER_HEAD_BYTES, FEEDER_BUS_BYTES, FEEDER_BUS_BYTES, FEEDER_BUS_BYTES, FEEDER_BRANCH_BYTES,
-                                   FEEDER_BRANCH_BYTES, FEEDER_BRANCH_BYTES, FEEDER_SWITCH_BYTES, FEEDER_SWITCH_BYTES};
     size_t whole = 0, end = sizes[0], length = lay_records(TRIANGLE);
     for (size_t n = 0; n < length; n++) {
         if (n == end)
@@ -358,12 +361,11 @@ static void cut_off(void) {
 
 /* Every other kind byte at every record: that line is refused. */
 static void other_kinds(void) {
-    static const size_t begins[] = {0, 18, 29, 40, 51, 65, 79, 93, 99};
-    for (size_t k = 0; k < sizeof begins / sizeof begins[0]; k++)
+    for (size_t k = 0, begin = 0; k < sizeof sizes / sizeof sizes[0]; begin += sizes[k++])
         for (unsigned kind = 0; kind < 256; kind++) {
             size_t length = lay_records(TRIANGLE);
-            if (records[begins[k]] != kind) {
-                records[begins[k]] = (uint8_t)kind;
+            if (records[begin] != kind) {
+                records[begin] = (uint8_t)kind;
                 write_records(length, FEEDER_FRAMES_LENGTH, FEEDER_BAD_LINE, 1 + k, "", "another kind");
             }
         }
@@ -502,6 +504,7 @@ int main(void) {
     expect(sizeof(struct feeder_answer) == 16, "the answer has 16 bytes");
     expect(sizeof(struct feeder_solved) == 32, "a search's answer has 32 bytes");
     expect(FEEDER_FRAMES_LENGTH == 27429, "room for every text");
+    expect(FEEDER_LONGEST_RECORDS == 13074, "the records of the longest text");
     if (pthread_attr_init(&attributes) != 0 || pthread_attr_setstacksize(&attributes, FEEDER_STACK) != 0
         || pthread_create(&thread, &attributes, run, NULL) != 0 || pthread_join(thread, NULL) != 0) {
         printf("interface: C: no thread\n");

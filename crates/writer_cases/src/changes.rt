@@ -1,6 +1,6 @@
-// What the letter of a case does to the records once they are read: A (65) to P (80) give them a fault, Q (81) and R (82) put records behind the counts that would
-// be refused if they were listed, R with fewer listed than were read, S (83) lists more of each kind, T (84) gives the first of each kind values from the ends of
-// their ranges.
+// What the letter of a case does to the records once they are read: A (65) to P (80) give them a fault (O, an eleventh tie, with method 02 only), Q (81) and R (82) put
+// records behind the counts that would be refused if they were listed, R with fewer listed than were read, S (83) lists more of each kind, T (84) gives the first of
+// each kind values from the ends of their ranges.
 use network::branch::Branch;
 use network::bus::Bus;
 use network::bus::Power;

@@ -21,7 +21,10 @@ use texts::writer::write_text;
 
 const LONGEST_TEXT: usize = 27429;
 
-const MOST_ROOM: usize = LONGEST_TEXT + 80;
+// How much longer the last slice is than the text that was read.
+const LONGER: usize = 80;
+
+const MOST_ROOM: usize = LONGEST_TEXT + LONGER;
 
 // A dot for each byte.
 fn dots() -> [u8; MOST_ROOM]
@@ -114,7 +117,7 @@ fn print_text(name: &[u8], text: &[u8], change: u8) {
     }
     print_answer(network, n, name, text);
     print_answer(network, n + 1, name, text);
-    print_answer(network, n + 80, name, text);
+    print_answer(network, n + LONGER, name, text);
 }
 
 // Prints what comes of the first case, and answers where it ends.
