@@ -21,7 +21,7 @@
 extern "C" {
 #endif
 
-#define FEEDER_VERSION "0.2"
+#define FEEDER_VERSION "0.3"
 
 /* What a text may list, how many iterations its head may ask for, and how many of its switches may be normally open with method 02. */
 #define FEEDER_MAX_BUSES 256
@@ -33,16 +33,36 @@ extern "C" {
 /* Bytes of the longest text that is accepted: the head, and every bus, branch and switch that there is room for, with their line feeds. */
 #define FEEDER_LONGEST_TEXT (37 + FEEDER_MAX_BUSES * 23 + FEEDER_MAX_BRANCHES * 29 + FEEDER_MAX_SWITCHES * 13)
 
+/* Records in bytes, for feeder_write_text: the frames of a text with a byte for two digits and no line feeds, one behind the other. A u16 has two bytes, a
+ * double the eight of its bits, the most significant first.
+ *
+ *     01  buses, branches, switches (u16 each), base_mva (double), method (byte), max_iterations (u16)     the head, once
+ *     02  id (u16), pd in MW (double)                                                                      each bus
+ *     03  from, to (u16 each), r (double), status (byte)                                                   each branch
+ *     04  id, branch position from 0 (u16 each), flags (byte)                                              each switch
+ *
+ * Their text is each record in digits with its line feed. A record has as many bytes as its kind byte says; where the kind is none of the four, or fewer bytes
+ * are left, all that is left is one line. So a wrong record is refused as its line would be. FEEDER_LONGEST_RECORDS make the longest text. */
+#define FEEDER_HEAD_BYTES 18
+#define FEEDER_BUS_BYTES 11
+#define FEEDER_BRANCH_BYTES 14
+#define FEEDER_SWITCH_BYTES 6
+#define FEEDER_LONGEST_RECORDS                                                                                                             \
+    (FEEDER_HEAD_BYTES + FEEDER_MAX_BUSES * FEEDER_BUS_BYTES + FEEDER_MAX_BRANCHES * FEEDER_BRANCH_BYTES                                   \
+     + FEEDER_MAX_SWITCHES * FEEDER_SWITCH_BYTES)
+
 /* Bytes of an 81, an 82 and an 83 line. */
 #define FEEDER_ANSWER_LENGTH 59
 #define FEEDER_OPERATION_LENGTH 9
 #define FEEDER_PAIR_LENGTH 11
 
 /* Bytes of out that are enough for every text and every state: for feeder_operations; for feeder_plan, as a plan has fewer pairs than there are
- * buses; for feeder_answer_text. FEEDER_MAX_SWITCHES are enough for feeder_base_state and feeder_solve. */
+ * buses; for feeder_answer_text; for feeder_write_text (27429, the longest accepted text). FEEDER_MAX_SWITCHES are enough for feeder_base_state and
+ * feeder_solve. */
 #define FEEDER_OPERATIONS_LENGTH (FEEDER_MAX_SWITCHES * FEEDER_OPERATION_LENGTH)
 #define FEEDER_PLAN_LENGTH ((FEEDER_MAX_BUSES - 1) * FEEDER_PAIR_LENGTH)
 #define FEEDER_TEXT_LENGTH (FEEDER_ANSWER_LENGTH + FEEDER_OPERATIONS_LENGTH + FEEDER_PLAN_LENGTH)
+#define FEEDER_FRAMES_LENGTH FEEDER_LONGEST_TEXT
 
 /* Bytes of stack that each call needs, the same for three buses and for 256: measured to 64 bytes on a stack that ends at a page which faults
  * (tests/interface/stack.c, which fails where a call needs more), on what `rt staticlib controller` writes; tested, not proved. FEEDER_STACK is for a thread
@@ -54,11 +74,13 @@ extern "C" {
 #define FEEDER_BASE_STATE_STACK 136320
 #define FEEDER_SOLVE_STACK 169280
 #define FEEDER_OPERATIONS_STACK 120448
+#define FEEDER_WRITE_TEXT_STACK 147904
 #define FEEDER_STACK 245760
 
 /* The refusals, as docs/INTERFACE.md has them. The place of 1 to 9 is the text's line, from 1: the first faulty line is answered, and of its numbers the lowest (2 where it
  * is over 36 characters). The place of 10 and 11 is 0 for the present, first or only state and 1 for the wanted or second one; that of 12 is the
- * switch's id, the first in list order; that of 13 is 0. A faulty text comes before 10, and 10 to 13 come in this order. */
+ * switch's id, the first in list order; that of 13 is 0. A faulty text comes before 10, and 10 to 13 come in this order. Records in bytes are refused as their text
+ * is, so with its line: the head's is 1, the first bus's 2. They are never refused with 1: their lines are ended and have two digits for a byte. */
 enum feeder_refusal {
     FEEDER_BAD_CHARACTERS = 1, /* an unended line, an odd number of digits, another character */
     FEEDER_BAD_LINE = 2,       /* a line of the wrong kind or length, missing or too many; any line over 36 characters */
@@ -123,6 +145,9 @@ struct feeder_solved feeder_solve(const uint8_t *text, size_t text_length, uint8
  * 13. */
 struct feeder_answer feeder_operations(const uint8_t *text, size_t text_length, const uint8_t *from, size_t from_length, const uint8_t *to,
                                        size_t to_length, uint8_t *out, size_t out_length);
+
+/* The text of records in bytes: value is the number of its bytes. In out stands the text, for the other calls. Refusals 2 to 9 and 13. */
+struct feeder_answer feeder_write_text(const uint8_t *records, size_t records_length, uint8_t *out, size_t out_length);
 
 #ifdef __cplusplus
 }

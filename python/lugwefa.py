@@ -10,10 +10,13 @@ A text is a feeder in the frames of docs/INTERFACE.md, as bytes or str. A state 
 
 A state that is handed over is such a mapping, or the bytes of the calls (0 closed, 1 open, in the text's order). What is not acceptable is
 refused by the call itself, and raises Refused with the number and place that docs/INTERFACE.md has. python/example.py shows the rest.
+
+Who has no text has it made: `write_text(records(head, buses, branches, switches))`. examples/estate does so from a database.
 """
 
 import ctypes
 import os
+import struct
 from collections import namedtuple
 from collections.abc import Mapping
 
@@ -27,6 +30,13 @@ Pair = namedtuple('Pair', 'close open')
 Operation = namedtuple('Operation', 'switch stands')
 # What a search answers: its best state, and the fields of the 81 line. Losses are in MW, the reduction in percent of the base's loss.
 Solution = namedtuple('Solution', 'state radial base_loss best_loss reduction iterations converged')
+
+# Records, from which a text is made: the fields of the frames, in their order, under their names. Other sequences of the same values do as well. A status is
+# 1 in service or 0 out of service; normally_open and can_operate are truth values, or 1 and 0.
+Head = namedtuple('Head', 'base_mva method max_iterations')
+Bus = namedtuple('Bus', 'id pd')
+Branch = namedtuple('Branch', 'from_bus to_bus r status')
+Switch = namedtuple('Switch', 'id branch normally_open can_operate')
 
 # document 01's words
 CONDITIONS = {
@@ -62,6 +72,36 @@ class Refused(ValueError):
         if self.number <= 11:
             return 'the wanted state' if self.place else 'the present or only state'
         return f'switch {self.place}' if self.number == 12 else 'place 0'
+
+
+class NoRoom(ValueError):
+    """A value for which its field in the records' bytes has no room: kind ('head', 'bus', 'branch' or 'switch'), position in its list from 0, field, value, and
+    what there is room for."""
+
+    def __init__(self, kind, position, field, value, room):
+        super().__init__(kind, position, field, value, room)
+        self.kind, self.position, self.field, self.value, self.room = kind, position, field, value, room
+
+    def __str__(self):
+        return f'{self.kind} at position {self.position}: {self.field} is {self.value!r}, which is no {self.room}'
+
+
+def records(head, buses, branches, switches):
+    """The records in bytes, for write_text; the head's counts are how many of each are handed over. What has no room in its field raises NoRoom; all
+    else is for the call to judge."""
+    lists = [list(each) for each in (buses, branches, switches)]
+    counts = _packed('head', 0, ('buses', 'branches', 'switches'), 'HHH', map(len, lists))
+    parts = [b'\1', counts, _packed('head', 0, Head._fields, 'dBH', Head(*head))]
+    for (kind, byte, record, codes), each in zip(_KINDS, lists):
+        for position, values in enumerate(each):
+            parts += byte, _packed(kind, position, record._fields, codes, record(*values))
+    return b''.join(parts)
+
+
+def write_text(records):
+    """The text of records in bytes. The place of a refusal is a line of it: the head's is 1, then come the buses, branches and switches in their order."""
+    answer, room = _lent(_library().feeder_write_text, bytes(iter(records)))
+    return _checked(answer, room[:answer.value]).decode()
 
 
 def radiality(text, state):
@@ -115,6 +155,29 @@ def switch_ids(text):
     return list(base_state(text))
 
 
+# How records become bytes.
+
+# The kinds behind the head, each with its kind byte, its record, and the codes that `struct` has for the fields.
+_KINDS = (('bus', b'\2', Bus, 'Hd'), ('branch', b'\3', Branch, 'HHdB'), ('switch', b'\4', Switch, 'HH??'))
+_ROOMS = {'B': 'whole number from 0 to 255', 'H': 'whole number from 0 to 65,535', 'd': 'number', '?': 'truth value, 0 or 1'}
+
+
+def _packed(kind, position, fields, codes, values):
+    packed = b''.join(_field(kind, position, *each) for each in zip(fields, codes, values))
+    # the two truth values of a switch are bits 0 and 1 of one byte
+    return packed[:-2] + bytes([packed[-2] | packed[-1] << 1]) if kind == 'switch' else packed
+
+
+def _field(kind, position, field, code, value):
+    """The most significant byte first. `struct` takes anything for a truth value, and would turn 2 or 'no' into 1."""
+    try:
+        if code != '?' or value in (0, 1):
+            return struct.pack('>' + code, value)
+    except (struct.error, TypeError, OverflowError):
+        pass
+    raise NoRoom(kind, position, field, value, _ROOMS[code])
+
+
 # How a call is made.
 
 class _Answer(ctypes.Structure):
@@ -128,7 +191,7 @@ class _Solved(ctypes.Structure):
 
 # each call with what it answers and how many slices it takes
 _CALLS = {'feeder_radiality': (_Answer, 2), 'feeder_loss': (_Answer, 2), 'feeder_plan': (_Answer, 4), 'feeder_answer_text': (_Answer, 2),
-          'feeder_base_state': (_Answer, 2), 'feeder_solve': (_Solved, 2), 'feeder_operations': (_Answer, 4)}
+          'feeder_base_state': (_Answer, 2), 'feeder_solve': (_Solved, 2), 'feeder_operations': (_Answer, 4), 'feeder_write_text': (_Answer, 2)}
 _loaded = None
 
 
@@ -142,7 +205,9 @@ def _library():
             raise OSError('liblugwefa.so is not there: python/build makes it, or LUGWEFA_LIBRARY names it')
         library = ctypes.CDLL(path)
         for name, (answer, slices) in _CALLS.items():
-            call = getattr(library, name)
+            call = getattr(library, name, None)
+            if call is None:
+                raise OSError(f'{path} has no {name}: python/build makes it anew')
             call.restype, call.argtypes = answer, [ctypes.c_char_p, ctypes.c_size_t] * slices
         _loaded = library
     return _loaded

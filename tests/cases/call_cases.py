@@ -166,6 +166,20 @@ def states_and_plans():
     slice_case('P', 'plan-all-closed', TRIANGLE.text(), 11, refused(11, 0), '', present='00', wanted='10')
 
 
+def written_texts():
+    """The text that was read, and none of records with a fault, whatever the slice."""
+    text = TRIANGLE.text()
+    for name, room in [('exactly-full', 219), ('one-byte-longer', 220), ('ten-bytes-longer', 229)]:
+        slice_case('T', 'text-triangle-' + name, text, room, '%04x' % 219, text)
+    for name, room in [('one-byte-short', 218), ('no-slice', 0)]:
+        slice_case('T', 'text-triangle-' + name, text, room, refused(13, 0), '')
+    slice_case('T', 'text-no-buses', NO_BUSES.text(), 37, '%04x' % 37, NO_BUSES.text())
+    for change, fault in [('I', (3, 1)), ('U', (6, 5)), ('W', (4, 1))]:
+        for room in (0, 218, 219):
+            slice_case('T', 'text-change-%s-%d' % (change, room), text, room, refused(*fault), '', change=change)
+    slice_case('T', 'text-of-no-text', '0G\n', 219, refused(1, 1), '')
+
+
 def largest():
     best('512-switches', LARGEST, 512, 0, 0.0, 0.0, 1, 1, '01' * 256)
     slice_case('B', 'best-512-switches-one-byte-short', LARGEST.text(), 511, refused(13, 0), '')
@@ -174,7 +188,7 @@ def largest():
 
 
 def main():
-    for make in (best_states, moved_bytes, listed_operations, refused_states, network_refusals, states_and_plans, largest):
+    for make in (best_states, moved_bytes, listed_operations, refused_states, network_refusals, states_and_plans, written_texts, largest):
         make()
     names = [name for name, _, _ in cases]
     assert len(names) == len(set(names)), 'a name stands twice'

@@ -224,8 +224,6 @@ def two_faults():
 
 
 def main():
-    for make in (examples, limits, ranges, lines, two_faults):
-        make()
     names = [name for name, _, _ in cases]
     assert len(names) == len(set(names)), 'a name stands twice'
     os.makedirs(ROOT, exist_ok=True)
@@ -238,4 +236,8 @@ def main():
     print('%d cases' % len(cases))
 
 
-main()
+for make in (examples, limits, ranges, lines, two_faults):
+    make()
+# tests/cases/writer_cases.py takes the texts from here
+if __name__ == '__main__':
+    main()

@@ -1,4 +1,4 @@
-"""python/lugwefa.py over the library: the triangle, refusals, states by id, the bytes that no call may touch, and every text of the list that
+"""python/lugwefa.py over the library: the triangle, refusals, states by id, records, the bytes that no call may touch, and every text of the list that
 `replay` has (tests/answers.md). usage: calls.py LIST EXAMPLE"""
 
 import ctypes
@@ -9,7 +9,7 @@ import sys
 from contextlib import redirect_stdout
 
 import lugwefa
-from lugwefa import CLOSED, OPEN, Operation, Pair, Refused
+from lugwefa import CLOSED, OPEN, Branch, Bus, Head, NoRoom, Operation, Pair, Refused, Switch
 
 HEAD = '010003000300023FF0000000000000000064\n'
 BUSES = '0200010000000000000000\n0200023FF0000000000000\n0200034000000000000000\n'
@@ -21,6 +21,8 @@ BASE = {10: CLOSED, 11: OPEN}
 BEST = {10: OPEN, 11: CLOSED}
 ALL_CLOSED = {10: CLOSED, 11: CLOSED}
 ALL_OPEN = {10: OPEN, 11: OPEN}
+RECORDS = (Head(1.0, 0, 100), [Bus(1, 0.0), Bus(2, 1.0), Bus(3, 2.0)],
+           [Branch(1, 2, 0.25, 1), Branch(2, 3, 0.4375, 1), Branch(1, 3, 0.1875, 1)], [Switch(10, 1, False, True), Switch(11, 2, True, True)])
 
 checks = 0
 wrong = 0
@@ -77,6 +79,78 @@ def states_by_id():
     expect(refusal(lugwefa.plan, TRIANGLE, ALL_OPEN, {}), (10, 1), '10 before 11')
 
 
+def in_bytes(text):
+    """A text's records in bytes: a byte for two digits, and no line feeds."""
+    return bytes.fromhex(text.replace('\n', ''))
+
+
+def in_records(text):
+    """The records of an accepted text."""
+    number = lambda digits: int(digits, 16)
+    float_of = lambda digits: struct.unpack('>d', bytes.fromhex(digits))[0]
+    kinds = {'01': [], '02': [], '03': [], '04': []}
+    for line in text.splitlines():
+        kinds[line[:2]].append(line)
+    head = Head(float_of(kinds['01'][0][14:30]), number(kinds['01'][0][30:32]), number(kinds['01'][0][32:]))
+    buses = [Bus(number(line[2:6]), float_of(line[6:])) for line in kinds['02']]
+    branches = [Branch(number(line[2:6]), number(line[6:10]), float_of(line[10:26]), number(line[26:])) for line in kinds['03']]
+    switches = [Switch(number(line[2:6]), number(line[6:10]), line[11] in '13', line[11] in '23') for line in kinds['04']]
+    return head, buses, branches, switches
+
+
+def written_texts():
+    plain = tuple(RECORDS[0]), *(map(tuple, each) for each in RECORDS[1:])
+    whole = (1, 0, 100), [(1, 0), (2, 1), (3, 2)], [(1, 2, 0.25, True), *RECORDS[2][1:]], [[10, 1, 0, 1], [11, 2, 1, 1]]
+    for what, records in (('records', RECORDS), ('tuples in iterators', plain), ('whole numbers and truth values', whole), ('as read', in_records(TRIANGLE))):
+        expect(lugwefa.records(*records), in_bytes(TRIANGLE), f'the bytes of {what}')
+    for records in (in_bytes(TRIANGLE), bytearray(in_bytes(TRIANGLE)), list(in_bytes(TRIANGLE))):
+        expect(lugwefa.write_text(records), TRIANGLE, "the triangle's text")
+    expect(lugwefa.answer_text(lugwefa.write_text(lugwefa.records(*RECORDS))), PRINTED, "the triangle's text, answered")
+    for value, digits in ((-0.0, '8000000000000000'), (5e-324, '0000000000000001'), (-1e6, 'C12E848000000000'), (0.1, '3FB999999999999A')):
+        text = '010001000000003FF0000000000000020000\n02FFFF' + digits + '\n'
+        expect(lugwefa.write_text(lugwefa.records((1.0, 2, 0), [(65535, value)], [], [])), text, f'the bits of {value}')
+    for pattern in ('7FF0000000000001', 'FFF8000000000000', '7FF0000000000000'):
+        value = struct.unpack('>d', bytes.fromhex(pattern))[0]
+        records = lugwefa.records((1.0, 0, 0), [(1, value)], [], [])
+        expect((records[-8:].hex().upper(), refusal(lugwefa.write_text, records)), (pattern, (5, 2)), 'a float that is not finite')
+    for long in (b'\5' * 100000, in_bytes(BUSES) * 3000, in_bytes(HEAD) * 6000):
+        expect(refusal(lugwefa.write_text, long), (2, 2 if long[0] == 1 else 1), 'records without end')
+
+
+def values_without_room():
+    """A value that does not fit is said with its record and field, and never made to fit."""
+    head, buses, branches, switches = RECORDS
+    whole, byte, truth = 'whole number from 0 to 65,535', 'whole number from 0 to 255', 'truth value, 0 or 1'
+    for value in (-1, 65536, 70000, None, '2', 2.0, b'2'):
+        expect(no_room(head, [*buses, (value, 0.0)], branches, switches), ('bus', 3, 'id', value, whole), 'a bus id')
+        expect(no_room(head, buses, [(1, value, 0.25, 1)], switches), ('branch', 0, 'to_bus', value, whole), 'a branch end')
+        expect(no_room(head, buses, branches, [switches[0], (11, value, 1, 1)]), ('switch', 1, 'branch', value, whole), "a switch's branch")
+        expect(no_room((1.0, 0, value), [], [], []), ('head', 0, 'max_iterations', value, whole), 'iterations')
+    for value in (None, 'two', b'', 10 ** 400, 1j):
+        expect(no_room(head, [(1, value)], [], []), ('bus', 0, 'pd', value, 'number'), 'a load')
+        expect(no_room((value, 0, 0), [], [], []), ('head', 0, 'base_mva', value, 'number'), 'a base')
+    for value in (-1, 256, None, '1'):
+        expect(no_room(head, buses, [(1, 2, 0.25, value)], []), ('branch', 0, 'status', value, byte), 'a status')
+    for value in (-1, 2, 3, None, 'no', '1', 0.5):
+        expect(no_room(head, [], [], [(1, 0, value, 1)]), ('switch', 0, 'normally_open', value, truth), 'a flag')
+        expect(no_room(head, [], [], [(1, 0, 1, value)]), ('switch', 0, 'can_operate', value, truth), 'a flag')
+    expect(no_room(head, [(1, 0.0)] * 65536, [], []), ('head', 0, 'buses', 65536, whole), 'a count')
+    expect(str(NoRoom('bus', 3, 'id', 70000, whole)), 'bus at position 3: id is 70000, which is no whole number from 0 to 65,535', 'words')
+    # what fits is for the call to judge
+    for right, records in (((4, 1), (head, [(0, 0.0)] * 257, [], [])), ((3, 1), ((1.0, 255, 0), [], [], [])), ((3, 5), (head, buses, [(1, 2, 0.25, 255)], [])),
+                           ((6, 2), (head, [], [(0, 65535, 0.0, 1)], [])), ((7, 3), (head, [(9, 0.0)] * 2, [], []))):
+        expect(refusal(lugwefa.write_text, lugwefa.records(*records)), right, 'records that are refused')
+
+
+def no_room(*records):
+    """The fields of NoRoom, None where there is room."""
+    try:
+        lugwefa.records(*records)
+    except NoRoom as error:
+        return error.kind, error.position, error.field, error.value, error.room
+    return None
+
+
 def refusals():
     bad = HEAD + BUSES + BRANCHES
     texts = {
@@ -92,6 +166,8 @@ def refusals():
                  + ''.join(f'04{k + 1:04X}{k:04X}03\n' for k in range(11)),
     }
     for right, text in texts.items():
+        if right[0] > 1:
+            expect(refusal(lugwefa.write_text, in_bytes(text)), right, f'records that are refused {right[0]}')
         for ask in (lugwefa.answer_text, lugwefa.base_state, lugwefa.solve, lugwefa.switch_ids):
             expect(refusal(ask, text), right, f'a text that is refused {right[0]}')
         for ask in (lugwefa.radiality, lugwefa.loss):
@@ -113,7 +189,8 @@ def tails():
     library, text = lugwefa._library(), TRIANGLE.encode()
     base, best = b'\0\1', b'\1\0'
     lent = (('feeder_plan', (text, base, best), b'83000B000A\n'), ('feeder_operations', (text, base, best), b'82000A00\n82000B01\n'),
-            ('feeder_answer_text', (text,), PRINTED.encode()), ('feeder_base_state', (text,), base), ('feeder_solve', (text,), best))
+            ('feeder_answer_text', (text,), PRINTED.encode()), ('feeder_base_state', (text,), base), ('feeder_solve', (text,), best),
+            ('feeder_write_text', (in_bytes(TRIANGLE),), text))
     for name, slices, written in lent:
         for room in (len(written) + 8, len(written), len(written) - 1, 0):
             fits = room >= len(written)
@@ -137,8 +214,8 @@ def entries(path):
 
 
 def every_text(path):
-    """The printed lines of each text, made again from what the calls answer."""
-    texts = 0
+    """The printed lines of each text, made again from what the calls answer; and an accepted text itself, made again from its records."""
+    texts = written = 0
     for text, printed in entries(path):
         texts += 1
         what = f'entry {texts}'
@@ -146,6 +223,8 @@ def every_text(path):
             expect(refusal(lugwefa.answer_text, text), (int(printed[2:4], 16), int(printed[4:8], 16)), what)
             continue
         expect(lugwefa.answer_text(text), printed, what)
+        written += 1
+        expect(lugwefa.write_text(lugwefa.records(*in_records(text.decode()))), text.decode(), what)
         base, found = lugwefa.base_state(text), lugwefa.solve(text)
         lines = [f'81{found.radial:02X}{bits(found.base_loss)}{bits(found.best_loss)}{bits(found.reduction)}{found.iterations:04X}{found.converged:02X}']
         lines += [f'82{switch:04X}{stands == CLOSED:02X}' for switch, stands in lugwefa.operations(text, base, found.state)]
@@ -155,7 +234,7 @@ def every_text(path):
             expect(refusal(lugwefa.plan, text, base, found.state), (11, 0), what)
         expect('\n'.join(lines) + '\n', printed, what)
         expect((lugwefa.loss(text, base), lugwefa.radiality(text, found.state)), (found.base_loss, found.radial), what)
-    return texts
+    return texts, written
 
 
 def example(path):
@@ -168,9 +247,11 @@ def example(path):
 
 triangle()
 states_by_id()
+written_texts()
+values_without_room()
 refusals()
 tails()
 example(sys.argv[2])
-count = every_text(sys.argv[1])
-print(f'interface: Python: {checks} checks, {wrong} wrong ({count} texts of the list)')
+texts, written = every_text(sys.argv[1])
+print(f'interface: Python: {checks} checks, {wrong} wrong ({texts} texts of the list, {written} of them accepted and written back)')
 sys.exit(wrong > 0)

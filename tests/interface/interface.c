@@ -7,9 +7,10 @@
 
 #define HEAD_OF(method_and_iterations) "010003000300023FF0000000000000" method_and_iterations "\n"
 #define HEAD HEAD_OF("000064")
-#define RECORDS                                                                                                        \
-    "0200010000000000000000\n0200023FF0000000000000\n0200034000000000000000\n"                                         \
-    "03000100023FD000000000000001\n03000200033FDC00000000000001\n03000100033FC800000000000001\n"
+#define BUS_1 "0200010000000000000000\n"
+#define BUS_LINES BUS_1 "0200023FF0000000000000\n0200034000000000000000\n"
+#define BRANCH_LINES "03000100023FD000000000000001\n03000200033FDC00000000000001\n03000100033FC800000000000001\n"
+#define RECORDS BUS_LINES BRANCH_LINES
 #define SWITCHES "04000A000102\n04000B000203\n"
 #define TRIANGLE HEAD RECORDS SWITCHES
 #define LOCKED HEAD RECORDS "04000A000100\n04000B000203\n"
@@ -22,7 +23,7 @@ static int checks = 0;
 static int failures = 0;
 
 /* A lent slice between guard bytes, and what must stand there. */
-static uint8_t bytes[MARGIN + FEEDER_TEXT_LENGTH + MARGIN];
+static uint8_t bytes[MARGIN + FEEDER_FRAMES_LENGTH + MARGIN];
 static uint8_t right[sizeof bytes];
 
 static void expect(int good, const char *what) {
@@ -233,6 +234,7 @@ static void nulls(void) {
     expect_answer(feeder_base_state(NULL, 0, NULL, 0), 2, 1, 0, "base, a null text");
     expect_solved(feeder_solve(NULL, 0, NULL, 0), not_solved(2, 1), "search, a null text");
     expect_answer(feeder_operations(NULL, 0, NULL, 0, NULL, 0, NULL, 0), 2, 1, 0, "operations, a null text");
+    expect_answer(feeder_write_text(NULL, 0, NULL, 0), 2, 1, 0, "writing, null records");
     expect_answer(feeder_radiality(text, length, NULL, 0), 0, 0, 1, "radiality, a null state");
     expect_answer(feeder_loss(text, length, NULL, 0), 0, 0, 0, "loss, a null state");
     expect_answer(feeder_plan(text, length, NULL, 0, NULL, 0, NULL, 0), 0, 0, 0, "plan, null states and a null slice");
@@ -247,6 +249,146 @@ static void nulls(void) {
 
 #define ONE "3FF0000000000000"
 #define ZERO "0000000000000000"
+
+/* Records in bytes, more than any text has. */
+enum { MANY = 100000 };
+static uint8_t records[MANY];
+
+/* A byte for two digits, without the line feeds: how many. */
+static size_t lay_records(const char *text) {
+    size_t length = 0;
+    for (; *text != '\0'; text++)
+        if (*text != '\n') {
+            unsigned byte;
+            sscanf(text++, "%2x", &byte);
+            records[length++] = (uint8_t)byte;
+        }
+    return length;
+}
+
+/* The text of so many of the records into the middle of guarded bytes. */
+static void write_records(size_t length, size_t room, unsigned number, unsigned place, const char *written, const char *what) {
+    lay_slice(written, strlen(written));
+    expect_answer(feeder_write_text(records, length, bytes + MARGIN, room), number, place, strlen(written), what);
+    expect(memcmp(bytes, right, sizeof bytes) == 0, what);
+}
+
+/* A text out of its own records: accepted, it comes back; else its refusal, with room for every text and with none. */
+static void comes_back(const char *text, const char *what) {
+    write_records(lay_records(text), FEEDER_FRAMES_LENGTH, 0, 0, text, what);
+}
+
+static void is_refused(const char *text, unsigned number, unsigned place, const char *what) {
+    size_t length = lay_records(text);
+    write_records(length, FEEDER_FRAMES_LENGTH, number, place, "", what);
+    write_records(length, 0, number, place, "", what);
+}
+
+static void written_texts(void) {
+    size_t length = lay_records(TRIANGLE), text_length = strlen(TRIANGLE);
+    struct feeder_answer answer = feeder_write_text(records, length, bytes, sizeof bytes);
+    expect(length == FEEDER_HEAD_BYTES + 3 * FEEDER_BUS_BYTES + 3 * FEEDER_BRANCH_BYTES + 2 * FEEDER_SWITCH_BYTES, "the triangle's records");
+    expect_answer(answer, 0, 0, text_length, "the triangle's text");
+    expect(memcmp(bytes, TRIANGLE, text_length) == 0, "the triangle's text");
+    expect_answer(feeder_answer_text(bytes, answer.value, right, sizeof right), 0, 0, strlen(PRINTED), "the triangle's text, answered");
+    expect(memcmp(right, PRINTED, strlen(PRINTED)) == 0, "the triangle's text, answered");
+    write_records(length, FEEDER_FRAMES_LENGTH, 0, 0, TRIANGLE, "the triangle's text, the rest of the slice kept");
+    write_records(length, text_length, 0, 0, TRIANGLE, "the triangle's text, an exactly full slice");
+    write_records(length, text_length - 1, FEEDER_NO_ROOM, 0, "", "the triangle's text, one byte short");
+    write_records(length, 0, FEEDER_NO_ROOM, 0, "", "the triangle's text, no room");
+    expect_answer(feeder_write_text(records, length, NULL, 0), FEEDER_NO_ROOM, 0, 0, "the triangle's text, a null slice");
+    comes_back(NO_BUSES, "no buses");
+    comes_back("01000200000000" ONE "0203E8\n0200008000000000000000\n02FFFF0000000000000001\n", "ids 0 and FFFF, -0.0, a subnormal");
+}
+
+#define HEAD_WITH(counts, base) "01" counts base "000064\n"
+#define OWN_LOOP "03000100013FD000000000000001\n"
+
+/* Eleven branches from a bus to itself, each with a tie. */
+static const char *eleven_ties(unsigned method) {
+    static char text[1024];
+    char *at = text + sprintf(text, "010001000B000B" ONE "%02X0000\n" BUS_1, method);
+    for (int k = 0; k < 11; k++)
+        at += sprintf(at, OWN_LOOP);
+    for (int k = 0; k < 11; k++)
+        at += sprintf(at, "04%04X%04X03\n", k, k);
+    return text;
+}
+
+/* Each refusal, with the line on which the record stands. */
+static void refused_records(void) {
+    is_refused("", FEEDER_BAD_LINE, 1, "no record");
+    is_refused(RECORDS SWITCHES, FEEDER_BAD_LINE, 1, "no head");
+    is_refused(HEAD TRIANGLE, FEEDER_BAD_LINE, 2, "a second head");
+    is_refused(HEAD BRANCH_LINES BUS_LINES SWITCHES, FEEDER_BAD_LINE, 2, "branches before buses");
+    is_refused(HEAD RECORDS "04000A000102\n", FEEDER_BAD_LINE, 9, "a switch too few");
+    is_refused(TRIANGLE "04000C000002\n", FEEDER_BAD_LINE, 10, "a switch too many");
+    is_refused(TRIANGLE "05000A\n", FEEDER_BAD_LINE, 10, "another record too many");
+    is_refused(HEAD_OF("030064") RECORDS SWITCHES, FEEDER_NO_MEANING, 1, "method 03");
+    is_refused(HEAD_OF("0003E9") RECORDS SWITCHES, FEEDER_NO_MEANING, 1, "1,001 iterations");
+    is_refused(HEAD BUS_LINES "03000100023FD000000000000002\n", FEEDER_NO_MEANING, 5, "status 02");
+    is_refused(HEAD RECORDS "04000A000104\n", FEEDER_NO_MEANING, 8, "flags 04");
+    is_refused(HEAD_WITH("010100000000", ONE), FEEDER_OVER_LIMIT, 1, "257 buses");
+    is_refused(HEAD_WITH("000002010000", ONE), FEEDER_OVER_LIMIT, 1, "513 branches");
+    is_refused(HEAD_WITH("000000000201", ONE), FEEDER_OVER_LIMIT, 1, "513 switches");
+    is_refused(HEAD_WITH("000000000000", ZERO), FEEDER_OUT_OF_RANGE, 1, "base 0");
+    is_refused(HEAD BUS_1 "0200027FF8000000000000\n", FEEDER_OUT_OF_RANGE, 3, "a load that is no number");
+    is_refused(HEAD BUS_1 "020002412E848000000001\n", FEEDER_OUT_OF_RANGE, 3, "a load over a million");
+    is_refused(HEAD BUS_LINES "0300010002BFD000000000000001\n", FEEDER_OUT_OF_RANGE, 5, "r below 0");
+    is_refused(HEAD BUS_LINES "03000100043FD000000000000001\n", FEEDER_NOT_LISTED, 5, "an end that is not listed");
+    is_refused(HEAD RECORDS "04000A000302\n", FEEDER_NOT_LISTED, 8, "a switch on no branch");
+    is_refused(HEAD BUS_1 BUS_1, FEEDER_ID_TWICE, 3, "a bus id twice");
+    is_refused(HEAD RECORDS "04000A000102\n04000A000203\n", FEEDER_ID_TWICE, 9, "a switch id twice");
+    is_refused(HEAD RECORDS "04000A000102\n04000B000103\n", FEEDER_SECOND_SWITCH, 9, "a second switch on a branch");
+    is_refused(eleven_ties(2), FEEDER_TOO_MANY_TIES, 24, "an eleventh tie by exhaustion");
+    comes_back(eleven_ties(1), "eleven ties by tabu");
+}
+
+/* How many bytes each of the triangle's records has. */
+static const size_t sizes[] = {FEEDER_HEAD_BYTES, FEEDER_BUS_BYTES, FEEDER_BUS_BYTES, FEEDER_BUS_BYTES, FEEDER_BRANCH_BYTES,
+                               FEEDER_BRANCH_BYTES, FEEDER_BRANCH_BYTES, FEEDER_SWITCH_BYTES, FEEDER_SWITCH_BYTES};
+
+/* The triangle's records cut off at every length. The lines that are whole are as they must be, so the fault is behind them: a part of a record is a line of another length, and
+ * behind a whole one a line is missing. */
+static void cut_off(void) {
+    size_t whole = 0, end = sizes[0], length = lay_records(TRIANGLE);
+    for (size_t n = 0; n < length; n++) {
+        if (n == end)
+            end += sizes[++whole];
+        write_records(n, FEEDER_FRAMES_LENGTH, FEEDER_BAD_LINE, 1 + whole, "", "the triangle's records cut off");
+    }
+}
+
+/* Every other kind byte at every record: that line is refused. */
+static void other_kinds(void) {
+    for (size_t k = 0, begin = 0; k < sizeof sizes / sizeof sizes[0]; begin += sizes[k++])
+        for (unsigned kind = 0; kind < 256; kind++) {
+            size_t length = lay_records(TRIANGLE);
+            if (records[begin] != kind) {
+                records[begin] = (uint8_t)kind;
+                write_records(length, FEEDER_FRAMES_LENGTH, FEEDER_BAD_LINE, 1 + k, "", "another kind");
+            }
+        }
+}
+
+/* Records without end: the same bytes behind those of a text. */
+static void endless(const char *text, const char *record, unsigned place, const char *what) {
+    static uint8_t one[FEEDER_HEAD_BYTES];
+    size_t size = lay_records(record), begin;
+    memcpy(one, records, size);
+    begin = lay_records(text);
+    for (size_t k = begin; k < MANY; k++)
+        records[k] = one[(k - begin) % size];
+    write_records(MANY, FEEDER_FRAMES_LENGTH, FEEDER_BAD_LINE, place, "", what);
+}
+
+static void endless_records(void) {
+    static const char *const all[] = {NO_BUSES, BUS_1, OWN_LOOP, "04000A000102\n", "05\n", "FF\n", "00\n"};
+    for (size_t k = 0; k < sizeof all / sizeof all[0]; k++) {
+        endless("", all[k], k == 0 ? 2 : 1, "records without end");
+        endless(TRIANGLE, all[k], 10, "records without end behind the triangle's");
+    }
+}
 
 /* The largest feeder: buses 1 to 256 in a row, 1 MW at the last. Branches 0 to 254 are the row, 255 to 509 lie beside them and lose nothing, 510
  * and 511 lie beside branch 0. The switch on branch k has the id 1000 + k. */
@@ -291,6 +433,12 @@ static void largest_feeder(void) {
     }
     make_largest(0, 1);
     expect(strlen(largest) == sizeof largest - 1, "the largest text has as many bytes as the header says");
+    expect(lay_records(largest) == FEEDER_LONGEST_RECORDS, "the largest text's records have as many bytes as the header says");
+    write_records(FEEDER_LONGEST_RECORDS, FEEDER_FRAMES_LENGTH, 0, 0, largest, "the largest text, an exactly full slice");
+    write_records(FEEDER_LONGEST_RECORDS, FEEDER_FRAMES_LENGTH - 1, FEEDER_NO_ROOM, 0, "", "the largest text, one byte short");
+    write_records(FEEDER_LONGEST_RECORDS + 1, FEEDER_FRAMES_LENGTH, FEEDER_BAD_LINE, 1282, "", "the largest text's records and a byte");
+    write_records(FEEDER_LONGEST_RECORDS - 1, FEEDER_FRAMES_LENGTH, FEEDER_BAD_LINE, 1281, "", "the largest text's records but a byte");
+    endless(largest, NO_BUSES, 1282, "records without end behind the largest text's");
     expect_answer(radiality(largest, row, BRANCHES), 0, 0, 1, "the row is radial");
     expect_answer(radiality(largest, beside, BRANCHES), 0, 0, 1, "what lies beside is radial");
     expect_answer(loss(largest, row, BRANCHES), 0, 0, bits(255.0), "the row's loss");
@@ -341,6 +489,11 @@ static void *run(void *unused) {
     searches();
     operation_lists();
     nulls();
+    written_texts();
+    refused_records();
+    cut_off();
+    other_kinds();
+    endless_records();
     largest_feeder();
     return NULL;
 }
@@ -350,6 +503,8 @@ int main(void) {
     pthread_t thread;
     expect(sizeof(struct feeder_answer) == 16, "the answer has 16 bytes");
     expect(sizeof(struct feeder_solved) == 32, "a search's answer has 32 bytes");
+    expect(FEEDER_FRAMES_LENGTH == 27429, "room for every text");
+    expect(FEEDER_LONGEST_RECORDS == 13074, "the records of the longest text");
     if (pthread_attr_init(&attributes) != 0 || pthread_attr_setstacksize(&attributes, FEEDER_STACK) != 0
         || pthread_create(&thread, &attributes, run, NULL) != 0 || pthread_join(thread, NULL) != 0) {
         printf("interface: C: no thread\n");

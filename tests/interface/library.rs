@@ -61,6 +61,7 @@ extern "C" {
         out: *mut u8,
         out_length: usize,
     ) -> Answer;
+    fn feeder_write_text(records: *const u8, records_length: usize, out: *mut u8, out_length: usize) -> Answer;
 }
 
 // Safe: slices are good for their lengths, a `&mut` one overlaps no other, and the calls ask for nothing else.
@@ -104,4 +105,8 @@ pub fn operations(text: &[u8], from: &[u8], to: &[u8], out: &mut [u8]) -> Answer
     unsafe {
         feeder_operations(text.as_ptr(), text.len(), from.as_ptr(), from.len(), to.as_ptr(), to.len(), out.as_mut_ptr(), out.len())
     }
+}
+
+pub fn write_text(records: &[u8], out: &mut [u8]) -> Answer {
+    unsafe { feeder_write_text(records.as_ptr(), records.len(), out.as_mut_ptr(), out.len()) }
 }

@@ -1,5 +1,5 @@
-//! The calls of include/feeder.h from Rust, on seeded feeders of every shape, damaged texts, and states that are radial, not radial and
-//! faulty: each answer and each byte of a lent slice against tests/oracle's independent reckoning of document 01.
+//! The calls of include/feeder.h from Rust, on seeded feeders of every shape, damaged texts and records, and states that are radial, not
+//! radial and faulty: each answer and each byte of a lent slice against tests/oracle's independent reckoning of document 01.
 
 #![allow(dead_code)]
 
@@ -14,6 +14,7 @@ mod library;
 mod random;
 #[path = "../oracle/src/reckoning/mod.rs"]
 mod reckoning;
+mod records;
 #[path = "../oracle/src/shapes.rs"]
 mod shapes;
 #[path = "../oracle/src/states.rs"]
@@ -32,11 +33,13 @@ use std::fmt::Debug;
 use std::process::ExitCode;
 
 const CASES: usize = 4000;
+const RECORDS_CASES: usize = 6000;
 const ANSWER_LENGTH: usize = 59;
 const GUARD: u8 = 0xAA;
 const MARGIN: usize = 16;
 const MAX_BUSES: usize = 256;
 const MAX_SWITCHES: usize = 512;
+const FRAMES_LENGTH: usize = 27429;
 const PAIR_LENGTH: usize = 11;
 const TEXT_LENGTH: usize = ANSWER_LENGTH + MAX_SWITCHES * OPERATION_LENGTH + (MAX_BUSES - 1) * PAIR_LENGTH;
 
@@ -45,7 +48,8 @@ const OF_A_TEXT: [u8; 10] = [1, 2, 3, 4, 5, 6, 7, 8, 9, 13];
 const OF_A_STATE: [u8; 10] = [1, 2, 3, 4, 5, 6, 7, 8, 9, 10];
 const OF_TWO_STATES: [u8; 11] = [1, 2, 3, 4, 5, 6, 7, 8, 9, 10, 13];
 const OF_A_PLAN: [u8; 13] = [1, 2, 3, 4, 5, 6, 7, 8, 9, 10, 11, 12, 13];
-const CALLS: [(&str, &[u8]); 7] = [
+const OF_RECORDS: [u8; 9] = [2, 3, 4, 5, 6, 7, 8, 9, 13];
+const CALLS: [(&str, &[u8]); 8] = [
     ("radiality", &OF_A_STATE),
     ("loss", &OF_A_STATE),
     ("plan", &OF_A_PLAN),
@@ -53,6 +57,7 @@ const CALLS: [(&str, &[u8]); 7] = [
     ("base", &OF_A_TEXT),
     ("solve", &OF_A_TEXT),
     ("operations", &OF_TWO_STATES),
+    ("write", &OF_RECORDS),
 ];
 
 #[derive(Default)]
@@ -77,7 +82,11 @@ impl Checks {
 
 fn main() -> ExitCode {
     let mut checks = Checks::default();
-    let good = timed_feeders(&mut checks) && (0..CASES).all(|number| any_case(&mut checks, number));
+    let good = timed_feeders(&mut checks)
+        && (0..CASES).all(|number| any_case(&mut checks, number))
+        && written_feeders(&mut checks)
+        && every_byte(&mut checks)
+        && (0..RECORDS_CASES).all(|number| any_records(&mut checks, number));
     let all_met = checks.all_met();
     if !all_met {
         println!("interface: Rust: a refusal was never met");
@@ -169,6 +178,56 @@ fn answers(network: &Network) -> Answers {
         printed += &lines(network, &pairs);
     }
     Answers { base, best: answer.best, solved, printed: printed.into_bytes() }
+}
+
+/// The timed feeders' records: their text, cut off at every length (the largest at some), and behind them records without end.
+fn written_feeders(checks: &mut Checks) -> bool {
+    feeders::all().iter().all(|timed| {
+        let bytes = records::of_feeder(&timed.feeder);
+        let step = if bytes.len() < 2000 { 1 } else { 97 };
+        records::text_of(&bytes) == timed.feeder.text()
+            && write_answers(checks, &bytes)
+            && (0..bytes.len()).step_by(step).all(|length| write_answer(checks, &bytes[..length], FRAMES_LENGTH))
+            && records::endless(&bytes).chain(records::endless(&[])).all(|bytes| write_answer(checks, &bytes, FRAMES_LENGTH))
+    })
+}
+
+/// Each byte of the triangle's records with each value.
+fn every_byte(checks: &mut Checks) -> bool {
+    let bytes = records::of_feeder(&feeder::triangle());
+    (0..bytes.len() * 256).all(|k| {
+        let mut other = bytes.clone();
+        other[k / 256] = (k % 256) as u8;
+        write_answer(checks, &other, FRAMES_LENGTH)
+    })
+}
+
+/// Good records, those of a damaged text, or damaged ones.
+fn any_records(checks: &mut Checks, number: usize) -> bool {
+    let random = &mut Random::new(1, "records", number);
+    let feeder = (shapes::SHAPES[random.below(shapes::SHAPES.len())].make)(random);
+    let good = records::of_feeder(&feeder);
+    match random.below(3) {
+        0 => records::text_of(&good) == feeder.text() && write_answers(checks, &good),
+        1 => write_answers(checks, &records::of_digits(&damage::damaged(random))),
+        _ => write_answers(checks, &records::damaged(random, good)),
+    }
+}
+
+/// With room for every text, in a slice that is exactly full, with one byte less, and with none.
+fn write_answers(checks: &mut Checks, bytes: &[u8]) -> bool {
+    let length = records::text_of(bytes).len().min(FRAMES_LENGTH);
+    rooms(length, FRAMES_LENGTH).chain([0]).all(|room| write_answer(checks, bytes, room))
+}
+
+/// The text of the bytes, or its refusal, with which the calls on a text refuse it.
+fn write_answer(checks: &mut Checks, bytes: &[u8], room: usize) -> bool {
+    let text = records::text_of(bytes);
+    let read = reader::read(&text);
+    let switches = read.as_ref().map(|network| network.switches.len() as u64).map_err(|refusal| *refusal);
+    let written = in_room(room, read.map(|_| (text.len() as u64, text.clone())));
+    compare(checks, "base", &text, switches, numbers, library::base_state(&text, &mut [0; MAX_SWITCHES]))
+        && lent(checks, "write", &text, room, written, numbers, |out| library::write_text(bytes, out))
 }
 
 fn state_answers(checks: &mut Checks, text: &[u8], state: &[u8]) -> bool {

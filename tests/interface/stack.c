@@ -12,7 +12,7 @@
 #include <ucontext.h>
 #include <unistd.h>
 
-enum { FINENESS = 64, PAGE = 4096, ROOM = 1 << 20 };
+enum { FINENESS = 64, PAGE = 4096, ROOM = 1 << 20, LONGEST = 1 << 16 };
 
 /* An entry of the list. */
 struct entry {
@@ -31,10 +31,10 @@ static void expect(int good, const char *name, const char *what) {
     }
 }
 
-/* What the calls are asked about: a text, its base, and what its search finds. */
+/* What the calls are asked about: a text, its records in bytes, its base, and what its search finds. */
 static const uint8_t *text;
-static size_t text_length, switches;
-static uint8_t present[FEEDER_MAX_SWITCHES], wanted[FEEDER_MAX_SWITCHES], out[FEEDER_TEXT_LENGTH];
+static size_t text_length, records_length, switches;
+static uint8_t records[LONGEST], present[FEEDER_MAX_SWITCHES], wanted[FEEDER_MAX_SWITCHES], out[FEEDER_FRAMES_LENGTH];
 static volatile uint8_t number;
 
 static void ask_radiality(void) { number = feeder_radiality(text, text_length, present, switches).number; }
@@ -46,6 +46,7 @@ static void ask_solve(void) { number = feeder_solve(text, text_length, out, size
 static void ask_operations(void) {
     number = feeder_operations(text, text_length, present, switches, wanted, switches, out, sizeof out).number;
 }
+static void ask_write_text(void) { number = feeder_write_text(records, records_length, out, sizeof out).number; }
 
 struct call {
     const char *name;
@@ -61,6 +62,7 @@ static const struct call calls[] = {
     {"FEEDER_BASE_STATE_STACK", ask_base_state, FEEDER_BASE_STATE_STACK},
     {"FEEDER_SOLVE_STACK", ask_solve, FEEDER_SOLVE_STACK},
     {"FEEDER_OPERATIONS_STACK", ask_operations, FEEDER_OPERATIONS_STACK},
+    {"FEEDER_WRITE_TEXT_STACK", ask_write_text, FEEDER_WRITE_TEXT_STACK},
 };
 enum { CALLS = sizeof calls / sizeof calls[0] };
 
@@ -70,11 +72,25 @@ static unsigned long digits_at(const char *at, int count) {
     return strtoul(digits, NULL, 16);
 }
 
+/* A byte for every two characters, but for line feeds; of a refused text any bytes will do. */
+static void lay_records(const struct entry *e) {
+    const char *at = e->text, *end = e->text + e->text_length;
+    records_length = 0;
+    while (at + 1 < end && records_length < LONGEST)
+        if (*at == '\n')
+            at++;
+        else {
+            records[records_length++] = (uint8_t)digits_at(at, 2);
+            at += 2;
+        }
+}
+
 /* The base from the text's 04 lines, and what differs from it from the printed 82 lines. A refused text has no states. */
 static void lay(const struct entry *e) {
     static unsigned long ids[FEEDER_MAX_SWITCHES];
     text = (const uint8_t *)e->text;
     text_length = e->text_length;
+    lay_records(e);
     switches = 0;
     if (strncmp(e->printed, "81", 2) != 0)
         return;

@@ -17,12 +17,13 @@ use original::network::reconfiguration::{verify_radiality, NetworkConfiguration}
 use std::hint::black_box;
 use std::time::{Duration, Instant};
 
-/// Kinds of calls of `timing_rounds`, crates/timing/src/rounds.rt. Searches have `timing_searches`.
+/// Kinds of calls of `timing_rounds`, crates/timing/src/rounds.rt. Searches have `timing_searches`; writing a text has `timing_texts`, crates/text_timing.
 const READING: u8 = 0;
 const RADIALITY: u8 = 1;
 const LOSS: u8 = 2;
 const PLAN: u8 = 3;
 const SEARCH: u8 = 4;
+const WRITING: u8 = 5;
 
 const SAMPLES: usize = 15;
 const SAMPLE: Duration = Duration::from_millis(40);
@@ -39,14 +40,21 @@ extern "C" {
         times: u64,
     ) -> u64;
     fn timing_searches(text: *const u8, text_length: usize, times: u64) -> u64;
+    fn timing_texts(text: *const u8, text_length: usize, out: *mut u8, out_length: usize, times: u64) -> u64;
 }
 
 /// So many rounds of a call, the two states in turn, and the sum of what they answer.
 fn rattle(kind: u8, text: &[u8], a: &[u8], b: &[u8], times: u64) -> u64 {
-    if kind == SEARCH {
-        return unsafe { timing_searches(text.as_ptr(), text.len(), times) };
+    match kind {
+        SEARCH => unsafe { timing_searches(text.as_ptr(), text.len(), times) },
+        WRITING => {
+            let mut out = vec![0; text.len()];
+            let sum = unsafe { timing_texts(text.as_ptr(), text.len(), out.as_mut_ptr(), out.len(), times) };
+            assert_eq!(out, text, "the text written is not the one read");
+            sum
+        }
+        _ => unsafe { timing_rounds(kind, text.as_ptr(), text.len(), a.as_ptr(), a.len(), b.as_ptr(), b.len(), times) },
     }
-    unsafe { timing_rounds(kind, text.as_ptr(), text.len(), a.as_ptr(), a.len(), b.as_ptr(), b.len(), times) }
 }
 
 /// The Rust's side of a row, its configurations made before the time is taken.
@@ -92,6 +100,9 @@ fn main() {
         row("reading a text", timed, None, READING);
     }
     for timed in &timed {
+        row("writing a text", timed, None, WRITING);
+    }
+    for timed in &timed {
         row("radiality of a state", timed, Some(Rust::radiality), RADIALITY);
     }
     for timed in &timed {
@@ -108,7 +119,7 @@ fn main() {
     }
 }
 
-/// A line of the table. The Rust has no reader and no planner.
+/// A line of the table. The Rust has no reader, no writer and no planner.
 fn row(call: &str, timed: &Timed, rust: Option<fn(&Rust, u64) -> u64>, kind: u8) {
     let text = timed.feeder.text();
     let side = Rust::new(timed, &text);

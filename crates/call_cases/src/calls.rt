@@ -1,7 +1,7 @@
 // The cases. A case is a line 'LENGTH NAME', a frame text, a line feed, and three lines: the letters CALL and CHANGE with a blank and PRESENT, then
 // WANTED, then SLICE. CALL is S (83) for radiality and loss of PRESENT, P (80) for the plan from PRESENT to WANTED, O (79) for the operations, B (66)
-// for the best state. CHANGE is I (73) for 1,001 iterations, U (85) for only two buses, W (87) for 513 switches in the records that O and B get, or a
-// hyphen for none. PRESENT and WANTED have a digit for each byte of the states, SLICE has a dot for each byte of the lent slice.
+// for the best state, T (84) for the text. CHANGE is I (73) for 1,001 iterations, U (85) for only two buses, W (87) for 513 switches in the records that O, B and T
+// get, or a hyphen for none. PRESENT and WANTED have a digit for each byte of the states, SLICE has a dot for each byte of the lent slice.
 ghost use mathlib.Core.Path.{_≡_};
 ghost use Prim.Native.Nat.{_≤_};
 ghost use lib.ListN.{length};
@@ -27,12 +27,14 @@ use operations::operations::OperationsAnswer;
 use operations::operations::compute_switch_operations;
 use reconfiguration::solve::solve;
 use searches::answer::SolveAnswer;
+use texts::writer::WriteAnswer;
+use texts::writer::write_text;
 
-// A dot for each byte.
-fn dots() -> [u8; 8192]
-    ensures { λ r. ⌜ 8192 ≡ length r ⌝ }
+// A dot for each byte. The longest text has 27,429.
+fn dots() -> [u8; 28672]
+    ensures { λ r. ⌜ 28672 ≡ length r ⌝ }
 {
-    [46; 8192]
+    [46; 28672]
 }
 
 fn print_state(text: &[u8], state: &[u8]) {
@@ -42,7 +44,7 @@ fn print_state(text: &[u8], state: &[u8]) {
 }
 
 fn print_plan(text: &[u8], present: &[u8], wanted: &[u8], room: usize)
-    requires { ⌜ room ≤ 8192 ⌝ }
+    requires { ⌜ room ≤ 28672 ⌝ }
 {
     let mut out = dots();
     print_numbers(feeder_plan(text, present, wanted, &mut out[0..room]), 4);
@@ -50,7 +52,7 @@ fn print_plan(text: &[u8], present: &[u8], wanted: &[u8], room: usize)
 }
 
 fn print_operations(network: PowerNetwork, from: &[u8], to: &[u8], room: usize)
-    requires { ⌜ room ≤ 8192 ⌝ }
+    requires { ⌜ room ≤ 28672 ⌝ }
 {
     let mut out = dots();
     match compute_switch_operations(network, from, to, &mut out[0..room]) {
@@ -61,12 +63,23 @@ fn print_operations(network: PowerNetwork, from: &[u8], to: &[u8], room: usize)
 }
 
 fn print_best(network: PowerNetwork, room: usize)
-    requires { ⌜ room ≤ 8192 ⌝ }
+    requires { ⌜ room ≤ 28672 ⌝ }
 {
     let mut out = dots();
     match solve(network, &mut out[0..room]) {
         SolveAnswer::Solved(result) => print_result(result),
         SolveAnswer::Refused { number, place } => print_refusal(number, place),
+    }
+    print_slice(out, room);
+}
+
+fn print_written(network: PowerNetwork, room: usize)
+    requires { ⌜ room ≤ 28672 ⌝ }
+{
+    let mut out = dots();
+    match write_text(network, &mut out[0..room]) {
+        WriteAnswer::Written(length) => print_count(length),
+        WriteAnswer::Refused { number, place } => print_refusal(number, place),
     }
     print_slice(out, room);
 }
@@ -87,7 +100,7 @@ fn changed(mut network: PowerNetwork, change: u8) -> PowerNetwork {
 
 // The calls on records. A text that is refused keeps every byte of the slice.
 fn print_on_records(text: &[u8], line: &[u8], present: &[u8], wanted: &[u8], room: usize)
-    requires { ⌜ (room ≤ 8192) × (2 ≤ length (now line)) ⌝ }
+    requires { ⌜ (room ≤ 28672) × (2 ≤ length (now line)) ⌝ }
 {
     let reading = read_text(text);
     let verdict = reading.verdict;
@@ -97,15 +110,15 @@ fn print_on_records(text: &[u8], line: &[u8], present: &[u8], wanted: &[u8], roo
         return;
     }
     let network = changed(reading.network, line[1]);
-    if line[0] == 66 {
-        print_best(network, room);
-        return;
+    match line[0] {
+        66 => print_best(network, room),
+        84 => print_written(network, room),
+        _ => print_operations(network, present, wanted, room),
     }
-    print_operations(network, present, wanted, room);
 }
 
 fn print_call(text: &[u8], line: &[u8], wanted: &[u8], room: usize)
-    requires { ⌜ room ≤ 8192 ⌝ }
+    requires { ⌜ room ≤ 28672 ⌝ }
 {
     if line.len() < 3 {
         return;
@@ -134,7 +147,7 @@ fn print_case(input: &[u8]) -> usize
         part_of(input, case.text),
         part_of(input, line),
         part_of(input, wanted),
-        at_most(slice.to - slice.from, 8192),
+        at_most(slice.to - slice.from, 28672),
     );
     slice.to
 }

@@ -62,25 +62,25 @@ fn character(byte: u8) -> u8 {
     byte
 }
 
-fn characters(bytes: [u8; 8192]) -> [u8; 8192] {
+fn characters(bytes: [u8; 28672]) -> [u8; 28672] {
     let mut characters = bytes;
     let mut i = 0usize;
-    while i < 8192 {
+    while i < 28672 {
         characters[i] = character(bytes[i]);
         i += 1;
     }
     characters
 }
 
-fn print_first(bytes: [u8; 8192], room: usize)
-    requires { ⌜ room ≤ 8192 ⌝ }
+fn print_first(bytes: [u8; 28672], room: usize)
+    requires { ⌜ room ≤ 28672 ⌝ }
 {
     io::write_all(STDOUT_FILENO, &bytes[0..room]);
 }
 
 // The first bytes, which were lent, with their line feeds as they are.
-pub(crate) fn print_slice(bytes: [u8; 8192], room: usize)
-    requires { ⌜ room ≤ 8192 ⌝ }
+pub(crate) fn print_slice(bytes: [u8; 28672], room: usize)
+    requires { ⌜ room ≤ 28672 ⌝ }
 {
     io::write_all(STDOUT_FILENO, b" [");
     print_first(characters(bytes), room);

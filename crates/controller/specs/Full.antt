@@ -1,4 +1,4 @@
--- Demand 1's first sentence for the calls that take a text: a text of records inside the limits, with states of one byte 00 or 01 for each switch and room in the lent
+-- Demand 1's first sentence for the calls that take a text or records in bytes: a text of records inside the limits, with states of one byte 00 or 01 for each switch and room in the lent
 -- slice, is answered in full. The calls on records, and `answer_text`, are in `answers.specs.Full`.
 use mathlib.Core.Path.{_≡_, refl, _∙_}
 use mathlib.Core.List.{List, _++_}
@@ -6,10 +6,11 @@ use Prim.Native.Nat.{ℕ, _*_, _≤_}
 use lib.Ieee.{binary64, toBits}
 use lib.ListN.{length, drop}
 use Rattle.network.specs.Answers.{accepted}
+use Rattle.network.specs.Inside.{Inside}
 use Rattle.network.specs.Records.{Network}
 use Rattle.states.specs.Live.{baseState}
 use Rattle.states.specs.Switches.{State, GoodState, size}
-use Rattle.frames.specs.Acceptable.{Acceptable}
+use Rattle.frames.specs.Acceptable.{textOf, Writable, Acceptable}
 use Rattle.frames.specs.Proof.{claim}
 use Rattle.frames.specs.Text.{readText}
 use Rattle.printing.specs.CallLaws.{in-full}
@@ -24,6 +25,9 @@ use Rattle.searches.specs.FromBase.{base-good}
 use Rattle.reconfiguration.specs.Solve.{best, result}
 use Rattle.operations.specs.Operations.{operations, operationsText}
 use Rattle.answers.specs.Full.{radiality-in-full, loss-in-full, solved-in-full, operations-in-full, planned-in-full}
+use Rattle.texts.specs.Proof as writer
+use Rattle.record_bytes.specs.RecordBytes.{writtenRecords, bytesOfRecords}
+use Rattle.record_bytes.specs.RecordBytesLaws.{records-alike}
 use Rattle.controller.specs.Calls.{numbered, onRecords, textRadiality, textLoss, onText, textPlan, textOperations, textSolved, baseCall, textBase}
 
 module _ (t : List ℕ) (N : Network) (a : Acceptable t N) where
@@ -67,3 +71,8 @@ module _ (t : List ℕ) (N : Network) (a : Acceptable t N) where
   text-base-in-full out room =
       let long : length (baseState N) ≡ size N = base-good N .long in
       rw has-records (in-full (size N) (baseState N) out refl (rw long room) ∙ rw long)
+
+-- `feeder_write_text`, of records inside the limits in bytes: their text
+pub records-in-full : (N : Network) → Inside N → Writable N → (out : List ℕ) → length (textOf N) ≤ length out
+    → writtenRecords (bytesOfRecords N) out ≡ record { answer = accepted (length (textOf N)); out = textOf N ++ drop (length (textOf N)) out }
+records-in-full N inside room out long = records-alike N room out ∙ writer.claim .written-in-full N out inside long

@@ -9,6 +9,7 @@ ghost use Rattle.plan.specs.Plan.{planAnswerOf};
 ghost use Rattle.searches.specs.Results.{solveAnswerOf};
 ghost use Rattle.operations.specs.Operations.{operationsAnswerOf};
 ghost use Rattle.answers.specs.Printing.{textAnswerOf};
+ghost use Rattle.texts.specs.Texts.{writeAnswerOf};
 ghost use Rattle.controller.specs.Calls.{numbered, numbersOf, solvedNumbers};
 ghost use Rattle.controller.specs.CallLaws.{NoNan};
 use answers::printer::TextAnswer;
@@ -18,6 +19,7 @@ use plan::planner::PlanAnswer;
 use printing::writer::truth_byte;
 use radiality::radiality::Radiality;
 use searches::answer::SolveAnswer;
+use texts::writer::WriteAnswer;
 
 // Number 0 with what was asked for, or document 01's refusal number and place.
 #[repr(C)]
@@ -98,12 +100,28 @@ pub(crate) fn operations_numbers(answer: OperationsAnswer) -> CallAnswer
     }
 }
 
+// How many bytes were written into the slice.
+fn written_bytes(length: u16) -> CallAnswer
+    ensures { λ r. ⌜ r ≡ numbersOf (accepted length) ⌝ }
+{
+    answered(length as u64)
+}
+
 pub(crate) fn text_numbers(answer: TextAnswer) -> CallAnswer
     ensures { λ r. ⌜ r ≡ numbersOf (textAnswerOf answer) ⌝ }
 {
     match answer {
         TextAnswer::Refused { number, place } => refusal(number, place),
-        TextAnswer::Printed(count) => answered(count as u64),
+        TextAnswer::Printed(length) => written_bytes(length),
+    }
+}
+
+pub(crate) fn write_numbers(answer: WriteAnswer) -> CallAnswer
+    ensures { λ r. ⌜ r ≡ numbersOf (writeAnswerOf answer) ⌝ }
+{
+    match answer {
+        WriteAnswer::Refused { number, place } => refusal(number, place),
+        WriteAnswer::Written(length) => written_bytes(length),
     }
 }
 

@@ -4,6 +4,7 @@ ghost use Rattle.network.specs.Answers.{accepted};
 ghost use Rattle.network.specs.Check.{checkRecords};
 ghost use Rattle.network.specs.Records.{recordsOf};
 ghost use Rattle.answers.specs.Printing.{answeredText};
+ghost use Rattle.record_bytes.specs.RecordBytes.{writtenRecords};
 ghost use Rattle.controller.specs.Calls.{numbersOf, textRadiality, textLoss, textPlan, textOperations, textSolved, baseCall, textBase, writtenNumbers, writtenSolved};
 use crate::answer::CallAnswer;
 use crate::answer::SolvedAnswer;
@@ -16,6 +17,7 @@ use crate::answer::radiality_numbers;
 use crate::answer::refusal;
 use crate::answer::solved_numbers;
 use crate::answer::text_numbers;
+use crate::answer::write_numbers;
 use answers::printer::answer_text;
 use frames::reader::read_text;
 use losses::evaluation::evaluate_config;
@@ -26,6 +28,7 @@ use operations::operations::compute_switch_operations;
 use plan::planner::plan;
 use radiality::radiality::verify_radiality;
 use reconfiguration::solve::solve;
+use record_bytes::records::write_records;
 use slices::writer::write_bytes;
 use states::configuration::build_base_configuration;
 
@@ -145,4 +148,13 @@ pub extern "C" fn feeder_operations(
         return refusal(number, place);
     }
     operations_numbers(compute_switch_operations(reading.network, from, to, out))
+}
+
+// The frame text of records in bytes: the value is how many bytes the text has, and they stand at the front of the slice, which keeps what is behind them. A
+// refusal, that of the text's line or 13, writes nothing.
+#[no_mangle]
+pub extern "C" fn feeder_write_text(records: &[u8], out: &mut [u8]) -> CallAnswer
+    ensures { λ r. ⌜ record { answer = r; out = now (out .exit) } ≡ writtenNumbers (writtenRecords (now (records .entry)) (now (out .entry))) ⌝ }
+{
+    write_numbers(write_records(records, out))
 }

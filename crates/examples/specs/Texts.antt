@@ -1,5 +1,5 @@
--- The text of document 01's triangle, and its examples of the refusals that a text can get; all hold by computation. Programs check the others: `reader_cases`.
-use mathlib.Core.List.{List, [], _∷_, _++_}
+-- The text of document 01's triangle, also from its records in bytes, and document 01's examples of the refusals that a text can get; all hold by computation. Programs check the others: `reader_cases`.
+use mathlib.Core.List.{List, [], _∷_, _++_, flatMap}
 use mathlib.Core.Path.{_≡_, refl}
 use Prim.Native.Nat.{ℕ, zero, suc, _+_, _*_}
 use lib.Ieee.{ofBits, le, neg}
@@ -13,6 +13,7 @@ use Rattle.lines.specs.Lines.{put, cut, lineFaults}
 use Rattle.record_lines.specs.Kinds.{isFrame, fieldsOf, methodOf, readOne, without}
 use Rattle.frames.specs.Text.{follow, pure, readRun, readEnd, readLines, readText}
 use Rattle.frames.specs.Conditions.{judgementOf}
+use Rattle.record_bytes.specs.RecordBytes.{frameBytes, linesOfBytes, textOfBytes, numberBytes}
 use Rattle.examples.specs.Feeders.{triangle}
 
 -- a line of w digits, written as one number, and its line feed
@@ -38,6 +39,18 @@ triangleText = headLine ++ (busLines ++ (branchLines ++ switchLines))
 pub triangle-read : readText triangleText ≡ accepted triangle
 unfolding readText readLines readOne readRun readEnd without judge _andThen_ follow pure cut put every lineFaults isFrame fieldsOf methodOf number value digit digits isDigit readFields headFaults busFaults branchFaults switchFaults okBase okLoad okR among ties ofBits le neg
 triangle-read = refl
+
+-- its records in bytes: the same digits, two in a byte
+abbrev triangleBytes : List ℕ
+triangleBytes =
+    numberBytes 18 0x010003000300023FF0000000000000000064
+    ++ (numberBytes 11 0x0200010000000000000000 ++ (numberBytes 11 0x0200023FF0000000000000 ++ (numberBytes 11 0x0200034000000000000000
+    ++ (numberBytes 14 0x03000100023FD000000000000001 ++ (numberBytes 14 0x03000200033FDC00000000000001 ++ (numberBytes 14 0x03000100033FC800000000000001
+    ++ (numberBytes 6 0x04000A000102 ++ numberBytes 6 0x04000B000203)))))))
+
+pub triangle-written : textOfBytes triangleBytes ≡ triangleText
+unfolding textOfBytes linesOfBytes frameBytes numberBytes flatMap digits digit
+triangle-written = refl
 
 -- ---- refused texts
 abbrev refusedAs : ℕ → ℕ → List ℕ → Type 0

@@ -21,7 +21,7 @@ use Rattle.record_lines.specs.JudgementLaws.{without-then}
 use Rattle.frames.specs.ReaderLaws.{go-on, network, behindSwitches, behindBranches, behindBuses, behindHead, lines-read}
 use Rattle.frames.specs.Conditions.{kindConditions, surplusConditions, busesOf, bodyConditions, conditions, judgeLines, judgementOf, LineConditions}
 
-judgement-then : {A : Type 0} (v : Judgement) (a : A) → judgementOf (v andThen accepted a) ≡ v
+pub judgement-then : {A : Type 0} (v : Judgement) (a : A) → judgementOf (v andThen accepted a) ≡ v
 unfolding judgementOf _andThen_
 judgement-then (accepted u) a = refl
 judgement-then (refused n p) a = refl

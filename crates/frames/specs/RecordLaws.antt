@@ -33,7 +33,7 @@ le-nan (inf s) = refl
 le-nan (fin s m e) = refl
 
 -- a NaN is in no range
-no-nan : (low high x : Float) → inRange low high x ≡ true → T (not (isNan x))
+pub no-nan : (low high x : Float) → inRange low high x ≡ true → T (not (isNan x))
 unfolding isNan
 no-nan low high nan e = absurd (false≢true (sym (le-nan low) ∙ both (le low nan) (le nan high) e .0))
 no-nan low high (inf s) e = tt

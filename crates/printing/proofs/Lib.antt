@@ -1,1 +1,1 @@
-pub mod FrameNumbers
+pub mod AnswerPieces

@@ -1,12 +1,13 @@
 -- A call that is lent a slice, case by case: refused by its tests, without room, or done. What the code writes stands as `written` here.
 use mathlib.Core.Path.{_≡_, refl, sym, ap, _∙_}
+use mathlib.Core.Logic.{_⊎_, inl, inr}
 use mathlib.Core.Bool.{Bool, true, false, cond}
 use mathlib.Core.List.{List, [], _∷_, _++_}
 use Prim.Native.Nat.{ℕ, _≤_, _<_}
 use lib.Dec.{ltb}
 use lib.ListN.{length, drop}
-use borrow.Author.Tests.{lt-ltb, le-ltb, ltb-false}
-use Rattle.network.specs.Answers.{accepted, refused, _andThen_, _if_, judge, Judgement}
+use borrow.Author.Tests.{lt-ltb, le-ltb, ltb-true, ltb-false}
+use Rattle.network.specs.Answers.{Answer, accepted, refused, _andThen_, _if_, judge, Judgement}
 use Rattle.network.specs.AnswerLaws.{same-value, no-refusal, judge-iff, then-iff}
 use Rattle.slices.specs.Written.{written}
 use Rattle.slices.specs.WrittenLaws.{written-room}
@@ -74,3 +75,17 @@ call-answered {A} tests answer bytes out {value} {after} e = go (tests andThen c
         → (tests ≡ accepted tt) × (value ≡ answer) × (after ≡ bytes ++ drop (length bytes) out)
     go (accepted u) p q = (then-iff tests _ .0 p .0, same-value (ap (λ (c : Call A). c .answer) q), ap (λ (c : Call A). c .out) q)
     go (refused number place) p q = no-refusal (sym (ap (λ (c : Call A). c .answer) q))
+
+-- a refusal is that of its tests, or 13 where they are passed and the slice is too short
+pub call-refusals : {A : Type 0} (tests : Judgement) (answer : A) (bytes out : List ℕ) {n p : ℕ} → called tests answer bytes out .answer ≡ refused n p
+    → (tests ≡ refused n p) ⊎ ((tests ≡ accepted tt) × (n ≡ 13) × (p ≡ 0) × (length out < length bytes))
+unfolding called _andThen_ checkRoom
+call-refusals (refused m q) answer bytes out {n} {p} e =
+    let number : m ≡ n = cc in
+    let place : q ≡ p = cc in
+    inl (rw (number, place))
+call-refusals {A} (accepted u) answer bytes out {n} {p} e = let (number, place, short) = go (ltb (length out) (length bytes)) refl e in inr (refl, number, place, short)
+  where
+    go : (short : Bool) → ltb (length out) (length bytes) ≡ short → answered (judge ((13 if short) ∷ []) 0) answer bytes out .answer ≡ refused n p → (n ≡ 13) × (p ≡ 0) × (length out < length bytes)
+    go true q a = let e : _≡_ {A = Answer A} (refused 13 0) (refused n p) = (unfold judge in a) in (cc, cc, ltb-true (length out) (length bytes) q)
+    go false q a = let e : _≡_ {A = Answer A} (accepted answer) (refused n p) = (unfold judge in a) in no-refusal (sym e)

@@ -1,5 +1,7 @@
 pub mod Printed
 pub mod Lengths
 pub mod LineTexts
+pub mod LineLoops
+pub mod FrameNumbers
 pub mod Calls
 pub mod CallLaws

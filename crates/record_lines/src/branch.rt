@@ -12,7 +12,7 @@ use network::branch::Branch;
 use network::error::Verdict;
 
 // The kind byte, and how many characters the line has.
-const KIND: u8 = 3;
+pub const KIND: u8 = 3;
 
 pub const SIZE: usize = 28;
 

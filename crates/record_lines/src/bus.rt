@@ -12,7 +12,7 @@ use network::bus::Power;
 use network::error::Verdict;
 
 // The kind byte, and how many characters the line has.
-const KIND: u8 = 2;
+pub const KIND: u8 = 2;
 
 pub const SIZE: usize = 22;
 

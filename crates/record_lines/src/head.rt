@@ -14,7 +14,7 @@ use network::switch::ReconfigAlgorithm;
 use refusals::record::judge_head;
 
 // The kind byte, and how many characters the line has.
-const KIND: u8 = 1;
+pub const KIND: u8 = 1;
 
 pub const SIZE: usize = 36;
 

@@ -12,7 +12,7 @@ use network::error::Verdict;
 use network::switch::Switch;
 
 // The kind byte, and how many characters the line has.
-const KIND: u8 = 4;
+pub const KIND: u8 = 4;
 
 pub const SIZE: usize = 12;
 

@@ -13,7 +13,7 @@ use Rattle.numbers.specs.Tests.{both}
 use Rattle.numbers.specs.Every.{every}
 use Rattle.network.specs.declared.switch.Switch.{Switch}
 use Rattle.network.specs.declared.topology.PowerNetwork.{PowerNetwork}
-use Rattle.network.specs.Records.{Network, noBranch, noSwitch, recordsOf}
+use Rattle.network.specs.Records.{Network, noBus, noBranch, noSwitch, recordsOf}
 use Rattle.network.specs.Answers.{accepted}
 use Rattle.network.specs.AnswerLaws.{judge-accepted}
 use Rattle.network.specs.Check.{checkRecords}
@@ -37,6 +37,10 @@ module _ (n : PowerNetwork) where
   unfolding recordsOf
   switches-listed = length-table _ (n .«switch_count»)
 
+  pub bus-at : (i : ℕ) → i < n .«bus_count» → getD (recordsOf n .buses) i noBus ≡ getD (n .buses) i noBus
+  unfolding recordsOf
+  bus-at i h = getD-table (λ j. getD (n .buses) j noBus) (n .«bus_count») i noBus h
+
   pub branch-at : (k : ℕ) → k < n .«branch_count» → getD (recordsOf n .branches) k noBranch ≡ getD (n .branches) k noBranch
   unfolding recordsOf
   branch-at k h = getD-table (λ j. getD (n .branches) j noBranch) (n .«branch_count») k noBranch h
@@ -50,7 +54,10 @@ module _ (n : PowerNetwork) where
     inside : Inside (recordsOf n)
     inside = check-inside (recordsOf n) .0 ok
 
-    few-branches : n .«branch_count» ≤ 512
+    pub few-buses : n .«bus_count» ≤ 256
+    few-buses = omega (arith, inside .counts .0, buses-listed)
+
+    pub few-branches : n .«branch_count» ≤ 512
     few-branches = omega (arith, inside .counts .1, branches-listed)
 
     pub few-switches : n .«switch_count» ≤ 512

@@ -1,5 +1,5 @@
 //! Questions on calls that `feeder` doesn't show: radiality and loss of any state, the best state in a lent slice,
-//! operations and plans between any two states. A question is a case of the program `call_cases`
+//! operations and plans between any two states, the text of the records. A question is a case of the program `call_cases`
 //! (crates/call_cases/src/calls.rt), its answer what that program is to print.
 
 use crate::cases::{Case, Cases};
@@ -30,14 +30,16 @@ enum Call {
     Best,
     Operations,
     Plan,
+    Text,
 }
 
 /// The letter of each call, and what is asked.
-const CALLS: [(char, Call, &str); 4] = [
+const CALLS: [(char, Call, &str); 5] = [
     ('S', Call::State, "radiality and loss of a state"),
     ('B', Call::Best, "the best state in a slice"),
     ('O', Call::Operations, "operations in a slice"),
     ('P', Call::Plan, "a plan in a slice"),
+    ('T', Call::Text, "the text read, in a slice"),
 ];
 
 /// What an answered call prints: its fields, and what it writes into the slice.
@@ -85,11 +87,19 @@ pub fn questions(count: usize, seed: u64) -> impl Iterator<Item = Vec<u8>> + Sen
     (0..count).map(move |number| any_question(&mut Random::new(seed, "questions", number), number))
 }
 
+/// A question for each accepted text: it is to be written back into a slice as long as it, or up to two bytes longer.
+pub fn written_back(texts: Cases) -> impl Iterator<Item = Vec<u8>> + Send {
+    texts.map(|case| case.text).filter(|text| reader::read(text).is_ok()).enumerate().map(|(number, text)| {
+        let (name, room) = (format!("T{number}"), text.len() + number % 3);
+        Question { name, text, call: Call::Text, change: '-', present: Vec::new(), wanted: Vec::new(), room }.written()
+    })
+}
+
 /// The questions in runs of the program, each of one to so many, and of no more bytes than the program has room for.
-pub fn runs(count: usize, seed: u64) -> Cases {
+pub fn runs(questions: impl Iterator<Item = Vec<u8>> + Send + 'static) -> Cases {
     const MOST: usize = 20;
     const MOST_BYTES: usize = 200_000;
-    let mut questions = questions(count, seed).peekable();
+    let mut questions = questions.peekable();
     let mut number = 0;
     Box::new(std::iter::from_fn(move || {
         let mut text = questions.next()?;
@@ -116,6 +126,7 @@ fn any_question(random: &mut Random, number: usize) -> Vec<u8> {
         Call::Best => (Vec::new(), Vec::new(), near(random, network.switches.len())),
         Call::Operations => any_operations(random, &network),
         Call::Plan => any_plan(random, &network),
+        Call::Text => unreachable!("each text of a set is asked for"),
     };
     let name = format!("{letter}{number}");
     Question { name, text, call, change: '-', present, wanted, room }.written()
@@ -174,6 +185,7 @@ impl Question {
             Call::Best => best_answer(network),
             Call::Operations => operations_answer(network, &self.present, &self.wanted)?,
             Call::Plan => plan_answer(network, &self.present, &self.wanted)?,
+            Call::Text => text_answer(changed(&self.text, self.change)),
         };
         refused_unless(answer.written.len() <= self.room, 13, 0)?;
         Ok(answer)
@@ -214,6 +226,12 @@ fn plan_answer(network: &Network, present: &[u8], wanted: &[u8]) -> Result<Answe
     let pairs = plan(network, present, wanted, usize::MAX)?;
     assert_eq!(judge::fault(network, present, wanted, &pairs), None, "the judge refuses the reckoning's plan");
     Ok(Answer { fields: format!(" {:04x}", pairs.len()), written: plan::lines(network, &pairs) })
+}
+
+/// An accepted text is the only one of its records.
+fn text_answer(text: Vec<u8>) -> Answer {
+    let written = String::from_utf8(text).expect("an accepted text has digits and line feeds");
+    Answer { fields: format!(" {:04x}", written.len()), written }
 }
 
 /// Document 01: "Records handed over without text are checked as their lines would be." The text of the records with the

@@ -33,6 +33,8 @@ const USAGE: &str = "usage:
   oracle compare SIZE SEED PROGRAM [ARG]   runs the program on the set of that size (small, large) and seed
   oracle compare-calls SIZE SEED PROGRAM [ARG]
                                            runs the program on that many questions
+  oracle compare-written SIZE SEED PROGRAM [ARG]
+                                           runs the program on the accepted texts of the set, to be written back
   oracle check                             document 01's worked examples, on the original
   oracle agree SIZE SEED                   document 01's steps, as reckoned, against the original
   oracle flat                              the original's sensitivities at flat voltage
@@ -56,9 +58,14 @@ fn main() -> ExitCode {
             compare::compare(texts, &arguments[3..], workers())
         }
         ["compare-calls", size, seed, _, ..] => {
-            let cases = calls::runs(named(size).questions, number(seed));
+            let cases = calls::runs(calls::questions(named(size).questions, number(seed)));
             let questions = Compared { name: "questions", cases, expected: calls::expected };
             compare::compare(questions, &arguments[3..], workers())
+        }
+        ["compare-written", size, seed, _, ..] => {
+            let cases = calls::runs(calls::written_back(set(size, seed)));
+            let texts = Compared { name: "texts written back", cases, expected: calls::expected };
+            compare::compare(texts, &arguments[3..], workers())
         }
         ["check"] => check::worked_examples(),
         ["agree", size, seed] => check::agree(set(size, seed)),

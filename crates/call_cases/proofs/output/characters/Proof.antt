@@ -5,10 +5,10 @@ use Rattle.call_cases.proofs.output.characters.Statement.{statement}
 use Rattle.call_cases.proofs.output.characters.Tie as tie
 
 abbrev Inv-loop : tie.InvT-loop
-Inv-loop bytes characters₀ i₀ characters i = i ≤ 8192
+Inv-loop bytes characters₀ i₀ characters i = i ≤ 28672
 
 abbrev μ-loop : tie.MeasureT-loop
-μ-loop bytes characters₀ i₀ characters i = 8192 - i
+μ-loop bytes characters₀ i₀ characters i = 28672 - i
 
 loop-holds : tie.Need-loop-holds Inv-loop μ-loop
 loop-holds c = search needs

@@ -15,17 +15,14 @@ refusal-requires c κs = search needs
 enum-known-answer-2 : tie.Need-enum-known-answer-2
 enum-known-answer-2 c = search needs
 
-cast-answered : tie.Need-cast-answered
-cast-answered c = search needs
-
-answered-requires : tie.Need-answered-requires
-answered-requires c κs = search needs
+written-bytes-requires : tie.Need-written-bytes-requires
+written-bytes-requires c κs = search needs
 
 returns : tie.Need-returns
 returns c = c .refusal .ensures ∙ ap (λ a. numbersOf (textAnswerOf a)) (sym (c .before .before .answer .given .1))
 
 returns-2 : tie.Need-returns-2
-returns-2 c = c .answered .ensures ∙ ap (λ a. numbersOf (textAnswerOf a)) (sym (c .before .before .answer2 .given .1))
+returns-2 c = c .written-bytes .ensures ∙ ap (λ a. numbersOf (textAnswerOf a)) (sym (c .before .before .answer2 .given .1))
 
 pub text-numbers-spec : {M : Type 1} → statement M
 text-numbers-spec =
@@ -34,7 +31,6 @@ text-numbers-spec =
     enum-known-answer
     refusal-requires
     enum-known-answer-2
-    cast-answered
-    answered-requires
+    written-bytes-requires
     returns
     returns-2)

@@ -1,7 +1,8 @@
 -- `write_answer` meets its contract: the slice is too short for the frame, or its pieces are written one behind the other.
 use mathlib.Core.Path.{_∙_}
 use Rattle.printing.specs.Printed.{answer, answerText}
-use Rattle.printing.proofs.FrameNumbers.{frame-short, answer-written}
+use Rattle.printing.specs.FrameNumbers.{frame-short}
+use Rattle.printing.proofs.AnswerPieces.{answer-written}
 use borrow.Author.Needs.{needs}
 use Rattle.printing.proofs.writer.write_answer.Statement.{statement}
 use Rattle.printing.proofs.writer.write_answer.Tie as tie

@@ -3,7 +3,8 @@ use mathlib.Core.Path.{ap, _∙_}
 use Prim.Native.Nat.{ℕ, _+_, _%_, _^_}
 use native.Mathlib.Omega.{arith}
 use Rattle.lines.specs.HexLaws.{length-digits}
-use Rattle.printing.proofs.FrameNumbers.{three-written, three-numbers}
+use Rattle.printing.specs.FrameNumbers.{three-written}
+use Rattle.printing.proofs.AnswerPieces.{three-numbers}
 use borrow.Author.Needs.{needs}
 use Rattle.printing.proofs.writer.write_losses.Statement.{statement}
 use Rattle.printing.proofs.writer.write_losses.Tie as tie

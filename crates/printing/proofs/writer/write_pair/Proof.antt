@@ -2,7 +2,7 @@
 use native.Mathlib.Omega.{arith}
 use lib.Dec.{lit<}
 use Rattle.printing.specs.Printed.{pair, pairText}
-use Rattle.printing.proofs.FrameNumbers.{frame-line}
+use Rattle.printing.specs.FrameNumbers.{frame-line}
 use borrow.Author.Needs.{needs}
 use Rattle.printing.proofs.writer.write_pair.Statement.{statement}
 use Rattle.printing.proofs.writer.write_pair.Tie as tie

@@ -1,0 +1,22 @@
+-- `feeder_write_text` meets its contract: the writer's answer in numbers.
+use Rattle.controller.specs.Calls.{numbersOf}
+use Rattle.controller.specs.CallLaws.{numbers-beside}
+use borrow.Author.Needs.{needs}
+use Rattle.controller.proofs.calls.feeder_write_text.Statement.{statement}
+use Rattle.controller.proofs.calls.feeder_write_text.Tie as tie
+
+write-records-requires : tie.Need-write-records-requires
+write-records-requires c κs = search needs
+
+write-numbers-requires : tie.Need-write-numbers-requires
+write-numbers-requires c κs = search needs
+
+same-length : tie.Need-same-length
+same-length c = search needs
+
+returns : tie.Need-returns
+returns c = numbers-beside numbersOf (c .write-numbers .ensures) (c .before .before .before .write-records .ensures)
+
+pub feeder-write-text-spec : {M : Type 1} → statement M
+feeder-write-text-spec =
+    tie.close (tie.spec write-records-requires write-numbers-requires same-length returns)

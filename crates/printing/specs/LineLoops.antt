@@ -1,0 +1,55 @@
+-- Lines of one length, one for each entry of a table, as a loop writes them into a slice that has room for all.
+use mathlib.Core.Path.{_≡_, sym, ap, _∙_}
+use mathlib.Core.List.{List, [], flatMap}
+use Prim.Native.Nat.{ℕ, _+_, _*_, _-_, _≤_, _<_}
+use native.Mathlib.Omega.{arith}
+use native.Mathlib.Nat.{mul-le-mul-left}
+use lib.ListN.{length, take, drop}
+use borrow.Rule.Slice.PartMut.{putMid}
+use Rattle.numbers.specs.UpTo.{table}
+use Rattle.numbers.specs.TableLaws.{length-table, table-more}
+use Rattle.slices.specs.Written.{written}
+use Rattle.slices.specs.WrittenLaws.{length-written, written-append, written-room}
+use Rattle.printing.specs.LineTexts.{lines-more, length-lines}
+
+module _ {A : Type 0} (line : A → List ℕ) (width : ℕ) (long : (a : A) → length (line a) ≡ width) (entry : ℕ → A) (n : ℕ) (out : List ℕ) where
+  -- the lines of the first i entries
+  abbrev lines : ℕ → List ℕ
+  lines i = flatMap line (table entry i)
+
+  -- they stand at the front, and the next one begins at `at`
+  pub record Lines (now : List ℕ) (at i : ℕ) : Type 0 where
+    pub within : i ≤ n
+    pub here : at ≡ width * i
+    so-far : now ≡ written (lines i) out
+
+  length-first : (i : ℕ) → length (lines i) ≡ width * i
+  length-first i = length-lines line width long (table entry i) ∙ ap (λ (k : ℕ). width * k) (length-table entry i)
+
+  pub lines-none : Lines out 0 0
+  unfolding table flatMap
+  lines-none = record { within = omega arith; here = omega arith; so-far = sym (written-room [] out (omega arith)) }
+
+  module _ (now : List ℕ) (at i : ℕ) (l : Lines now at i) where
+    pub lines-length : length now ≡ length out
+    lines-length = ap length (l .so-far) ∙ length-written (lines i) out
+
+    pub lines-all : n ≤ i → now ≡ written (lines n) out
+    lines-all h = let all : i ≡ n = omega (arith, l .within) in l .so-far ∙ rw all
+
+    module _ (room : length (lines n) ≤ length out) (h : i < n) where
+      -- the next line has room
+      pub lines-room : at + width ≤ length now
+      lines-room =
+          let more : width * (i + 1) ≤ width * n = mul-le-mul-left width (omega arith) in
+          omega (arith, lines-length, length-first n, l .here)
+
+      pub lines-next : {x : A} → x ≡ entry i → {next : ℕ} → next ≡ at + width → {part : List ℕ} → part ≡ written (line x) (take (length now - at) (drop at now))
+          → Lines (putMid at (length now - at) now part) next (i + 1)
+      lines-next e behind w = record {
+        within = omega arith;
+        here = omega (arith, l .here, behind);
+        so-far =
+            written-append (lines i) (line (entry i)) out at (length-first i ∙ sym (l .here)) (omega (arith, long (entry i), lines-room, lines-length)) (l .so-far) (w ∙ rw e)
+            ∙ rw (table-more entry i, lines-more line (table entry i) (entry i));
+      }

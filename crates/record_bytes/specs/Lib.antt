@@ -1,0 +1,5 @@
+pub mod RecordBytes
+pub mod RecordSteps
+pub mod RecordCalls
+pub mod RecordBytesLaws
+pub mod RecordRefusals

@@ -1,0 +1,2 @@
+// Records in bytes, and their frame text.
+pub mod records;

@@ -1,0 +1,2 @@
+pub mod TextRounds
+pub mod TextRoundLaws

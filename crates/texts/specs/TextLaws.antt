@@ -1,0 +1,40 @@
+-- How long the text of a network is, known before anything is written, and the call that writes it.
+use mathlib.Core.Path.{_≡_, refl}
+use mathlib.Core.List.{List, flatMap}
+use Prim.Native.Nat.{ℕ, _+_, _*_, _≤_}
+use native.Mathlib.Omega.{arith}
+use lib.ListN.{length, length-append}
+use Rattle.network.specs.Records.{Network}
+use Rattle.network.specs.Inside.{Inside}
+use Rattle.network.specs.Answers.{accepted}
+use Rattle.network.specs.Check.{checkRecords, headOf}
+use Rattle.lines.specs.Hex.{Fields}
+use Rattle.lines.specs.Frames.{Frame, frameText}
+use Rattle.record_lines.specs.Kinds.{head, bus, branch, switch}
+use Rattle.frames.specs.Acceptable.{headFields, busFields, branchFields, switchFields, textOf}
+use Rattle.frames.specs.Lengths.{lineLength, longestText}
+use Rattle.slices.specs.Written.{written}
+use Rattle.printing.specs.CallLaws.{call-done}
+use Rattle.printing.specs.LineTexts.{length-frame, length-lines}
+use Rattle.texts.specs.Texts.{writtenText}
+
+-- the lines of a kind
+pub kind-length : {A : Type 0} (F : Frame) (fields : A → Fields (F .widths)) (l : List A) → length (flatMap (λ a. frameText F (fields a)) l) ≡ lineLength F * length l
+kind-length F fields l = length-lines (λ a. frameText F (fields a)) (lineLength F) (λ a. length-frame F (fields a)) l
+
+-- 37 + 23 × buses + 29 × branches + 13 × switches, of every network
+pub text-length : (N : Network) → length (textOf N) ≡ lineLength head + lineLength bus * length (N .buses) + lineLength branch * length (N .branches) + lineLength switch * length (N .switches)
+unfolding textOf
+text-length N =
+    rw (length-append, length-append, length-append)
+    (omega (arith, length-frame head (headFields (headOf N)), kind-length bus busFields (N .buses), kind-length branch branchFields (N .branches), kind-length switch switchFields (N .switches)))
+
+-- "At most 256 buses, 512 branches, 512 switches": at most 27,429, which a u16 holds
+pub text-short : (N : Network) → Inside N → length (textOf N) ≤ longestText
+text-short N inside = omega (arith, text-length N, inside .counts .0, inside .counts .1, inside .counts .2)
+
+-- the call, where the records are accepted and the slice has room
+pub text-written : (N : Network) (out : List ℕ) {count : ℕ} → checkRecords N ≡ accepted tt → count ≡ length (textOf N) → count ≤ length out
+    → {after : List ℕ} → after ≡ written (textOf N) out → record { answer = accepted count; out = after } ≡ writtenText N out
+unfolding writtenText
+text-written N out ok e room w = rw e (call-done (length (textOf N)) (textOf N) out ok refl (omega arith) w)

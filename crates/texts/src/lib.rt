@@ -1,0 +1,3 @@
+// The frame text of a network.
+mod line;
+pub mod writer;
