@@ -1,8 +1,8 @@
 -- `end_at` meets its contract: a position below n is the id's first one, and any other says that it is not listed.
 use borrow.Author.Needs.{needs}
-use Rattle.radiality.proofs.Resolving.{end-found, no-end}
-use Rattle.radiality.proofs.feeder.end_at.Statement.{statement}
-use Rattle.radiality.proofs.feeder.end_at.Tie as tie
+use Rattle.feeders.proofs.Resolving.{end-found, no-end}
+use Rattle.feeders.proofs.feeder.end_at.Statement.{statement}
+use Rattle.feeders.proofs.feeder.end_at.Tie as tie
 
 position-of-requires : tie.Need-position-of-requires
 position-of-requires c κs = search needs

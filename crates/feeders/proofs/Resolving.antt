@@ -1,21 +1,19 @@
 -- An id that is looked up in rows gives the end of a branch; and the ends of the branches while they are looked up, by rising position.
-use mathlib.Core.Path.{_≡_, refl, sym, ap, _∙_}
-use mathlib.Core.Bool.{Bool, true, false, cond}
+use mathlib.Core.Path.{_≡_, ap, _∙_}
 use mathlib.Core.List.{List}
 use Prim.Native.Nat.{ℕ, _+_, _<_, _≤_, min}
 use native.Mathlib.Omega.{arith}
-use lib.Dec.{ltb}
 use lib.ListN.{length, getD, set, replicate}
-use borrow.Author.Tests.{lt-ltb, le-ltb, ltb-true, ltb-false}
+use borrow.Author.Tests.{lt-ltb, le-ltb}
 use Rattle.numbers.specs.Choose.{indexOf}
-use Rattle.numbers.specs.TableLaws.{replicate-table, table-cong, filled, filled-none, filled-more}
+use Rattle.numbers.specs.TableLaws.{replicate-table, filled, filled-none, filled-more, filled-within}
 use Rattle.network.specs.declared.branch.Branch.{Branch}
 use Rattle.checks.specs.FaultLaws.{among-index}
 use Rattle.ids.specs.Ids.{rows, idRows, positionOf}
 use Rattle.ids.specs.IdLaws.{position-found}
 use Rattle.network.specs.Records.{noBranch}
 use Rattle.network.specs.ReadLaws.{pastBranch, branch-read}
-use Rattle.radiality.specs.FeederRows.{endAt, endsOf}
+use Rattle.feeders.specs.FeederRows.{endAt, endsOf}
 
 -- an id at its first position, or at none of n
 module _ (ids first next : List ℕ) (n id p : ℕ) (small : n ≤ 256) (q : p ≡ positionOf ids first next n id) (l : List ℕ) (long : n ≡ length l) (e : rows ids first next ≡ idRows l) where
@@ -50,8 +48,4 @@ module _ (end : Branch → ℕ) (ids : List ℕ) (branches : List Branch) where
 
   pub ends-end : (count k : ℕ) → k ≡ min count 512 → endsFilled k ≡ endsOf end ids branches count
   unfolding endsFilled filled
-  ends-end count k e = table-cong _ _ 512 (λ j h. ap (λ b. cond b (endOf j) 0) (same j h (ltb j count) refl))
-    where
-      same : (j : ℕ) → j < 512 → (b : Bool) → ltb j count ≡ b → ltb j k ≡ ltb j count
-      same j h true a = lt-ltb j k (let l = ltb-true j count a in omega arith) ∙ sym a
-      same j h false a = le-ltb j k (let l = ltb-false j count a in omega arith) ∙ sym a
+  ends-end count k e = ap endsFilled e ∙ filled-within endOf 0 512 count

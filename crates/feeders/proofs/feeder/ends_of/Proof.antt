@@ -1,7 +1,7 @@
 -- `ends_of` meets its contract: each end is looked up by its id.
 use borrow.Author.Needs.{needs}
-use Rattle.radiality.proofs.feeder.ends_of.Statement.{statement}
-use Rattle.radiality.proofs.feeder.ends_of.Tie as tie
+use Rattle.feeders.proofs.feeder.ends_of.Statement.{statement}
+use Rattle.feeders.proofs.feeder.ends_of.Tie as tie
 
 end-at-requires : tie.Need-end-at-requires
 end-at-requires c κs = search needs

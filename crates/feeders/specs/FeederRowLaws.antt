@@ -19,7 +19,7 @@ use Rattle.network.specs.Records.{Network, noBranch, recordsOf}
 use Rattle.network.specs.Answers.{accepted}
 use Rattle.network.specs.Limits.{busId}
 use Rattle.network.specs.Check.{checkRecords}
-use Rattle.network.specs.Inside.{Inside}
+use Rattle.network.specs.Inside.{Inside, HasBus}
 use Rattle.network.specs.InsideLaws.{check-inside, among-mem, mem-among}
 use Rattle.network.specs.Positions.{from-listed, to-listed}
 use Rattle.states.specs.Listed.{buses-listed, branches-listed, branch-at, state-accepted}
@@ -28,15 +28,14 @@ use Rattle.states.specs.Live.{checkState, live}
 use Rattle.states.specs.LiveLaws.{live-configuration}
 use Rattle.states.specs.Configuration.{configurationOf}
 use Rattle.graph.specs.declared.rows.Graph.{Graph}
-use Rattle.graph.specs.Graph.{Net}
 use Rattle.graph.specs.Walk.{bfsPath}
 use Rattle.graph.specs.Radial.{radial}
-use Rattle.radiality.specs.Feeder.{position, feeder, endsPath, radialIn}
-use Rattle.radiality.specs.FeederLaws.{feeder-sound, feeder-small, feeder-few}
-use Rattle.graph.specs.Rows.{flag, netOf, rowNet, rowRadial, rowPath, rowEndsPath, graphOf}
+use Rattle.feeders.specs.Feeder.{position, feeder, endsPath, radialIn}
+use Rattle.feeders.specs.FeederLaws.{feeder-sound, feeder-small, feeder-few}
+use Rattle.graph.specs.Rows.{flag, rowNet, rowRadial, rowPath, rowEndsPath, graphOf}
 use Rattle.graph.specs.RowsHold.{far-hold}
 use Rattle.graph.specs.RowsWalk.{Positions, row-radial-is-radial, row-path-is-path}
-use Rattle.radiality.specs.FeederRows.{listedIds, endAt, endsOf, fromEnds, toEnds, feederGraph, liveFlags}
+use Rattle.feeders.specs.FeederRows.{listedIds, endAt, endsOf, fromEnds, toEnds, endsNet, feederGraph, liveFlags}
 use Rattle.graph.specs.SameEnds.{radial-same, path-same}
 
 -- ---- the position of an id
@@ -118,6 +117,11 @@ module _ (n : PowerNetwork) (sized : length (n .buses) ≡ 256) where
     unfolding feeder
     ids-listed = ap (map busId) (listed-buses n (omega (arith, inside .counts .0, same-buses)))
 
+    -- the position of a listed bus, as the code finds it
+    pub end-position : (id : ℕ) → HasBus (recordsOf n) id → endAt (listedIds n) id ≡ position (recordsOf n) id
+    unfolding position
+    end-position id m = ap (λ ids. endAt ids id) ids-listed ∙ end-listed (map busId (recordsOf n .buses)) id m
+
     end-at : (end : Branch → ℕ) (k : ℕ) → k < feeder (recordsOf n) .branches → List·Memᴰ (end (getD (recordsOf n .branches) k noBranch)) (map busId (recordsOf n .buses))
         → position (recordsOf n) (end (getD (recordsOf n .branches) k noBranch)) ≡ getD (endsOf end (listedIds n) (n .branches) (n .«branch_count»)) k 0
     unfolding position
@@ -144,21 +148,18 @@ module _ (n : PowerNetwork) (sized : length (n .buses) ≡ 256) where
         let e = feeder-ends k h in
         (f .1 ∙ sym (e .0), f .0 ∙ sym (e .1))
 
-    abbrev arrays : Net
-    arrays = netOf (n .«bus_count») (n .«branch_count») (fromEnds n) (toEnds n)
-
     module _ (flags : List Bool) (short : length flags ≤ 512) where
       feeder-row-radial : rowRadial (feederGraph n) flags ≡ radial (feeder (recordsOf n)) (flag flags)
       unfolding feederGraph
       feeder-row-radial =
           row-radial-is-radial _ _ (fromEnds n) (toEnds n) flags feeder-positions short
-          ∙ sym (radial-same _ arrays (flag flags) _ same-buses same-branches (λ k l. refl) feeder-ends)
+          ∙ sym (radial-same _ (endsNet n) (flag flags) _ same-buses same-branches (λ k l. refl) feeder-ends)
 
       feeder-row-path : (a b : ℕ) → a < 256 → rowPath (feederGraph n) flags a b ≡ bfsPath (feeder (recordsOf n)) (flag flags) a b
       unfolding feederGraph
       feeder-row-path a b h =
           row-path-is-path _ _ (fromEnds n) (toEnds n) flags feeder-positions short a b h
-          ∙ sym (path-same _ arrays (flag flags) _ same-buses same-branches (λ k l. refl) feeder-ends a b)
+          ∙ sym (path-same _ (endsNet n) (flag flags) _ same-buses same-branches (λ k l. refl) feeder-ends a b)
 
       pub feeder-row-ends-path : (k : ℕ) → k < feeder (recordsOf n) .branches → rowEndsPath (feederGraph n) flags k ≡ endsPath (recordsOf n) (flag flags) k
       unfolding endsPath

@@ -3,10 +3,10 @@ use mathlib.Core.Path.{_≡_, sym, ap₂, _∙_}
 use lib.ListN.{length, length-map, length-take}
 use borrow.Author.Needs.{needs}
 use Rattle.network.proofs.ArrayLengths.{buses-256}
-use Rattle.radiality.specs.FeederRows.{listedIds, feederGraph}
+use Rattle.feeders.specs.FeederRows.{listedIds, feederGraph}
 use Rattle.graph.specs.Rows.{graphOf}
-use Rattle.radiality.proofs.feeder.graph_of.Statement.{statement}
-use Rattle.radiality.proofs.feeder.graph_of.Tie as tie
+use Rattle.feeders.proofs.feeder.graph_of.Statement.{statement}
+use Rattle.feeders.proofs.feeder.graph_of.Tie as tie
 
 cast-count : tie.Need-cast-count
 cast-count c = search needs

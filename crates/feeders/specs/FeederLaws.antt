@@ -2,31 +2,32 @@
 use mathlib.Core.Path.{_≡_}
 use mathlib.Core.Logic.{_↔_}
 use mathlib.Core.Bool.{true}
-use mathlib.Core.List.{List, map, List·Memᴰ}
+use mathlib.Core.List.{List}
 use Prim.Native.Nat.{ℕ, _≤_, _<_}
 use native.Mathlib.Omega.{arith}
-use lib.ListN.{length, length-map}
-use Rattle.numbers.specs.Choose.{indexOf}
+use lib.ListN.{length-map}
 use Rattle.numbers.specs.ChooseLaws.{index-found}
 use Rattle.network.specs.Records.{Network}
 use Rattle.network.specs.Answers.{accepted}
 use Rattle.network.specs.Limits.{busId}
 use Rattle.network.specs.Check.{checkRecords}
-use Rattle.network.specs.Inside.{Inside}
+use Rattle.network.specs.Inside.{Inside, HasBus}
 use Rattle.network.specs.InsideLaws.{check-inside}
 use Rattle.network.specs.Positions.{from-listed, to-listed}
 use Rattle.states.specs.Live.{live}
 use Rattle.graph.specs.Graph.{Sound, Tree}
-use Rattle.radiality.specs.Feeder.{position, feeder, LiveIn, radialIn}
+use Rattle.feeders.specs.Feeder.{position, feeder, LiveIn, radialIn}
 use Rattle.graph.specs.RadialLaws.{radial-tree}
+
+-- the position of a listed id is that of a bus
+pub position-listed : (N : Network) (id : ℕ) → HasBus N id → position N id < feeder N .buses
+unfolding feeder position
+position-listed N id m = omega (arith, index-found id _ m, length-map (N .buses) busId)
 
 module _ (N : Network) (inside : Inside N) where
   pub feeder-sound : Sound (feeder N)
-  unfolding feeder position
-  feeder-sound k l = (found _ (from-listed N inside k l), found _ (to-listed N inside k l))
-    where
-      found : (id : ℕ) → List·Memᴰ id (map busId (N .buses)) → indexOf id (map busId (N .buses)) < length (N .buses)
-      found id m = omega (arith, index-found id (map busId (N .buses)) m, length-map (N .buses) busId)
+  unfolding feeder
+  feeder-sound k l = (position-listed N _ (from-listed N inside k l), position-listed N _ (to-listed N inside k l))
 
   pub feeder-small : feeder N .buses ≤ 256
   unfolding feeder

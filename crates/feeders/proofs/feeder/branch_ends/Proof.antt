@@ -6,9 +6,9 @@ use native.Mathlib.Omega.{arith}
 use lib.ListN.{length}
 use borrow.Author.Needs.{needs}
 use Rattle.ids.specs.Ids.{rows, idRows}
-use Rattle.radiality.proofs.Resolving.{endsFilled, ends-start, end-resolved, ends-end}
-use Rattle.radiality.proofs.feeder.branch_ends.Statement.{statement}
-use Rattle.radiality.proofs.feeder.branch_ends.Tie as tie
+use Rattle.feeders.proofs.Resolving.{endsFilled, ends-start, end-resolved, ends-end}
+use Rattle.feeders.proofs.feeder.branch_ends.Statement.{statement}
+use Rattle.feeders.proofs.feeder.branch_ends.Tie as tie
 
 abbrev Inv-loop : tie.InvT-loop
 Inv-loop count ids first next n branches m from₀ to₀ k₀ from to k =

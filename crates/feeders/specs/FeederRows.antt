@@ -12,7 +12,8 @@ use Rattle.network.specs.Records.{Network, noBranch}
 use Rattle.network.specs.Limits.{busId}
 use Rattle.states.specs.Live.{live}
 use Rattle.graph.specs.declared.rows.Graph.{Graph}
-use Rattle.graph.specs.Rows.{graphOf}
+use Rattle.graph.specs.Graph.{Net}
+use Rattle.graph.specs.Rows.{netOf, graphOf}
 
 -- the ids of the listed buses, of at most 256
 abbrev pub listedIds : PowerNetwork → List ℕ
@@ -31,6 +32,10 @@ fromEnds n = endsOf (λ b. b .«from_bus») (listedIds n) (n .branches) (n .«br
 
 abbrev pub toEnds : PowerNetwork → List ℕ
 toEnds n = endsOf (λ b. b .«to_bus») (listedIds n) (n .branches) (n .«branch_count»)
+
+-- the net of these ends
+abbrev pub endsNet : PowerNetwork → Net
+endsNet n = netOf (n .«bus_count») (n .«branch_count») (fromEnds n) (toEnds n)
 
 unfoldable pub feederGraph : PowerNetwork → Graph
 feederGraph n = graphOf (n .«bus_count») (n .«branch_count») (fromEnds n) (toEnds n)

@@ -4,7 +4,7 @@ ghost use mathlib.Core.List.{List};
 ghost use Prim.Native.Nat.{ℕ, _≤_};
 ghost use lib.ListN.{length};
 ghost use Rattle.ids.specs.Ids.{rows, idRows};
-ghost use Rattle.radiality.specs.FeederRows.{endAt, endsOf, feederGraph};
+ghost use Rattle.feeders.specs.FeederRows.{endAt, endsOf, feederGraph};
 use graph::rows::Graph;
 use ids::rows::IdRows;
 use ids::rows::bus_rows;
