@@ -8,8 +8,8 @@ use Rattle.numbers.specs.TableLaws.{replicate-table, filled, filled-none, fille
 use Rattle.network.specs.ReadLaws.{bus-read}
 use Rattle.network.specs.Records.{noBus}
 use Rattle.losses.specs.ListLoss.{noPower}
-use Rattle.losses.proofs.evaluation.loads_at.Statement.{statement}
-use Rattle.losses.proofs.evaluation.loads_at.Tie as tie
+use Rattle.losses.proofs.loads.loads_at.Statement.{statement}
+use Rattle.losses.proofs.loads.loads_at.Tie as tie
 
 abbrev Inv-loop : tie.InvT-loop
 Inv-loop buses loads₀ i₀ loads i = (i ≤ 256) × (loads ≡ filled (λ j. getD buses j noBus .pd) noPower 256 i)
