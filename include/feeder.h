@@ -21,7 +21,7 @@
 extern "C" {
 #endif
 
-#define FEEDER_VERSION "0.3"
+#define FEEDER_VERSION "0.4"
 
 /* What a text may list, how many iterations its head may ask for, and how many of its switches may be normally open with method 02. */
 #define FEEDER_MAX_BUSES 256
@@ -30,8 +30,8 @@ extern "C" {
 #define FEEDER_MAX_ITERATIONS 1000
 #define FEEDER_MAX_TIES 10
 
-/* Bytes of the longest text that is accepted: the head, and every bus, branch and switch that there is room for, with their line feeds. */
-#define FEEDER_LONGEST_TEXT (37 + FEEDER_MAX_BUSES * 23 + FEEDER_MAX_BRANCHES * 29 + FEEDER_MAX_SWITCHES * 13)
+/* Bytes of the longest text that is accepted: the head, every bus, branch and switch that there is room for, and the supply, with their line feeds. */
+#define FEEDER_LONGEST_TEXT (37 + FEEDER_MAX_BUSES * 23 + FEEDER_MAX_BRANCHES * 29 + FEEDER_MAX_SWITCHES * 13 + 7)
 
 /* Records in bytes, for feeder_write_text: the frames of a text with a byte for two digits and no line feeds, one behind the other. A u16 has two bytes, a
  * double the eight of its bits, the most significant first.
@@ -40,16 +40,18 @@ extern "C" {
  *     02  id (u16), pd in MW (double)                                                                      each bus
  *     03  from, to (u16 each), r (double), status (byte)                                                   each branch
  *     04  id, branch position from 0 (u16 each), flags (byte)                                              each switch
+ *     05  id of a bus (u16)                                                                                the supply, last, where it is named
  *
- * Their text is each record in digits with its line feed. A record has as many bytes as its kind byte says; where the kind is none of the four, or fewer bytes
+ * Their text is each record in digits with its line feed. A record has as many bytes as its kind byte says; where the kind is none of the five, or fewer bytes
  * are left, all that is left is one line. So a wrong record is refused as its line would be. FEEDER_LONGEST_RECORDS make the longest text. */
 #define FEEDER_HEAD_BYTES 18
 #define FEEDER_BUS_BYTES 11
 #define FEEDER_BRANCH_BYTES 14
 #define FEEDER_SWITCH_BYTES 6
+#define FEEDER_SUPPLY_BYTES 3
 #define FEEDER_LONGEST_RECORDS                                                                                                             \
     (FEEDER_HEAD_BYTES + FEEDER_MAX_BUSES * FEEDER_BUS_BYTES + FEEDER_MAX_BRANCHES * FEEDER_BRANCH_BYTES                                   \
-     + FEEDER_MAX_SWITCHES * FEEDER_SWITCH_BYTES)
+     + FEEDER_MAX_SWITCHES * FEEDER_SWITCH_BYTES + FEEDER_SUPPLY_BYTES)
 
 /* Bytes of an 81, an 82 and an 83 line. */
 #define FEEDER_ANSWER_LENGTH 59
@@ -57,7 +59,7 @@ extern "C" {
 #define FEEDER_PAIR_LENGTH 11
 
 /* Bytes of out that are enough for every text and every state: for feeder_operations; for feeder_plan, as a plan has fewer pairs than there are
- * buses; for feeder_answer_text; for feeder_write_text (27429, the longest accepted text). FEEDER_MAX_SWITCHES are enough for feeder_base_state and
+ * buses; for feeder_answer_text; for feeder_write_text (27436, the longest accepted text). FEEDER_MAX_SWITCHES are enough for feeder_base_state and
  * feeder_solve. */
 #define FEEDER_OPERATIONS_LENGTH (FEEDER_MAX_SWITCHES * FEEDER_OPERATION_LENGTH)
 #define FEEDER_PLAN_LENGTH ((FEEDER_MAX_BUSES - 1) * FEEDER_PAIR_LENGTH)
@@ -67,34 +69,36 @@ extern "C" {
 /* Bytes of stack that each call needs, the same for three buses and for 256: measured to 64 bytes on a stack that ends at a page which faults
  * (tests/interface/stack.c, which fails where a call needs more), on what `rt staticlib controller` writes; tested, not proved. FEEDER_STACK is for a thread
  * that makes any of the calls: the greatest of them and a quarter, in whole pages. */
-#define FEEDER_RADIALITY_STACK 133760
-#define FEEDER_LOSS_STACK 131712
-#define FEEDER_PLAN_STACK 120448
-#define FEEDER_ANSWER_TEXT_STACK 194752
-#define FEEDER_BASE_STATE_STACK 136320
-#define FEEDER_SOLVE_STACK 169280
-#define FEEDER_OPERATIONS_STACK 120448
-#define FEEDER_WRITE_TEXT_STACK 147904
-#define FEEDER_STACK 245760
+#define FEEDER_RADIALITY_STACK 190336
+#define FEEDER_LOSS_STACK 199040
+#define FEEDER_PLAN_STACK 176960
+#define FEEDER_ANSWER_TEXT_STACK 202496
+#define FEEDER_BASE_STATE_STACK 192896
+#define FEEDER_SOLVE_STACK 177024
+#define FEEDER_OPERATIONS_STACK 176960
+#define FEEDER_WRITE_TEXT_STACK 204480
+#define FEEDER_STACK 258048
 
-/* The refusals, as docs/INTERFACE.md has them. The place of 1 to 9 is the text's line, from 1: the first faulty line is answered, and of its numbers the lowest (2 where it
- * is over 36 characters). The place of 10 and 11 is 0 for the present, first or only state and 1 for the wanted or second one; that of 12 is the
+/* The refusals, as docs/INTERFACE.md has them. The place of 1 to 9, 14 and 15 is the text's line, from 1: the first faulty line is answered, and of its numbers the lowest (2
+ * where it is over 36 characters). The place of 10 and 11 is 0 for the present, first or only state and 1 for the wanted or second one; that of 12 is the
  * switch's id, the first in list order; that of 13 is 0. A faulty text comes before 10, and 10 to 13 come in this order. Records in bytes are refused as their text
  * is, so with its line: the head's is 1, the first bus's 2. They are never refused with 1: their lines are ended and have two digits for a byte. */
 enum feeder_refusal {
-    FEEDER_BAD_CHARACTERS = 1, /* an unended line, an odd number of digits, another character */
-    FEEDER_BAD_LINE = 2,       /* a line of the wrong kind or length, missing or too many; any line over 36 characters */
-    FEEDER_NO_MEANING = 3,     /* a method, status or flags byte without a meaning, or more than FEEDER_MAX_ITERATIONS */
-    FEEDER_OVER_LIMIT = 4,     /* a count of the head over its limit */
-    FEEDER_OUT_OF_RANGE = 5,   /* a float outside its range, or not finite */
-    FEEDER_NOT_LISTED = 6,     /* a branch end that is not listed, or a branch position not below the count */
-    FEEDER_ID_TWICE = 7,       /* a bus id twice among the buses, or a switch id twice among the switches */
-    FEEDER_SECOND_SWITCH = 8,  /* a second switch on a branch */
-    FEEDER_TOO_MANY_TIES = 9,  /* more than FEEDER_MAX_TIES normally open switches with method 02 */
-    FEEDER_BAD_STATE = 10,     /* a state isn't one byte 0 or 1 for each switch */
-    FEEDER_NOT_RADIAL = 11,    /* a plan's state isn't radial */
-    FEEDER_LOCKED = 12,        /* the plan would move a locked switch */
-    FEEDER_NO_ROOM = 13        /* out is shorter than the answer */
+    FEEDER_BAD_CHARACTERS = 1,     /* an unended line, an odd number of digits, another character */
+    FEEDER_BAD_LINE = 2,           /* a line of the wrong kind or length, missing or too many; any line over 36 characters */
+    FEEDER_NO_MEANING = 3,         /* a method, status or flags byte without a meaning, or more than FEEDER_MAX_ITERATIONS */
+    FEEDER_OVER_LIMIT = 4,         /* a count of the head over its limit */
+    FEEDER_OUT_OF_RANGE = 5,       /* a float outside its range, or not finite */
+    FEEDER_NOT_LISTED = 6,         /* a branch end that is not listed, or a branch position not below the count */
+    FEEDER_ID_TWICE = 7,           /* a bus id twice among the buses, or a switch id twice among the switches */
+    FEEDER_SECOND_SWITCH = 8,      /* a second switch on a branch */
+    FEEDER_TOO_MANY_TIES = 9,      /* more than FEEDER_MAX_TIES normally open switches with method 02 */
+    FEEDER_BAD_STATE = 10,         /* a state isn't one byte 0 or 1 for each switch */
+    FEEDER_NOT_RADIAL = 11,        /* a plan's state isn't radial, or with a supply that of a loss */
+    FEEDER_LOCKED = 12,            /* the plan would move a locked switch */
+    FEEDER_NO_ROOM = 13,           /* out is shorter than the answer */
+    FEEDER_SUPPLY_NOT_LISTED = 14, /* the supply is the id of no bus that is listed */
+    FEEDER_BASE_NOT_RADIAL = 15    /* a supply is named, and the base isn't radial */
 };
 
 /* number 0: not refused, and value is what was asked for (place is 0). Else number is an enum feeder_refusal, place is its place, and value is 0. */
@@ -118,35 +122,36 @@ struct feeder_solved {
 
 /* A call that is lent out writes its bytes to the front of it; what is behind them stays. A refusal writes nothing. */
 
-/* Is the state radial? value is 1 or 0. Refusals 1 to 10. */
+/* Is the state radial? value is 1 or 0. Refusals 1 to 10, 14 and 15. */
 struct feeder_answer feeder_radiality(const uint8_t *text, size_t text_length, const uint8_t *state, size_t state_length);
 
-/* The loss of the state in MW, which need not be radial: value is the bits of a double. Refusals 1 to 10. */
+/* The loss of the state in MW: value is the bits of a double. Of a branch it counts the load on the side of its to bus, and the state need not be radial; where the text names
+ * the supply it counts the load on the side away from it, and a state that isn't radial is 11. Refusals 1 to 11, 14 and 15. */
 struct feeder_answer feeder_loss(const uint8_t *text, size_t text_length, const uint8_t *state, size_t state_length);
 
 /* The plan from the present state to the wanted one: value is the number of pairs. In out stands an 83 line for each pair, "83", id closed, id opened
- * (4 digits each) and a line feed. Refusals 1 to 13. */
+ * (4 digits each) and a line feed. Refusals 1 to 15. */
 struct feeder_answer feeder_plan(const uint8_t *text, size_t text_length, const uint8_t *present, size_t present_length,
                                  const uint8_t *wanted, size_t wanted_length, uint8_t *out, size_t out_length);
 
 /* What the program feeder prints for an accepted text: value is the number of bytes. In out stand the search's 81 line, an 82 line for each switch that
- * stands otherwise than in the base and, where the base is radial, the plan's 83 lines. Refusals 1 to 9 and 13. */
+ * stands otherwise than in the base and, where the base is radial, the plan's 83 lines. Refusals 1 to 9 and 13 to 15. */
 struct feeder_answer feeder_answer_text(const uint8_t *text, size_t text_length, uint8_t *out, size_t out_length);
 
 /* The base, in which exactly the normally open switches are open: value is the number of switches. In out stands a byte for each. Refusals 1 to 9
- * and 13. */
+ * and 13 to 15. */
 struct feeder_answer feeder_base_state(const uint8_t *text, size_t text_length, uint8_t *out, size_t out_length);
 
-/* The search that the text's head asks for. In out stands a byte for each switch: the best state. Refusals 1 to 9 and 13. */
+/* The search that the text's head asks for. In out stands a byte for each switch: the best state. Refusals 1 to 9 and 13 to 15. */
 struct feeder_solved feeder_solve(const uint8_t *text, size_t text_length, uint8_t *out, size_t out_length);
 
 /* The operations that lead from one state to another: value is their number. In out stands an 82 line for each, "82", switch id (4 digits), 00 to open or
  * 01 to close, and a line feed. They stand in the order of the switches, which is no order to switch in: that is the plan's. Refusals 1 to 10 and
- * 13. */
+ * 13 to 15. */
 struct feeder_answer feeder_operations(const uint8_t *text, size_t text_length, const uint8_t *from, size_t from_length, const uint8_t *to,
                                        size_t to_length, uint8_t *out, size_t out_length);
 
-/* The text of records in bytes: value is the number of its bytes. In out stands the text, for the other calls. Refusals 2 to 9 and 13. */
+/* The text of records in bytes: value is the number of its bytes. In out stands the text, for the other calls. Refusals 2 to 9 and 13 to 15. */
 struct feeder_answer feeder_write_text(const uint8_t *records, size_t records_length, uint8_t *out, size_t out_length);
 
 #ifdef __cplusplus

@@ -11,7 +11,8 @@ A text is a feeder in the frames of docs/INTERFACE.md, as bytes or str. A state 
 A state that is handed over is such a mapping, or the bytes of the calls (0 closed, 1 open, in the text's order). What is not acceptable is
 refused by the call itself, and raises Refused with the number and place that docs/INTERFACE.md has. python/example.py shows the rest.
 
-Who has no text has it made: `write_text(records(head, buses, branches, switches))`. examples/estate does so from a database.
+Who has no text has it made: `write_text(records(head, buses, branches, switches, supply))`, without the last where the text is to name no supply. examples/estate does so
+from a database.
 """
 
 import ctypes
@@ -38,7 +39,7 @@ Bus = namedtuple('Bus', 'id pd')
 Branch = namedtuple('Branch', 'from_bus to_bus r status')
 Switch = namedtuple('Switch', 'id branch normally_open can_operate')
 
-# document 01's words
+# the words of document 01; of 02 the second half of 11, 14 and 15
 CONDITIONS = {
     1: 'unended line, odd digits, another character',
     2: 'wrong kind or length, line missing or too many',
@@ -50,9 +51,11 @@ CONDITIONS = {
     8: 'second switch on a branch',
     9: 'eleventh normally open switch, method 02',
     10: "state isn't one byte 00 (closed) or 01 (open) for each switch",
-    11: "a plan's state isn't radial",
+    11: "a plan's state isn't radial, or with a supply that of a loss",
     12: "a differing live branch's switch is locked",
     13: 'lent slice shorter than the answer',
+    14: 'supply bus not listed',
+    15: 'a supply is named, and the base is not radial',
 }
 
 
@@ -67,7 +70,7 @@ class Refused(ValueError):
         return f'refused {self.number} at {self._where()}: {CONDITIONS[self.number]}' + (f' ({self.why})' if self.why else '')
 
     def _where(self):
-        if self.number <= 9:
+        if self.number <= 9 or self.number >= 14:
             return f'line {self.place}'
         if self.number <= 11:
             return 'the wanted state' if self.place else 'the present or only state'
@@ -75,8 +78,8 @@ class Refused(ValueError):
 
 
 class NoRoom(ValueError):
-    """A value for which its field in the records' bytes has no room: kind ('head', 'bus', 'branch' or 'switch'), position in its list from 0, field, value, and
-    what there is room for."""
+    """A value for which its field in the records' bytes has no room: kind ('head', 'bus', 'branch', 'switch' or 'supply'), position in its list from 0, field, value,
+    and what there is room for."""
 
     def __init__(self, kind, position, field, value, room):
         super().__init__(kind, position, field, value, room)
@@ -86,20 +89,23 @@ class NoRoom(ValueError):
         return f'{self.kind} at position {self.position}: {self.field} is {self.value!r}, which is no {self.room}'
 
 
-def records(head, buses, branches, switches):
-    """The records in bytes, for write_text; the head's counts are how many of each are handed over. What has no room in its field raises NoRoom; all
-    else is for the call to judge."""
+def records(head, buses, branches, switches, supply=None):
+    """The records in bytes, for write_text; the head's counts are how many of each are handed over. Supply is the id of the bus that feeds them, from which losses are then
+    counted away; None names none. What has no room in its field raises NoRoom; all else is for the call to judge."""
     lists = [list(each) for each in (buses, branches, switches)]
     counts = _packed('head', 0, ('buses', 'branches', 'switches'), 'HHH', map(len, lists))
     parts = [b'\1', counts, _packed('head', 0, Head._fields, 'dBH', Head(*head))]
     for (kind, byte, record, codes), each in zip(_KINDS, lists):
         for position, values in enumerate(each):
             parts += byte, _packed(kind, position, record._fields, codes, record(*values))
+    if supply is not None:
+        parts += b'\5', _packed('supply', 0, ['id'], 'H', [supply])
     return b''.join(parts)
 
 
 def write_text(records):
-    """The text of records in bytes. The place of a refusal is a line of it: the head's is 1, then come the buses, branches and switches in their order."""
+    """The text of records in bytes. The place of a refusal is a line of it: the head's is 1, then come the buses, branches and switches in their order, and
+    the supply."""
     answer, room = _lent(_library().feeder_write_text, bytes(iter(records)))
     return _checked(answer, room[:answer.value]).decode()
 
@@ -110,7 +116,7 @@ def radiality(text, state):
 
 
 def loss(text, state):
-    """The loss of the state in MW; it need not be radial."""
+    """The loss of the state in MW. It need not be radial where the text names no supply."""
     bits = _on_states(_library().feeder_loss, text, state).value
     return ctypes.c_double.from_buffer(ctypes.c_uint64(bits)).value
 

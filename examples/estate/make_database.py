@@ -5,14 +5,14 @@ import pathlib
 import sqlite3
 import sys
 
-HEAD = (10, 0, 100)
+HEAD = (10, 0, 100, 1)
 BUSES = [
     (1, 'intake substation', 0),
     (11, 'gate lodge', 0.05), (12, 'dairy', 0.4), (13, 'cold store', 0.3),
     (21, 'stables', 0.05), (22, 'grain store', 0.35), (23, 'dairy drying tower', 0.9),
     (31, 'manor house', 0.15), (32, 'greenhouses', 0.4), (33, 'saw mill', 0.5),
 ]
-# every cable leads away from the intake, the ties too
+# every cable leads away from the intake, the ties too: as the intake is named, they need not
 BRANCHES = [
     (101, 'dairy feeder 1', 1, 11, 0.01, 1), (102, 'dairy feeder 2', 11, 12, 0.01, 1), (103, 'dairy feeder 3', 12, 13, 0.012, 1),
     (201, 'farm feeder 1', 1, 21, 0.04, 1), (202, 'farm feeder 2', 21, 22, 0.05, 1), (203, 'farm feeder 3', 22, 23, 0.04, 1),

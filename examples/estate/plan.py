@@ -17,7 +17,9 @@ COLUMNS = {
     'branches': ('row', 'id', 'name', 'from_bus', 'to_bus', 'r', 'status'),
     'switches': ('row', 'id', 'name', 'branch', 'normally_open', 'can_operate'),
 }
-TABLE_OF = {'head': 'head', 'bus': 'buses', 'branch': 'branches', 'switch': 'switches'}
+# A column of the head that may be missing.
+SUPPLY = 'supply'
+TABLE_OF = {'head': 'head', 'bus': 'buses', 'branch': 'branches', 'switch': 'switches', 'supply': 'head'}
 
 # What a refusal of a table's row means.
 MEANINGS = {
@@ -33,6 +35,8 @@ MEANINGS = {
     ('switches', 7): 'a row before it has the same id',
     ('switches', 8): 'a row before it is on the same branch',
     ('switches', 9): 'it is the eleventh normally open switch, and method 2 takes ten',
+    (SUPPLY, 14): 'supply is the id of no bus',
+    (SUPPLY, 15): 'as the switches normally stand, a bus is not connected or there is a loop, and a supply is named',
 }
 
 
@@ -45,7 +49,14 @@ def read_tables(path):
     with closing(sqlite3.connect(pathlib.Path(path).resolve().as_uri() + '?mode=ro', uri=True, isolation_level=None)) as connection:
         connection.row_factory = sqlite3.Row
         connection.execute('BEGIN')
-        return {table: connection.execute(f'SELECT {", ".join(columns)} FROM {table} ORDER BY row').fetchall() for table, columns in COLUMNS.items()}
+        return {table: connection.execute(f'SELECT {", ".join((*columns, *optional(connection, table)))} FROM {table} ORDER BY row').fetchall()
+                for table, columns in COLUMNS.items()}
+
+
+def optional(connection, table):
+    """The columns that a table has beside those that it must have."""
+    there = [column['name'] for column in connection.execute(f'PRAGMA table_info({table})')]
+    return [SUPPLY] if table == 'head' and SUPPLY in there else []
 
 
 def shown(value):
@@ -53,7 +64,7 @@ def shown(value):
 
 
 def in_words(table, row):
-    return f'{table}, row {shown(row["row"])} ({", ".join(f"{column} {shown(row[column])}" for column in COLUMNS[table][1:])})'
+    return f'{table}, row {shown(row["row"])} ({", ".join(f"{column} {shown(row[column])}" for column in row.keys()[1:])})'
 
 
 def record_of(record, row):
@@ -90,8 +101,15 @@ def records_of(tables):
     if len(head) != 1:
         raise Fault(f'head: {len(head)} rows, and one is wanted')
     positions = positions_of(branches)
+    supply = head[0][SUPPLY] if SUPPLY in head[0].keys() else None
     return lugwefa.records(record_of(lugwefa.Head, head[0]), [record_of(lugwefa.Bus, row) for row in buses],
-                           [record_of(lugwefa.Branch, row) for row in branches], [switch_of(row, positions, len(branches)) for row in switches])
+                           [record_of(lugwefa.Branch, row) for row in branches], [switch_of(row, positions, len(branches)) for row in switches], supply)
+
+
+def rows_of(tables):
+    """The rows in the order of the text's lines, each with its table, in words; behind them the head again, for the supply's line."""
+    rows = [(table, in_words(table, row)) for table, rows in tables.items() for row in rows]
+    return rows + [(SUPPLY, rows[0][1])]
 
 
 def text_of(tables):
@@ -101,12 +119,12 @@ def text_of(tables):
     except lugwefa.NoRoom as error:
         if error.field in tables:
             raise Fault(f'{error.field}: {error.value} rows are too many')
-        table = TABLE_OF[error.kind]
-        raise Fault(f'{in_words(table, tables[table][error.position])}: {error.field} is {shown(error.value)}, which is no {error.room}')
+        table, column = TABLE_OF[error.kind], SUPPLY if error.kind == 'supply' else error.field
+        raise Fault(f'{in_words(table, tables[table][error.position])}: {column} is {shown(error.value)}, which is no {error.room}')
     except lugwefa.Refused as refused:
-        table, row = [(table, row) for table, rows in tables.items() for row in rows][refused.place - 1]
+        table, words = rows_of(tables)[refused.place - 1]
         meaning = MEANINGS.get((table, refused.number), lugwefa.CONDITIONS[refused.number])
-        raise Fault(f'{in_words(table, row)}: {meaning} (refusal {refused.number} at line {refused.place})')
+        raise Fault(f'{words}: {meaning} (refusal {refused.number} at line {refused.place})')
 
 
 def pairs_of(text, found):

@@ -6,7 +6,8 @@ CREATE TABLE head (             -- one row
     row INTEGER PRIMARY KEY,
     base_mva DECIMAL,           -- MVA
     method INTEGER,             -- 0 branch exchange, 1 tabu, 2 exhaustive
-    max_iterations INTEGER
+    max_iterations INTEGER,
+    supply INTEGER              -- id of the bus that feeds the estate; NULL, or no such column: losses are counted behind each cable's to_bus
 );
 
 CREATE TABLE buses (
@@ -16,7 +17,7 @@ CREATE TABLE buses (
     pd DECIMAL                  -- load in MW
 );
 
-CREATE TABLE branches (         -- cables: from_bus is the end at the supply's side
+CREATE TABLE branches (         -- cables; where the head names no supply, from_bus must be the end towards it
     row INTEGER PRIMARY KEY,
     id INTEGER,                 -- the cable's own number, for the switches
     name TEXT,

@@ -5,7 +5,7 @@ usage: tests/cases/call_cases.py
 
 Each case of stdin is a line 'LENGTH NAME', a frame text, a line feed, and three lines: the letters CALL and CHANGE with a blank and PRESENT, then
 WANTED, then SLICE (crates/call_cases/src/calls.rt). Each case of stdout is 'NAME FIELDS [SLICE]' or 'NAME refused NUMBER PLACE [SLICE]', with
-the slice as the call leaves it; call S is two calls without a slice. Every answer is written by hand from document 01, and tests/oracle/self-test
+the slice as the call leaves it; call S is two calls without a slice. Every answer is written by hand from documents 01 and 02, and tests/oracle/self-test
 holds them against the original Rust.
 """
 import os
@@ -21,16 +21,20 @@ def bits(x):
 
 
 class Feeder:
-    """Loads of buses 1, 2, ..; branches (from, to, r); switches (id, branch position, flags)."""
+    """Loads of buses 1, 2, ..; branches (from, to, r); switches (id, branch position, flags); the id of the supply, where there is one."""
 
-    def __init__(self, loads, branches, switches):
-        self.loads, self.branches, self.switches = loads, branches, switches
+    def __init__(self, loads, branches, switches, supply=None):
+        self.loads, self.branches, self.switches, self.supply = loads, branches, switches, supply
+
+    def fed(self, supply):
+        return Feeder(self.loads, self.branches, self.switches, supply)
 
     def text(self, method=EXCHANGE, iterations=100):
         lines = ['01%04X%04X%04X%016X%02X%04X' % (len(self.loads), len(self.branches), len(self.switches), bits(1.0), method, iterations)]
         lines += ['02%04X%016X' % (i + 1, bits(load)) for i, load in enumerate(self.loads)]
         lines += ['03%04X%04X%016X01' % (a, b, bits(r)) for a, b, r in self.branches]
         lines += ['04%04X%04X%02X' % switch for switch in self.switches]
+        lines += ['05%04X' % self.supply] if self.supply is not None else []
         return ''.join(line + '\n' for line in lines)
 
 
@@ -43,6 +47,8 @@ OWN_LOOP = Feeder([3.0], [(1, 1, 0.5)], [])
 TWO_BUSES = Feeder([0.0, 2.0], [(1, 2, 0.25)], [])
 TIE_ONLY = Feeder([0.0, 2.0], [(1, 2, 0.25)], [(7, 0, 3)])
 PARALLEL = Feeder([0.0, 2.0], [(1, 2, 0.25), (1, 2, 0.5)], [(7, 1, 2)])
+# MODEL's ring, drawn one way round, on a base of 1 MVA
+RING = Feeder([0.0, 2.0, 3.0, 1.0, 2.0], [(1, 2, 0.25), (2, 3, 0.25), (3, 4, 0.25), (4, 5, 0.25), (5, 1, 0.25)], [(10 + k, k, 3 if k == 2 else 2) for k in range(5)])
 # ids fall, and every second switch is a locked tie
 LARGEST = Feeder([0.0], [(1, 1, 0.0)] * 512, [(1000 - i, i, i % 2) for i in range(512)])
 
@@ -75,9 +81,9 @@ def state(name, feeder, bytes_, radial, loss):
     case('S', 'state-' + name, feeder.text(), '%02x %016x' % (radial, bits(loss)), present=bytes_)
 
 
-def plan(name, present, wanted, room, known):
+def plan(name, present, wanted, room, known, feeder=TRIANGLE, method=EXCHANGE):
     lines = ''.join('83%04X%04X\n' % pair for pair in known)
-    slice_case('P', 'plan-' + name, TRIANGLE.text(), room, '%04x' % len(known), lines, present=present, wanted=wanted)
+    slice_case('P', 'plan-' + name, feeder.text(method), room, '%04x' % len(known), lines, present=present, wanted=wanted)
 
 
 def best_states():
@@ -180,6 +186,59 @@ def written_texts():
     slice_case('T', 'text-of-no-text', '0G\n', 219, refused(1, 1), '')
 
 
+def searches_with_supply():
+    """Each method counts the loads away from the supply, whichever way a branch was drawn, and the plan to its best state is that of the text without the line."""
+    for drawing, feeder in [('triangle', TRIANGLE), ('turned', TURNED)]:
+        fed = feeder.fed(1)
+        best(drawing + '-supply-1-exchange', fed, 2, 1, 4.0, 1.0, 2, 1, '10')
+        best(drawing + '-supply-1-exchange-1-round', fed, 3, 1, 4.0, 1.0, 1, 0, '10', iterations=1)
+        best(drawing + '-supply-1-tabu', fed, 2, 1, 4.0, 4.0, 100, 1, '01', TABU)
+        best(drawing + '-supply-1-exhaustive', fed, 2, 1, 4.0, 4.0, 1, 1, '01', EXHAUSTIVE)
+        for method in (EXCHANGE, TABU, EXHAUSTIVE):
+            plan('%s-supply-1-method-%d' % (drawing, method), '01', '10', 11, [(11, 10)], fed, method)
+            plan('%s-supply-1-method-%d-none' % (drawing, method), '01', '01', 3, [], fed, method)
+        operations(drawing + '-supply-1', fed, '01', '10', 18, [(10, 0), (11, 1)])
+        # at bus 2 and at bus 3 both radial states lose the same
+        for supply, loss in [(2, 1.75), (3, 0.4375)]:
+            for method, rounds in [(EXCHANGE, 1), (TABU, 100), (EXHAUSTIVE, 1)]:
+                best('%s-supply-%d-method-%d' % (drawing, supply, method), feeder.fed(supply), 2, 1, loss, loss, rounds, 1, '01', method)
+    # 25 + 9 + 1 + 9 quarters; without the line the exchange opens switch 11
+    for method, rounds in [(EXCHANGE, 1), (TABU, 100), (EXHAUSTIVE, 1)]:
+        best('ring-supply-1-method-%d' % method, RING.fed(1), 5, 1, 11.0, 11.0, rounds, 1, '00100', method)
+    best('ring', RING, 5, 1, 27.0, 12.25, 2, 1, '01000')
+    # 25 + 9 + 49 + 25 quarters and, with 11 opened in place of 12, 4 + 9 + 16 + 4; with 10 in place of 11 as much
+    best('ring-supply-4', RING.fed(4), 5, 1, 27.0, 8.25, 2, 1, '01000')
+    plan('ring-supply-4', '00100', '01000', 11, [(12, 11)], RING.fed(4))
+    for method, rounds in [(EXCHANGE, 1), (TABU, 100), (EXHAUSTIVE, 1)]:
+        best('only-bus-supply-method-%d' % method, ONE_BUS.fed(1), 0, 1, 0.0, 0.0, rounds, 1, '', method)
+        best('two-buses-supply-2-method-%d' % method, TWO_BUSES.fed(2), 0, 1, 0.0, 0.0, rounds, 1, '', method)
+
+
+def calls_with_supply():
+    """With the line a loss is refused 11 on a state that is not radial; every other call answers as without it, but for the network's 14 and 15."""
+    for supply, losses in [(1, (4.0, 1.0)), (2, (1.75, 1.75)), (3, (0.4375, 0.4375))]:
+        for bytes_, loss in zip(('01', '10'), losses):
+            state('supply-%d-%s' % (supply, bytes_), TRIANGLE.fed(supply), bytes_, 1, loss)
+            state('turned-supply-%d-%s' % (supply, bytes_), TURNED.fed(supply), bytes_, 1, loss)
+    fed = TRIANGLE.fed(1)
+    for bytes_ in ('00', '11'):
+        case('S', 'state-supply-%s' % bytes_, fed.text(), '00 ' + refused(11, 0), present=bytes_)
+    for bytes_ in ('', '0', '000', '02'):
+        case('S', 'state-supply-malformed-%s' % bytes_, fed.text(), refused(10, 0) + ' ' + refused(10, 0), present=bytes_)
+    operations('supply-not-radial', fed, '00', '11', 18, [(10, 0), (11, 0)])
+    slice_case('P', 'plan-supply-not-radial', fed.text(), 11, refused(11, 1), '', present='01', wanted='00')
+    slice_case('T', 'text-supply', fed.text(), 230, '%04x' % 226, fed.text())
+    slice_case('T', 'text-supply-one-byte-short', fed.text(), 225, refused(13, 0), '')
+    for change, fault in [('I', (3, 1)), ('U', (6, 5)), ('W', (4, 1))]:
+        for call in 'BOT':
+            slice_case(call, 'supply-change-%s-%s' % (change, call), fed.text(), 226, refused(*fault), '', present='01', wanted='10', change=change)
+    for name, feeder, fault in [('not-listed', TRIANGLE.fed(9), (14, 10)), ('on-a-loop', OWN_LOOP.fed(1), (15, 4)), ('cut-off', TIE_ONLY.fed(1), (15, 6)),
+                                ('of-no-buses', NO_BUSES.fed(1), (14, 2)), ('not-listed-on-a-loop', OWN_LOOP.fed(3), (14, 4))]:
+        case('S', 'state-supply-' + name, feeder.text(), refused(*fault) + ' ' + refused(*fault), present='2')
+        for call in 'BOPT':
+            slice_case(call, 'supply-%s-%s' % (name, call), feeder.text(), 11, refused(*fault), '', present='2', wanted='2')
+
+
 def largest():
     best('512-switches', LARGEST, 512, 0, 0.0, 0.0, 1, 1, '01' * 256)
     slice_case('B', 'best-512-switches-one-byte-short', LARGEST.text(), 511, refused(13, 0), '')
@@ -188,7 +247,7 @@ def largest():
 
 
 def main():
-    for make in (best_states, moved_bytes, listed_operations, refused_states, network_refusals, states_and_plans, written_texts, largest):
+    for make in (best_states, moved_bytes, listed_operations, refused_states, network_refusals, states_and_plans, written_texts, searches_with_supply, calls_with_supply, largest):
         make()
     names = [name for name, _, _ in cases]
     assert len(names) == len(set(names)), 'a name stands twice'

@@ -4,8 +4,9 @@
 usage: tests/cases/loss_cases.py
 
 Each case of stdin is a line 'LENGTH NAME', a frame text, a line feed, and a line 'CHANGE STATE' (crates/loss_cases/src/main.rt). Each line
-of stdout is 'NAME BITS' or 'NAME NUMBER PLACE'. The refusals and the marked losses are written by hand from document 01; the others are
-reckoned here with floats that round each operation once, by document 01's section Loss.
+of stdout is 'NAME BITS' or 'NAME NUMBER PLACE'. The refusals and the marked losses are written by hand from documents 01 and 02; the others are
+reckoned here with floats that round each operation once, by document 01's section Loss. With a supply the side of a branch that counts is found by
+labels, and each way of WRONG to take that loss must fail on a case.
 """
 import os
 import random
@@ -13,57 +14,117 @@ import struct
 from fractions import Fraction
 
 ROOT = os.path.join(os.path.dirname(os.path.abspath(__file__)), '..', '..', 'crates', 'loss_cases')
-CHANGES = {'iterations 1001': 'A', 'switch 10 a tie': 'F', '': '-'}
-cases = []
+CHANGES = {'iterations 1001': 'A', 'switch 10 a tie': 'F', 'no supply': 'W', '': '-'}
+# With a supply: the to side, as without one; the side that holds the supply; the bus at the position that the id is; what each branch of a bus brings added to its own load, up the
+# tree; each branch followed to its end first; neighbours by falling branch position.
+WRONG = 'to side', 'supply side', 'id as position', 'up the tree', 'depth first', 'by falling position'
+cases, told_apart = [], set()
 
 
 def bits(x):
     return struct.unpack('>Q', struct.pack('>d', x))[0]
 
 
-def text(feeder, method=0, ties=0):
-    """The switches have the ids from 10 on; the first so many are ties."""
+def text(feeder, method=0, ties=0, supply=None):
+    """The switches have the ids from 10 on; the first so many are ties, or those at the positions that are given."""
     loads, branches, switches, base = feeder
+    ties = range(ties) if isinstance(ties, int) else ties
     lines = ['01%04X%04X%04X%016X%02X0064' % (len(loads), len(branches), len(switches), bits(base), method)]
     lines += ['02%04X%016X' % (i + 1, bits(pd)) for i, pd in enumerate(loads)]
     lines += ['03%04X%04X%016X%02X' % (a, b, bits(r), status) for a, b, r, status in branches]
-    lines += ['04%04X%04X%02X' % (10 + i, on, 3 if i < ties else 2) for i, on in enumerate(switches)]
+    lines += ['04%04X%04X%02X' % (10 + i, on, 3 if i in ties else 2) for i, on in enumerate(switches)]
+    lines += ['05%04X' % supply] if supply is not None else []
     return ''.join(line + '\n' for line in lines).encode()
 
 
-def load_of(loads, branches, live, start, barred):
-    """The loads on the to side, added in breadth-first order; neighbours come by rising branch position."""
-    order, seen = [start], {start, barred}
-    for u in order:
-        for k in live:
-            a, b = branches[k][:2]
-            for here, there in ((a, b), (b, a)):
-                if here == u and there not in seen:
-                    seen.add(there)
-                    order.append(there)
-    load = 0.0
-    for u in order:
+def load_of(loads, branches, live, start, barred, wrong=''):
+    """The loads on the side of the start, added in breadth-first order; neighbours come by rising branch position."""
+    beside = {}
+    for k in reversed(live) if wrong == 'by falling position' else live:
+        a, b = branches[k][:2]
+        beside.setdefault(a, []).append(b)
+        beside.setdefault(b, []).append(a)
+    left, seen, load = [start], {start, barred}, 0.0
+    while left:
+        u = left.pop(0)
         load += loads[u - 1]
+        found = [v for v in dict.fromkeys(beside.get(u, [])) if v not in seen]
+        seen.update(found)
+        left = found + left if wrong == 'depth first' else left + found
     return load
 
 
-def loss(feeder, state, fused=False):
-    loads, branches, switches, base = feeder
+def up_the_tree(loads, branches, live, start, barred):
+    """The bus's load and what each of its branches but the barred bus's brings: another sum of the same loads."""
+    load = loads[start - 1]
+    for k in live:
+        a, b = branches[k][:2]
+        if start in (a, b) and barred not in (a, b):
+            load += up_the_tree(loads, branches, live, a + b - start, start)
+    return load
+
+
+def labels(count, branches, live):
+    """Buses that live branches join have one label."""
+    label, same = list(range(count + 1)), [[bus] for bus in range(count + 1)]
+    for k in live:
+        a, b = (label[end] for end in branches[k][:2])
+        if a != b:
+            for bus in same[b]:
+                label[bus] = a
+            same[a] += same[b]
+    return label
+
+
+def ends_of(feeder, live, k, supply, wrong):
+    """Where the walk begins, and the bus that it never enters."""
+    a, b = feeder[1][k][:2]
+    if supply is None or wrong == 'to side':
+        return b, a
+    label = labels(len(feeder[0]), feeder[1], [j for j in live if j != k])
+    source = min(supply + 1, len(feeder[0])) if wrong == 'id as position' else supply
+    assert (label[a] == label[source]) != (label[b] == label[source]), 'one end is away from the supply, one is not'
+    return (b, a) if (label[a] == label[source]) != (wrong == 'supply side') else (a, b)
+
+
+def live_in(feeder, state):
+    _, branches, switches, _ = feeder
     opened = {on for on, byte in zip(switches, state) if byte == '1'}
-    live = [k for k, b in enumerate(branches) if b[3] == 1 and k not in opened]
+    return [k for k, b in enumerate(branches) if b[3] == 1 and k not in opened]
+
+
+def is_radial(feeder, live):
+    joined = labels(len(feeder[0]), feeder[1], live)
+    return not feeder[0] or len(live) == len(feeder[0]) - 1 and len(set(joined[1:])) == 1
+
+
+def loss(feeder, state, fused=False, supply=None, wrong=''):
+    loads, branches, switches, base = feeder
+    live = live_in(feeder, state)
     total = 0.0
     for k in live if loads else []:
-        a, b, r, _ = branches[k]
-        p = load_of(loads, branches, live, b, a) / base
-        term = (r * p) * p
+        ends = ends_of(feeder, live, k, supply, wrong)
+        load = up_the_tree(loads, branches, live, *ends) if wrong == 'up the tree' else load_of(loads, branches, live, *ends, wrong)
+        p = load / base
+        term = (branches[k][2] * p) * p
         total = float(Fraction(term) * Fraction(base) + Fraction(total)) if fused else total + term * base
     return total
 
 
 def case(name, feeder, state, known=None, change='', **head):
-    answer = loss(feeder, state)
+    supply = head.get('supply')
+    answer = loss(feeder, state, supply=supply)
     assert known is None or answer == known, name
+    if supply is not None:
+        assert is_radial(feeder, live_in(feeder, state)), name
+        told_apart.update(wrong for wrong in set(WRONG) - told_apart if bits(loss(feeder, state, supply=supply, wrong=wrong)) != bits(answer))
     cases.append((name, text(feeder, **head), CHANGES[change], state, '%016x' % bits(answer if known is None else known)))
+
+
+def unsupplied(name, feeder, state, known, **head):
+    """Read with a supply's line; the records then say that there is none, and the number beside that decides nothing."""
+    assert loss(feeder, state) == known != loss(feeder, state, supply=head['supply']), name
+    cases.append((name, text(feeder, **head), CHANGES['no supply'], state, '%016x' % bits(known)))
 
 
 def refusal(name, feeder, state, answer, change='', **head):
@@ -130,16 +191,103 @@ def drawn():
         case('drawn-%d' % i, feeder, ''.join(draw.choice('01') for _ in switches))
 
 
+def with_supply():
+    """The triangle, and that with branch 0 turned, at every bus. A branch counts once, from whichever side it was drawn."""
+    for drawing, feeder in [('triangle', TRIANGLE), ('turned', TURNED)]:
+        for supply, base, exchanged in [(1, 4.0, 1.0), (2, 1.75, 1.75), (3, 0.4375, 0.4375)]:
+            case('%s-supply-%d-base' % (drawing, supply), feeder, '01', base, ties=[1], supply=supply)
+            case('%s-supply-%d-exchanged' % (drawing, supply), feeder, '10', exchanged, ties=[1], supply=supply)
+    case('one-bus-supply', ([3.0], [], [], 1.0), '', 0.0, supply=1)
+    case('one-bus-own-loop-open-supply', ([3.0], [(1, 1, 0.1, 1)], [0], 1.0), '1', 0.0, ties=1, supply=1)
+    case('one-bus-own-loop-out-of-service-supply', ([3.0], [(1, 1, 0.1, 0)], [0], 1.0), '0', 0.0, supply=1)
+    case('two-buses-supply-1', ([5.0, -3.0], [(2, 1, 0.5, 1)], [], 1.0), '', 4.5, supply=1)
+    case('two-buses-supply-2', ([5.0, -3.0], [(2, 1, 0.5, 1)], [], 1.0), '', 12.5, supply=2)
+    # minus zeros, of which the walk's own 0.0 makes a zero; loads that cancel out
+    zeros = ([-0.0, -0.0, -0.0], [(2, 1, 0.5, 1), (3, 2, 0.5, 1)], [], 1.0)
+    cancelling = ([1.0, -2.0, 2.0, -1.0], [(2, 1, 0.25, 1), (3, 2, 0.25, 1), (3, 4, -0.0, 1)], [], 0.001)
+    for supply in (1, 2, 3):
+        case('minus-zeros-supply-%d' % supply, zeros, '', 0.0, supply=supply)
+        case('cancelling-loads-supply-%d' % supply, cancelling, '', supply=supply)
+
+
+def refused_with_supply():
+    """The network, 10, then 11 of a state that is not radial; without the line such a state has a loss."""
+    for name, state, without in [('all-closed', '00', 5.6875), ('both-open', '11', 0.25)]:
+        case('without-the-line-' + name, TRIANGLE, state, without, ties=[1])
+        refusal('with-the-line-' + name, TRIANGLE, state, (11, 0), ties=[1], supply=2)
+    for state in ('', '0', '000', '111', '20', 'F0'):
+        refusal('with-the-line-state-%s' % (state or 'empty'), TRIANGLE, state, (10, 0), ties=[1], supply=1)
+    unsupplied('turned-supply-taken-away', TURNED, '01', 1.75, ties=[1], supply=3)
+    unsupplied('exchanged-supply-taken-away', TRIANGLE, '10', 1.0, ties=[1], supply=3)
+    refusal('own-loop-closed-supply', ([3.0], [(1, 1, 0.1, 1)], [0], 1.0), '0', (11, 0), ties=1, supply=1)
+    loop_apart = ([0.0, 1.0, 1.0, 1.0], [(1, 2, 1.0, 1), (2, 3, 1.0, 1), (3, 4, 1.0, 1), (4, 2, 1.0, 1)], [0, 3], 1.0)
+    refusal('as-many-branches-as-a-tree-has-supply', loop_apart, '10', (11, 0), ties=[1], supply=1)
+    refusal('iterations-1001-not-radial-supply', TRIANGLE, '00', (3, 1), 'iterations 1001', ties=[1], supply=1)
+    beside, state = ([0.0, 1.0], [(1, 2, 0.5, 1)] * 11, list(range(11)), 1.0), '1' * 10 + '0'
+    case('ten-ties-supply', beside, state, 0.5, ties=10, supply=1)
+    # the records get a base without a live branch
+    refusal('records-eleven-ties-supply', beside, state, (15, 26), 'switch 10 a tie', ties=10, supply=1)
+    refusal('records-eleven-ties-supply-state-02', beside, '2', (15, 26), 'switch 10 a tie', ties=10, supply=1)
+    refusal('records-eleven-ties-supply-exhaustive', beside, state, (9, 25), 'switch 10 a tie', method=2, ties=10, supply=1)
+
+
+def tree(draw, n, load):
+    """Each bus behind the first joined to one before it, drawn either way, in any order."""
+    ends = [draw.sample((i, draw.randrange(max(1, i - 3), i)), 2) for i in range(2, n + 1)]
+    draw.shuffle(ends)
+    return [load() for _ in range(n)], [(a, b, draw.uniform(0, 1), 1) for a, b in ends], [], draw.uniform(1, 9)
+
+
+def other_bits():
+    """Trees on which the loads added up the tree, each branch's sum to its bus's own load, give other bits: three are kept. And one for each other order."""
+    draw = random.Random(18)
+    for wrong, number in [('up the tree', 1), ('up the tree', 2), ('up the tree', 3), ('depth first', 1), ('by falling position', 1)]:
+        answers = ()
+        while len(set(answers)) < 3:
+            feeder, supply = tree(draw, 5, lambda: draw.uniform(0, 9)), draw.randint(1, 5)
+            answers = [bits(loss(feeder, '', supply=supply, wrong=way)) for way in ('', wrong, 'to side')]
+        case('%s-would-differ-%d' % (wrong.replace(' ', '-'), number), feeder, '', supply=supply)
+
+
+def at_every_bus():
+    """A meshed feeder of seven buses, loads of either sign, in two radial states at every bus as the supply."""
+    draw = random.Random(19)
+    loads, branches, _, base = tree(draw, 7, lambda: draw.uniform(-1e6, 1e6))
+    meshed = (loads, branches + [(1, 7, 0.3, 1), (6, 2, 0.7, 1), (4, 5, 0.5, 0)], [6, 0, 7, 8], base)
+    states = [state for state in ('1010', '1011', '0110', '0111', '1100', '1101') if is_radial(meshed, live_in(meshed, state))]
+    for supply in range(1, 8):
+        for state in ('1010', states[-1]):
+            case('every-bus-%d-%s' % (supply, state), meshed, state, ties=[0, 2], supply=supply)
+
+
+def chains():
+    """256 buses in a row, each branch drawn either way: fed at the end that comes last, and in the middle."""
+    draw = random.Random(20)
+    ends = [draw.sample((i, i + 1), 2) for i in range(1, 256)]
+    row = [draw.uniform(-9, 9) for _ in range(256)], [(a, b, draw.random(), 1) for a, b in ends], [], 10.0
+    for name, supply in [('at-a-leaf', 256), ('in-the-middle', 128)]:
+        case('chain-of-256-supply-' + name, row, '', supply=supply)
+
+
+def drawn_with_supply():
+    """Trees of up to 12 buses, fed anywhere."""
+    draw = random.Random(21)
+    for i in range(16):
+        n = draw.randint(2, 12)
+        case('drawn-supply-%d' % i, tree(draw, n, lambda: draw.uniform(-1e6, 1e6)), '', supply=draw.randint(1, n))
+
+
 def main():
-    for make in (marked, faulty_records, ranges, fused, drawn):
+    for make in (marked, faulty_records, ranges, fused, drawn, with_supply, refused_with_supply, other_bits, at_every_bus, chains, drawn_with_supply):
         make()
+    assert told_apart == set(WRONG), set(WRONG) - told_apart
     names = [case[0] for case in cases]
     assert len(names) == len(set(names)), 'a name stands twice'
     os.makedirs(ROOT, exist_ok=True)
     with open(os.path.join(ROOT, 'stdin'), 'wb') as out:
         for name, data, change, state, _ in cases:
             out.write(b'%d %s\n' % (len(data), name.encode()) + data + b'\n' + ('%s %s\n' % (change, state)).encode())
-        assert out.tell() <= 131072, 'the program has no room for the cases'
+        assert out.tell() <= 147456, 'the program has no room for the cases'
     with open(os.path.join(ROOT, 'stdout'), 'w') as out:
         for name, _, _, _, answer in cases:
             out.write('%s %s\n' % (name, answer))

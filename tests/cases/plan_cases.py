@@ -7,7 +7,7 @@ Each case of stdin is a line 'LENGTH NAME', a frame text, a line feed, and three
 letter for a change of the records once they are read (see CHANGES), a hyphen for none; PRESENT and WANTED have a digit for each byte of
 the states, SLICE a dot for each byte of the lent slice. The cases of a feeder stand together, and only the first has the text. Each case
 of stdout is 'NAME PAIRS [SLICE]' or 'NAME refused NUMBER PLACE [SLICE]', with the slice as the call leaves it. The answers of the named
-cases are written by hand from document 01, and those of the drawn ones reckoned from its sections State, Refusals and Plan; both must
+cases are written by hand from documents 01 and 02, and those of the drawn ones reckoned from 01's sections State, Refusals and Plan; both must
 agree on the named ones, and each planner of WRONG must fail on one. Where there is a plan, the one back is a case too. Every plan that
 stdout shows is judged: its pairs are carried out and undone, and each stopping point is held to demand 3 by labels.
 """
@@ -23,10 +23,10 @@ cases, told_apart = [], set()
 
 
 class Feeder:
-    """Ids of buses; branches (from, to, status); switches (id, branch position, flags)."""
+    """Ids of buses; branches (from, to, status); switches (id, branch position, flags); the id of the supply bus, where there is one."""
 
-    def __init__(self, buses, branches, switches, resistances=None, loads=None, method=0):
-        self.buses, self.branches, self.switches, self.method = buses, branches, switches, method
+    def __init__(self, buses, branches, switches, resistances=None, loads=None, method=0, supply=None):
+        self.buses, self.branches, self.switches, self.method, self.supply = buses, branches, switches, method, supply
         self.resistances = resistances or [0x3FF0000000000000] * len(branches)
         self.loads = loads or [0] * len(buses)
 
@@ -35,6 +35,7 @@ class Feeder:
         lines += ['02%04X%016X' % bus for bus in zip(self.buses, self.loads)]
         lines += ['03%04X%04X%016X%02X' % (a, b, r, status) for (a, b, status), r in zip(self.branches, self.resistances)]
         lines += ['04%04X%04X%02X' % switch for switch in self.switches]
+        lines += ['05%04X' % self.supply] if self.supply is not None else []
         return ''.join(line + '\n' for line in lines).encode()
 
     def live(self, state):
@@ -99,6 +100,9 @@ def answer(feeder, change, present, wanted, room):
         return 3, 1
     if feeder.method == 2 and len(ties) > 10:
         return 9, 2 + len(feeder.buses) + len(feeder.branches) + ties[10]
+    base = ''.join('01'[i in ties] for i in range(len(feeder.switches)))
+    if feeder.supply is not None and not feeder.is_radial(feeder.live(base)):
+        return 15, 2 + len(feeder.buses) + len(feeder.branches) + len(feeder.switches)
     states = (0, present), (1, wanted)
     for place, state in states:
         if len(state) != len(feeder.switches) or set(state) - {'0', '1'}:
@@ -228,6 +232,28 @@ def locked_switches():
             case(name + '-empty', feeder, present + '01', wanted + '01', 0, [])
 
 
+def supplies():
+    """Document 02's last line is looked at in the network's test alone: the plan is that of the text without it."""
+    for supply in (1, 2, 3):
+        fed = Feeder(TRIANGLE.buses, TRIANGLE.branches, TRIANGLE.switches, TRIANGLE.resistances, TRIANGLE.loads, supply=supply)
+        case('supply-%d' % supply, fed, '01', '10', 11, [(11, 10)])
+        case('supply-%d-one-byte-short' % supply, fed, '01', '10', 10, (13, 0))
+        case('supply-%d-present-all-closed' % supply, fed, '00', '10', 11, (11, 0))
+        case('supply-%d-wanted-both-open' % supply, fed, '01', '11', 11, (11, 1))
+        case('supply-%d-wanted-short' % supply, fed, '00', '1', 11, (10, 1))
+        case('supply-%d-iterations-1001' % supply, fed, '01', '10', 11, (3, 1), 'iterations 1001')
+    tied = [(100 + k, k, 3 if k > 2 else 2) for k in range(5)]
+    for supply in (1, 4):
+        between('supply-%d-two-pairs' % supply, Feeder([1, 2, 3, 4], CHAIN + BESIDE, tied, supply=supply), {0, 1, 2}, {1, 3, 4}, [(103, 100), (104, 102)])
+    # by records: the base has no live branch once its eleventh switch is a tie
+    present, wanted = '0' + '1' * 10, '1' * 10 + '0'
+    for method, known in [(0, (15, 26)), (1, (15, 26)), (2, (9, 25))]:
+        fed = Feeder([1, 2], [(1, 2, 1)] * 11, [(1 + i, i, 3 if i < 10 else 2) for i in range(11)], method=method, supply=1)
+        case('supply-ten-ties-method-%d' % method, fed, present, wanted, 11, [(11, 1)])
+        case('supply-eleven-ties-method-%d' % method, fed, present, wanted, 11, known, 'switch 10 a tie')
+        case('supply-eleven-ties-states-02-method-%d' % method, fed, '2', '2', 0, known, 'switch 10 a tie')
+
+
 def drawn(name, draw, n, share):
     """A feeder of n buses and two radial states of it, of which the second keeps at least a share of the first one's branches."""
     buses = draw.sample(range(65536), n)
@@ -344,7 +370,7 @@ def judge_all(shown):
 
 
 def main():
-    for make in (slices, orders, network_refusals, refusals, locked_switches, full_size):
+    for make in (slices, orders, network_refusals, refusals, locked_switches, supplies, full_size):
         make()
     named = len(cases)
     assert told_apart == set(WRONG), set(WRONG) - told_apart

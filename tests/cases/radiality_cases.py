@@ -1,12 +1,12 @@
 #!/usr/bin/env python3
-"""Writes crates/radiality_cases/stdin and stdout: feeders, states, and what document 01 says of their radiality.
+"""Writes crates/radiality_cases/stdin and stdout: feeders, states, and what documents 01 and 02 say of their radiality.
 
 usage: tests/cases/radiality_cases.py
 
 Each case of stdin is a line 'LENGTH NAME', a frame text, a line feed, and a line 'CHANGE STATE': a letter for a change of the
 records once they are read (see CHANGES), a hyphen for none, and a digit for each byte of the state. A text is left out where the case
 before has the same. Each line of stdout is 'NAME radial', 'NAME not radial' or 'NAME NUMBER PLACE'. The answers of the named cases are
-written by hand from document 01, those of the drawn ones reckoned by labels; both must agree on the named ones, and each way of WRONG
+written by hand from these documents, those of the drawn ones reckoned by labels; both must agree on the named ones, and each way of WRONG
 must fail on one.
 """
 import itertools
@@ -135,6 +135,30 @@ def unlisted():
     case('all-listed', lines, '000', NOT)
 
 
+def supplies():
+    """Document 02's last line is looked at in the network's test alone: no state that is not radial is refused for it."""
+    for supply in (1, 3):
+        fed = TRIANGLE + ['05%04X' % supply]
+        for name, state, answer in [('base', '01', RADIAL), ('exchanged', '10', RADIAL), ('all-closed', '00', NOT), ('both-open', '11', NOT), ('short', '0', (10, 0))]:
+            case('supply-%d-%s' % (supply, name), fed, state, answer)
+    case('supply-the-only-bus', ONE_BUS + ['050001'], '', RADIAL)
+    fed = TRIANGLE + ['050001']
+    for change, answer in [('max_iterations 1001', (3, 1)), ('id of switch 1 is 10', (7, 9)), ('257 buses', (4, 1))]:
+        case('supply-and-' + change.replace(' ', '-'), fed, '02', answer, change)
+    # by records: 14 where the supply's bus is listed no longer; 15 where branch 1 has lost its open switch, or the last of eleven parallel ones its closed one
+    five = TWO + [bus(3), bus(4), bus(5), branch(1, 2), branch(1, 2), branch(2, 3), branch(3, 4), branch(4, 5), switch(1, 1, 3), switch(2, 0), switch(3, 3)]
+    for supply, answer in [(1, (15, 6)), (2, (15, 6)), (3, (14, 6)), (5, (14, 6))]:
+        case('supply-%d-three-unlisted' % supply, [head(5, 5, 3)] + five + ['05%04X' % supply], '', answer, 'three unlisted')
+    without = TWO + [bus(3), bus(4), bus(5), branch(1, 2), branch(2, 3), branch(3, 4), branch(4, 5), switch(1, 1), switch(2, 0), switch(3, 3)]
+    case('supply-1-three-unlisted-radial', [head(5, 4, 3)] + without + ['050001'], '', RADIAL, 'three unlisted')
+    case('supply-4-three-unlisted-radial', [head(5, 4, 3)] + without + ['050004'], '', (14, 5), 'three unlisted')
+    ten = TWO + [branch(1, 2)] * 11 + [switch(1 + i, i, 3) for i in range(10)] + [switch(11, 10)]
+    for method, answer in [(0, (15, 26)), (1, (15, 26)), (2, (9, 25))]:
+        lines = [head(2, 11, 11, method)] + ten + ['050002']
+        case('supply-ten-ties-method-%d' % method, lines, '0' + '1' * 10, RADIAL)
+        case('supply-eleven-ties-method-%d' % method, lines, '0' + '1' * 10, answer, 'switch 10 a tie')
+
+
 def joined(n, ends, order):
     """Those of these branches whose ends the ones before have not joined yet."""
     label, taken = list(range(n)), set()
@@ -195,7 +219,7 @@ def drawn(number, draw, beyond):
 
 
 def main():
-    for make in (marked, others, refusals, unlisted):
+    for make in (marked, others, refusals, unlisted, supplies):
         make()
     named = len(cases)
     assert told_apart == set(WRONG), set(WRONG) - told_apart

@@ -1,10 +1,10 @@
 #!/usr/bin/env python3
-"""Writes crates/reader_cases/stdin and stdout: frame texts and the verdict that document 01 gives each.
+"""Writes crates/reader_cases/stdin and stdout: frame texts and the verdict that documents 01 and 02 give each.
 
 usage: tests/cases/reader_cases.py
 
 Each case of stdin is a line 'LENGTH NAME', the text, and a line feed. Each line of stdout is 'NAME accepted' or
-'NAME NUMBER PLACE'. Every verdict is written here by hand from document 01, but for texts with two faults, where it is
+'NAME NUMBER PLACE'. Every verdict is written here by hand from documents 01 and 02, but for texts with two faults, where it is
 the rule: the first faulty line decides, inside a line the lower number.
 """
 import itertools
@@ -32,6 +32,10 @@ def branch(from_bus, to_bus, r=ONE, status=1):
 
 def switch(number, position, flags=2):
     return '04%04X%04X%02X' % (number, position, flags)
+
+
+def supply(number):
+    return '05%04X' % number
 
 
 def text(lines):
@@ -171,14 +175,83 @@ def lines():
     case('surplus-two-lines-second-worse', good + b'00\nGG', (2, 6))
 
 
+def supplies():
+    """Document 02's last line, 050001 or another bus, behind the triangle's nine: its base is radial."""
+    for number in (1, 2, 3):
+        case('supply-bus-%d' % number, TRIANGLE + [supply(number)], OK)
+    # the id is no position, no switch's id and no branch's
+    for number in (0, 4, 9, 10, 11, 65535):
+        case('supply-%d-not-listed' % number, TRIANGLE + [supply(number)], (14, 10))
+    ends = [head(2, 1, 0), bus(65535), bus(0), branch(0, 65535)]
+    for number, verdict in [(0, OK), (65535, OK), (1, (14, 5)), (65534, (14, 5))]:
+        case('supply-%d-of-0-and-65535' % number, ends + [supply(number)], verdict)
+    case('supply-the-only-bus', [head(1, 0, 0), bus(7), supply(7)], OK)
+    case('supply-beside-the-only-bus', [head(1, 0, 0), bus(7), supply(8)], (14, 3))
+    for number in (0, 1, 65535):
+        case('supply-%d-of-no-buses' % number, [head(0, 0, 0), supply(number)], (14, 2))
+    case('supply-of-no-buses-method-2', [head(0, 0, 0, ONE, 2), supply(1)], (14, 2))
+    for method in range(3):
+        case('supply-method-%d' % method, [head(3, 3, 2, ONE, method, 1000)] + TRIANGLE[1:] + [supply(2)], OK)
+    case('largest-with-supply', many(256, 512, 512, 1, 1000, 257) + [supply(65400)], OK)
+
+
+def bases():
+    """15: the base, with exactly the normally open switches open, is not radial. Locked switches count as others."""
+    def fed(name, lines, verdict, number=1):
+        case('base-' + name, lines + [supply(number)], verdict)
+    fed('with-a-loop', TRIANGLE[:8] + [switch(11, 2, 2)], (15, 10))
+    fed('with-a-bus-cut-off', TRIANGLE[:7] + [switch(10, 1, 3), switch(11, 2, 3)], (15, 10))
+    fed('with-the-supply-cut-off', TRIANGLE[:7] + [switch(10, 0, 3), switch(11, 2, 3)], (15, 10))
+    fed('with-locked-ties', TRIANGLE[:7] + [switch(10, 1, 0), switch(11, 2, 1)], OK)
+    fed('with-a-branch-out-of-service', TRIANGLE[:4] + [branch(1, 2, ONE, 0)] + TRIANGLE[5:], (15, 10))
+    fed('with-the-tie-out-of-service', TRIANGLE[:6] + [branch(1, 3, ONE, 0)] + TRIANGLE[7:8] + [switch(11, 2, 2)], OK)
+    fed('without-switches', [head(2, 1, 0), bus(1), bus(2), branch(2, 1)], OK)
+    fed('of-two-parallel', [head(2, 2, 0), bus(1), bus(2), branch(1, 2), branch(2, 1)], (15, 6))
+    fed('of-two-parallel-one-open', [head(2, 2, 1), bus(1), bus(2), branch(1, 2), branch(2, 1), switch(5, 0, 3)], OK)
+    fed('with-an-own-loop', [head(1, 1, 0), bus(1), branch(1, 1)], (15, 4))
+    fed('with-an-own-loop-open', [head(1, 1, 1), bus(1), branch(1, 1), switch(5, 0, 1)], OK)
+    fed('of-two-buses-no-branch', [head(2, 0, 0), bus(1), bus(2)], (15, 4), 2)
+    # as many branches as a tree has, and a bus apart
+    fed('with-a-loop-and-a-bus-apart', [head(4, 3, 0), bus(1), bus(2), bus(3), bus(4), branch(1, 2), branch(2, 3), branch(3, 1)], (15, 9), 4)
+    fed('not-radial-supply-not-listed', TRIANGLE[:8] + [switch(11, 2, 2)], (14, 10), 9)
+    case('not-radial-no-supply', TRIANGLE[:8] + [switch(11, 2, 2)], OK)
+
+
+def supply_lines():
+    """A line behind the switches is judged as the 05 line."""
+    good = text(TRIANGLE)
+    bad = [('unended', '050001', 1), ('unended-not-listed', '050009', 1), ('odd', '05001\n', 1), ('lower-case', '05000a\n', 1), ('other-character', '05000G\n', 1),
+           ('with-CR-LF', '050001\r\n', 1), ('of-7', '0500001\n', 1), ('of-5-unended', '05001', 1), ('of-8', '05000001\n', 2), ('of-4', '0500\n', 2), ('of-2', '05\n', 2),
+           ('of-12', '050001000002\n', 2), ('of-36', '05' + '0' * 34 + '\n', 2), ('of-36-unended', '05' + '0' * 34, 1), ('of-37', '05' + '0' * 35 + '\n', 2),
+           ('of-37-unended', '05' + '0' * 35, 2), ('of-37-others', '05' + 'G' * 35 + '\n', 2), ('of-1000', '05' + '0' * 998, 2)]
+    bad += [('kind-%s' % kind, kind + '0001\n', 2) for kind in ('00', '01', '02', '03', '04', '06', '15', '50', '82', 'FF')]
+    bad += [('a-switch', switch(12, 0) + '\n', 2), ('a-head', head(0, 0, 0) + '\n', 2), ('kind-04-unended', '040001', 1), ('kind-06-lower-case', '06000a\n', 1)]
+    for name, line, number in bad:
+        case('supply-line-' + name, good + line.encode(), (number, 10))
+    # a line too many behind it, whatever comes of the 05 line without it
+    surplus = [('itself', supply(1) + '\n', 2), ('another-bus', supply(2) + '\n', 2), ('a-switch', switch(12, 0) + '\n', 2), ('unended', '050001', 1), ('odd', '050\n', 1),
+               ('other-character', 'GG\n', 1), ('a-line-feed', '\n', 2), ('37-unended', 'G' * 37, 2), ('36-others', 'G' * 36 + '\n', 1)]
+    for name, line, number in surplus:
+        case('supply-and-' + name, good + b'050001\n' + line.encode(), (number, 11))
+    for name, line, number in [('of-8', '05000001\n', 2), ('lower-case', '05000b\n', 1), ('kind-06', '060001\n', 2), ('not-listed', '050009\n', 14)]:
+        for behind, more in [('itself', '050001\n'), ('unended', '0')]:
+            case('supply-line-%s-and-%s' % (name, behind), good + line.encode() + more.encode(), (number, 10))
+    case('supply-line-of-a-loop-and-itself', text(TRIANGLE[:8] + [switch(11, 2, 2)]) + b'050001\n050001\n', (15, 10))
+    for name, at in [('head', 0), ('buses', 1), ('branches', 4), ('switches', 7), ('last-switch', 8)]:
+        case('supply-before-the-' + name, TRIANGLE[:at] + [supply(1)] + TRIANGLE[at:], (2, at + 1))
+        case('supply-for-the-' + name, TRIANGLE[:at] + [supply(1)] + TRIANGLE[at + 1:], (2, at + 1))
+
+
 # one fault of each number that a kind of line can have; a line is written from what the faults change
 FAULTS = {
     'head': {2: dict(tail='00'), 3: dict(method=3), 4: dict(buses=257), 5: dict(base=ZERO)},
     'bus': {2: dict(kind='05'), 5: dict(pd=INFINITY), 7: dict(number=1)},
     'branch': {2: dict(kind='05'), 3: dict(status=2), 5: dict(r=MINUS_INFINITY), 6: dict(to_bus=9)},
     'switch': {2: dict(kind='05'), 3: dict(flags=7), 6: dict(position=12), 7: dict(number=1), 8: dict(position=0), 9: dict(tie=1)},
+    # 15 is no fault of the line itself: the one branch that is live in the base is out of service
+    'supply': {2: dict(kind='06'), 14: dict(number=9), 15: {}},
 }
-PLACES = {'head': 1, 'bus': 3, 'branch': 4, 'switch': 25}
+PLACES = {'head': 1, 'bus': 3, 'branch': 4, 'switch': 25, 'supply': 26}
 
 
 def line_of(kind, faults):
@@ -192,6 +265,8 @@ def line_of(kind, faults):
         line = bus(change.get('number', 2), change.get('pd', ZERO))
     elif kind == 'branch':
         line = branch(1, change.get('to_bus', 2), change.get('r', ONE), change.get('status', 1))
+    elif kind == 'supply':
+        line = supply(change.get('number', 2))
     else:
         flags = change.get('flags', 2) | change.get('tie', 0)
         line = switch(change.get('number', 11), change.get('position', 10), flags)
@@ -200,10 +275,12 @@ def line_of(kind, faults):
 
 
 def with_faults(by_kind):
-    """Two buses, eleven branches, eleven switches of which the first ten are ties, with faults in the second bus, first branch, last switch."""
+    """Two buses, eleven branches, eleven switches of which the first ten are ties, with faults in the second bus, first branch, last switch; and a supply line
+    where it has a fault."""
     rows = [line_of('head', by_kind.get('head', ())), bus(1), line_of('bus', by_kind.get('bus', ())), line_of('branch', by_kind.get('branch', ()))]
-    rows += [branch(1, 2)] * 10 + [switch(1 + i, i, 3) for i in range(10)]
-    return rows + [line_of('switch', by_kind.get('switch', ()))]
+    rows += [branch(1, 2)] * 9 + [branch(1, 2, ONE, 0 if 15 in by_kind.get('supply', ()) else 1)] + [switch(1 + i, i, 3) for i in range(10)]
+    rows += [line_of('switch', by_kind.get('switch', ()))]
+    return rows + [line_of('supply', by_kind['supply'])] if 'supply' in by_kind else rows
 
 
 def two_faults():
@@ -219,7 +296,7 @@ def two_faults():
             case('%s-%d-and-%d' % (kind, a, b), with_faults({kind: (a, b)}), (least, PLACES[kind]))
     for first, second in itertools.combinations(FAULTS, 2):
         for a in numbers[first]:
-            for b in numbers[second]:
+            for b in numbers[second] if second != 'supply' else (1, 14):
                 case('%s-%d-then-%s-%d' % (first, a, second, b), with_faults({first: (a,), second: (b,)}), (a, PLACES[first]))
 
 
@@ -230,13 +307,14 @@ def main():
     with open(os.path.join(ROOT, 'stdin'), 'wb') as out:
         for name, data, _ in cases:
             out.write(b'%d %s\n' % (len(data), name.encode()) + data + b'\n')
+        assert out.tell() <= 524288, 'the program has no room for the cases'
     with open(os.path.join(ROOT, 'stdout'), 'w') as out:
         for name, _, verdict in cases:
             out.write('%s %s\n' % (name, verdict))
     print('%d cases' % len(cases))
 
 
-for make in (examples, limits, ranges, lines, two_faults):
+for make in (examples, limits, ranges, lines, supplies, bases, supply_lines, two_faults):
     make()
 # tests/cases/writer_cases.py takes the texts from here
 if __name__ == '__main__':

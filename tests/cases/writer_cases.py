@@ -5,7 +5,7 @@ usage: tests/cases/writer_cases.py
 
 Each case of stdin is a line 'LENGTH NAME', a frame text, a line feed, and a line with the letter of a change (crates/writer_cases/src/changes.rt). Each case has five
 lines of stdout, one for each slice: 'NAME LENGTH: ANSWER, SLICE' (crates/writer_cases/src/main.rt). The texts are the accepted ones of tests/cases/reader_cases.py and
-some more; what the records are refused with, and the text of changed records, is written here by hand from document 01. What is in a slice then follows by its rule:
+some more; what the records are refused with, and the text of changed records, is written here by hand from documents 01 and 02. What is in a slice then follows by its rule:
 the records' refusal, then 13 where the slice is shorter than the text, then the text at its front and the rest kept.
 """
 import os
@@ -14,14 +14,14 @@ import sys
 
 sys.dont_write_bytecode = True
 import reader_cases
-from reader_cases import MINUS_ZERO, ONE, TRIANGLE, branch, bus, head, small, switch, text
+from reader_cases import MINUS_ZERO, ONE, TRIANGLE, branch, bus, head, small, supply, switch, text
 
 ROOT = os.path.join(os.path.dirname(os.path.abspath(__file__)), '..', '..', 'crates', 'writer_cases')
 CHANGES = {
     '': '-', 'iterations-1001': 'A', 'buses-257': 'B', 'branches-513': 'C', 'switches-65535': 'D', 'base-no-number': 'E', 'bus-1-again': 'F',
     'load-out-of-range': 'G', 'load-no-number': 'H', 'end-not-listed': 'I', 'r-below-zero': 'J', 'r-no-number-and-end-not-listed': 'K', 'switch-10-again': 'L',
     'second-switch-on-a-branch': 'M', 'position-3-of-3': 'N', 'eleventh-tie': 'O', 'third-bus-and-first-branch': 'P', 'refused-if-listed': 'Q',
-    'fewer-listed': 'R', 'more-listed': 'S', 'ends-of-ranges': 'T',
+    'fewer-listed': 'R', 'more-listed': 'S', 'ends-of-ranges': 'T', 'supply-3': 'U', 'has-a-supply': 'V', 'has-no-supply': 'W',
 }
 ROOM_BEHIND = 80
 cases = []
@@ -49,25 +49,39 @@ def changed(read, answer, change, name=None):
 
 
 def read_and_written():
-    """Every accepted text of reader_cases: ids 0 and 65,535, nothing listed, the ends of every range, minus zero, subnormal numbers, the largest text."""
+    """Every accepted text of reader_cases: ids 0 and 65,535, nothing listed, the ends of every range, minus zero, subnormal numbers, the largest texts, the supply's
+    line."""
     for name, data, verdict in reader_cases.cases:
         if verdict == reader_cases.OK:
             case(name, data, data)
 
 
 def largest():
-    """256 buses, 512 branches, 512 switches, each field with many values: 27,429 bytes."""
+    """256 buses, 512 branches, 512 switches and the supply, each field with many values: 27,436 bytes. The branches at the first 255 positions drawn are a tree; of the
+    others every second is out of service, and the rest have normally open switches."""
     draw = random.Random(17)
     ids = [257 * i for i in range(256)]
     draw.shuffle(ids)
     positions = list(range(512))
     draw.shuffle(positions)
+    tree, others = set(positions[:255]), positions[255:]
+    joined = iter(range(1, 256))
+    dead = set(others[::2])
     rows = [head(256, 512, 512, 0x412E848000000000, 1, 999)]
     # the exponents keep a load within 2 to the power of 19 and r below 2 to the power of 9
     rows += [bus(number, draw.getrandbits(1) << 63 | draw.randrange(0x412) << 52 | draw.getrandbits(52)) for number in ids]
-    rows += [branch(draw.choice(ids), draw.choice(ids), draw.randrange(0x408) << 52 | draw.getrandbits(52), i % 2) for i in range(512)]
-    rows += [switch(65535 - 128 * i, position, draw.randrange(4)) for i, position in enumerate(positions)]
-    assert len(text(rows)) == 27429
+    for k in range(512):
+        ends = draw.choice(ids), draw.choice(ids)
+        if k in tree:
+            i = next(joined)
+            ends = draw.sample([ids[i], ids[draw.randrange(i)]], 2)
+        rows.append(branch(*ends, draw.randrange(0x408) << 52 | draw.getrandbits(52), k not in dead))
+    draw.shuffle(positions)
+    for i, k in enumerate(positions):
+        flags = draw.randrange(2) << 1 | (k not in tree and (k not in dead or draw.randrange(2)))
+        rows.append(switch(65535 - 128 * i, k, flags))
+    rows.append(supply(draw.choice(ids)))
+    assert len(text(rows)) == 27436
     case('largest-of-many-values', rows, rows)
 
 
@@ -110,15 +124,45 @@ def other_records():
     changed(TRIANGLE, rows, 'ends-of-ranges')
 
 
+def supplies():
+    """The line is written last where there is a supply. Where there is none its number decides nothing, be it 0 or another."""
+    fed = {number: TRIANGLE + [supply(number)] for number in (1, 3)}
+    looped = TRIANGLE[:8] + [switch(11, 2, 2)]
+    changed(TRIANGLE, TRIANGLE, 'supply-3', 'number-3-without-a-supply')
+    changed(looped, looped, 'supply-3', 'number-3-without-a-supply-on-a-loop')
+    changed(fed[1], fed[3], 'supply-3')
+    changed(fed[1], TRIANGLE, 'has-no-supply', 'number-1-without-a-supply')
+    changed(TRIANGLE, TRIANGLE, 'has-no-supply')
+    with_0 = [head(2, 1, 0), bus(0), bus(7), branch(7, 0)]
+    changed(with_0, with_0 + [supply(0)], 'has-a-supply', 'supply-0')
+    # the same faults by records: no bus 0 or 3 is listed; the base is not radial; both
+    changed(TRIANGLE, (14, 10), 'has-a-supply', 'supply-0-not-listed')
+    changed(with_0 + [supply(7)], (14, 5), 'supply-3', 'supply-3-not-listed')
+    changed([head(0, 0, 0)], (14, 2), 'has-a-supply', 'supply-0-of-no-buses')
+    changed(looped, (14, 10), 'has-a-supply', 'supply-0-not-listed-on-a-loop')
+    parallel = [head(2, 2, 0), bus(0), bus(7), branch(7, 0), branch(0, 7)]
+    changed(parallel, (15, 6), 'has-a-supply', 'supply-0-on-a-loop')
+    changed(fed[1], (15, 10), 'ends-of-ranges', 'supply-on-a-branch-out-of-service')
+    changed(fed[1], (15, 13), 'more-listed', 'supply-beside-a-bus-apart')
+    # a fault of an earlier record comes first
+    changed(fed[1], (7, 9), 'switch-10-again', 'supply-and-switch-10-again')
+    changed(fed[1], (3, 1), 'iterations-1001', 'supply-and-iterations-1001')
+    changed(fed[3], (6, 5), 'fewer-listed', 'supply-no-longer-listed-nor-a-branch-end')
+    changed(fed[3], fed[3], 'refused-if-listed', 'supply-and-refused-if-listed')
+    tied = [head(2, 11, 11, ONE, 1), bus(1), bus(2)] + [branch(1, 2)] * 11 + [switch(1 + i, i, 3) for i in range(10)] + [switch(11, 10, 2), supply(2)]
+    changed(tied, (15, 26), 'eleventh-tie', 'supply-and-eleventh-tie')
+    changed([head(2, 11, 11, ONE, 2)] + tied[1:], (9, 25), 'eleventh-tie', 'supply-and-eleventh-tie-method-2')
+
+
 def main():
-    for make in (read_and_written, largest, refused_records, unlisted_records, other_records):
+    for make in (read_and_written, largest, refused_records, unlisted_records, other_records, supplies):
         make()
     names = [name for name, _, _ in cases]
     assert len(names) == len(set(names)), 'a name stands twice'
     os.makedirs(ROOT, exist_ok=True)
     with open(os.path.join(ROOT, 'stdin'), 'wb') as out:
         out.write(b''.join(question for _, question, _ in cases))
-        assert out.tell() <= 196608, 'the program has no room for the cases'
+        assert out.tell() <= 212992, 'the program has no room for the cases'
     with open(os.path.join(ROOT, 'stdout'), 'w') as out:
         out.write(''.join(printed for _, _, printed in cases))
     print('%d cases' % len(cases))

@@ -15,6 +15,7 @@ HEAD = '010003000300023FF0000000000000000064\n'
 BUSES = '0200010000000000000000\n0200023FF0000000000000\n0200034000000000000000\n'
 BRANCHES = '03000100023FD000000000000001\n03000200033FDC00000000000001\n03000100033FC800000000000001\n'
 TRIANGLE = HEAD + BUSES + BRANCHES + '04000A000102\n04000B000203\n'
+TURNED = TRIANGLE.replace('0300010002', '0300020001')
 LOCKED = HEAD + BUSES + BRANCHES + '04000A000100\n04000B000203\n'
 PRINTED = '810140100000000000003FF00000000000004052C00000000000000201\n82000A00\n82000B01\n83000B000A\n'
 BASE = {10: CLOSED, 11: OPEN}
@@ -88,14 +89,14 @@ def in_records(text):
     """The records of an accepted text."""
     number = lambda digits: int(digits, 16)
     float_of = lambda digits: struct.unpack('>d', bytes.fromhex(digits))[0]
-    kinds = {'01': [], '02': [], '03': [], '04': []}
+    kinds = {'01': [], '02': [], '03': [], '04': [], '05': []}
     for line in text.splitlines():
         kinds[line[:2]].append(line)
     head = Head(float_of(kinds['01'][0][14:30]), number(kinds['01'][0][30:32]), number(kinds['01'][0][32:]))
     buses = [Bus(number(line[2:6]), float_of(line[6:])) for line in kinds['02']]
     branches = [Branch(number(line[2:6]), number(line[6:10]), float_of(line[10:26]), number(line[26:])) for line in kinds['03']]
     switches = [Switch(number(line[2:6]), number(line[6:10]), line[11] in '13', line[11] in '23') for line in kinds['04']]
-    return head, buses, branches, switches
+    return head, buses, branches, switches, *(number(line[2:]) for line in kinds['05'])
 
 
 def written_texts():
@@ -115,6 +116,32 @@ def written_texts():
         expect((records[-8:].hex().upper(), refusal(lugwefa.write_text, records)), (pattern, (5, 2)), 'a float that is not finite')
     for long in (b'\5' * 100000, in_bytes(BUSES) * 3000, in_bytes(HEAD) * 6000):
         expect(refusal(lugwefa.write_text, long), (2, 2 if long[0] == 1 else 1), 'records without end')
+
+
+def supplies():
+    """With the supply named a loss counts the side away from it, however a branch was drawn."""
+    expect([lugwefa.loss(TURNED, state) for state in (BASE, BEST)], [1.75, 1.75], 'branch 0 turned, no supply')
+    for text in (TRIANGLE, TURNED):
+        for supply, losses in ((1, [4.0, 1.0]), (2, [1.75, 1.75]), (3, [0.4375, 0.4375])):
+            fed, what = text + f'05{supply:04X}\n', f'fed at bus {supply}'
+            expect([lugwefa.loss(fed, state) for state in (BASE, BEST)], losses, what)
+            expect([lugwefa.radiality(fed, state) for state in (BASE, ALL_CLOSED)], [True, False], what)
+            expect([refusal(lugwefa.loss, fed, state) for state in (ALL_CLOSED, ALL_OPEN, b'\0\0\0')], [(11, 0), (11, 0), (10, 0)], what)
+            expect(lugwefa.plan(fed, BASE, BEST), [Pair(close=11, open=10)], what)
+            expect(lugwefa.operations(fed, ALL_CLOSED, BEST), [Operation(10, OPEN)], what)
+            expect((lugwefa.base_state(fed), lugwefa.switch_ids(fed)), (BASE, [10, 11]), what)
+            found = lugwefa.Solution(BEST, True, 4.0, 1.0, 75.0, 2, True) if supply == 1 else lugwefa.Solution(BASE, True, *losses, 0.0, 1, True)
+            expect(lugwefa.solve(fed), found, what)
+            expect(lugwefa.records(*in_records(fed)), in_bytes(fed), f'the bytes of records {what}')
+            expect(lugwefa.write_text(in_bytes(fed)), fed, f'the text {what}')
+    expect(lugwefa.answer_text(TURNED + '050001\n'), PRINTED, 'what is printed, fed at bus 1')
+    expect(lugwefa.records(*RECORDS, None), in_bytes(TRIANGLE), 'the bytes of records without a supply')
+    expect(lugwefa.records(*RECORDS, supply=65535)[-3:], b'\5\xff\xff', "a supply's bytes")
+    expect(lugwefa.write_text(lugwefa.records((1.0, 0, 0), [(0, 1.0)], [], [], 0)), '010001000000003FF0000000000000000000\n0200003FF0000000000000\n050000\n', 'supply 0')
+    for supply in (0, 4, 10, 65535):
+        expect(refusal(lugwefa.write_text, lugwefa.records(*RECORDS, supply)), (14, 10), 'records with a supply that is not listed')
+    for value in (-1, 65536, '1', 1.0, b'1'):
+        expect(no_room(*RECORDS, value), ('supply', 0, 'id', value, 'whole number from 0 to 65,535'), 'a supply')
 
 
 def values_without_room():
@@ -164,6 +191,8 @@ def refusals():
         (8, 9): bad + '04000A000102\n04000B000103\n',
         (9, 24): '010001000B000B3FF0000000000000020000\n' + BUSES[:23] + '03000100013FD000000000000000\n' * 11
                  + ''.join(f'04{k + 1:04X}{k:04X}03\n' for k in range(11)),
+        (14, 10): TRIANGLE + '050009\n',
+        (15, 10): bad + '04000A000102\n04000B000202\n050001\n',
     }
     for right, text in texts.items():
         if right[0] > 1:
@@ -180,8 +209,10 @@ def refusals():
     expect(refusal(lugwefa.plan, LOCKED, BASE, BEST), (12, 10), 'a locked switch')
     expect(str(Refused(12, 10)), "refused 12 at switch 10: a differing live branch's switch is locked", 'words')
     expect(str(Refused(5, 3)), 'refused 5 at line 3: float outside its range, or not finite', 'words')
-    expect(str(Refused(11, 1)), "refused 11 at the wanted state: a plan's state isn't radial", 'words')
-    expect(sorted(lugwefa.CONDITIONS), list(range(1, 14)), 'a condition for each number')
+    expect(str(Refused(11, 1)), "refused 11 at the wanted state: a plan's state isn't radial, or with a supply that of a loss", 'words')
+    expect(str(Refused(14, 10)), 'refused 14 at line 10: supply bus not listed', 'words')
+    expect(str(Refused(15, 10)), 'refused 15 at line 10: a supply is named, and the base is not radial', 'words')
+    expect(sorted(lugwefa.CONDITIONS), list(range(1, 16)), 'a condition for each number')
 
 
 def tails():
@@ -233,7 +264,8 @@ def every_text(path):
         else:
             expect(refusal(lugwefa.plan, text, base, found.state), (11, 0), what)
         expect('\n'.join(lines) + '\n', printed, what)
-        expect((lugwefa.loss(text, base), lugwefa.radiality(text, found.state)), (found.base_loss, found.radial), what)
+        losses = [lugwefa.loss(text, state) for state in (base, found.state)]
+        expect((losses, lugwefa.radiality(text, found.state)), ([found.base_loss, found.best_loss], found.radial), what)
     return texts, written
 
 
@@ -242,12 +274,13 @@ def example(path):
         runpy.run_path(path)
     expect(printed.getvalue(), "base {10: 'closed', 11: 'open'}: 4.0 MW lost; best {10: 'open', 11: 'closed'}: 1.0 MW, 75.0 percent less\n"
            'close switch 11, then open switch 10\n'
-           "refused 11 at the wanted state: a plan's state isn't radial\n", 'the example')
+           "refused 11 at the wanted state: a plan's state isn't radial, or with a supply that of a loss\n", 'the example')
 
 
 triangle()
 states_by_id()
 written_texts()
+supplies()
 values_without_room()
 refusals()
 tails()

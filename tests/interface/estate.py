@@ -17,6 +17,13 @@ PLAN = """\
    then open switch 5 'mill switch' on cable 303 'park feeder 3'
 Every bus stays connected all the way, and after each step there is no loop: a run may stop there.
 """
+# The same where no supply is named and every cable but the ties is drawn towards the intake: each then counts the load on the intake's side. The sums are by hand.
+MISLED = """\
+0.1395 MW are lost as the switches normally stand, 0.1256 MW after the plan: 9.9 percent less
+1. close switch 7 'mill lane tie' on cable 402 'mill lane cable',
+   then open switch 5 'mill switch' on cable 303 'park feeder 3'
+Every bus stays connected all the way, and after each step there is no loop: a run may stop there.
+"""
 # the database's text, by hand from docs/INTERFACE.md
 TEXT = """\
 01000A000C00084024000000000000000064
@@ -50,8 +57,15 @@ TEXT = """\
 040006000903
 040007000A03
 040008000B03
+050001
 """
-HEAD = "head, row 1 (base_mva {}, method {}, max_iterations {})"
+HEAD = "head, row 1 (base_mva {}, method {}, max_iterations {}, supply 1)"
+SUPPLY = "head, row 1 (base_mva 10, method 0, max_iterations 100, supply {})"
+NOT_RADIAL = ': as the switches normally stand, a bus is not connected or there is a loop, and a supply is named (refusal 15 at line {})'
+NO_PLAN = 'as the switches normally stand, a bus is not connected or there is a loop (refusal 11): no plan leads from there'
+NO_SUPPLY = "UPDATE head SET supply = NULL; "
+# every cable but the ties, drawn towards the intake
+TURNED = "UPDATE branches SET from_bus = to_bus, to_bus = from_bus WHERE id < 400; "
 LODGE = "buses, row 2 (id {}, name 'gate lodge', pd {})"
 TOWER = "buses, row 7 (id {}, name 'dairy drying tower', pd {})"
 FARM = "branches, row 5 (id {}, name 'farm feeder 2', from_bus {}, to_bus {}, r {}, status {})"
@@ -83,9 +97,10 @@ REFUSED = [
     # an empty table
     ("DELETE FROM buses", "branches, row 1 (id 101, name 'dairy feeder 1', from_bus 1, to_bus 11, r 0.01, status 1): from_bus or to_bus is the id of no bus (refusal 6 at line 2)"),
     ("DELETE FROM branches", "switches, row 1 (id 1, name 'dairy breaker', branch 101, normally_open 0, can_operate 0): branch is the id of no branch (refusal 6 at line 12)"),
-    ("DELETE FROM switches", 'as the switches normally stand, a bus is not connected or there is a loop (refusal 11): no plan leads from there'),
+    ("DELETE FROM switches", SUPPLY.format(1) + NOT_RADIAL.format(24)),
+    (NO_SUPPLY + "DELETE FROM switches", NO_PLAN),
     ("DELETE FROM head", 'head: 0 rows, and one is wanted'),
-    ("INSERT INTO head VALUES (NULL, 10, 0, 100)", 'head: 2 rows, and one is wanted'),
+    ("INSERT INTO head VALUES (NULL, 10, 0, 100, 1)", 'head: 2 rows, and one is wanted'),
     # a line is the row's place in the order of its table, not the number by which it is named
     ("DELETE FROM buses WHERE id = 12; DELETE FROM branches WHERE 12 IN (from_bus, to_bus); DELETE FROM switches WHERE branch = 402; UPDATE buses SET pd = 2e6 WHERE id = 23",
      TOWER.format(23, 2000000) + ': pd is not from -1,000,000 to 1,000,000 (refusal 5 at line 7)'),
@@ -113,8 +128,17 @@ REFUSED = [
     ("ALTER TABLE buses RENAME TO loads; CREATE VIEW buses AS SELECT NULL AS row, id, name, NULL AS pd FROM loads WHERE id = 23",
      "buses, row NULL (id 23, name 'dairy drying tower', pd NULL): pd is NULL, which is no number"),
     (OTHERS.format(66600) + "switches SELECT NULL, n, 'spare', n, 1, 0 FROM k", 'switches: 65609 rows are too many'),
-    # accepted, but not radial
-    ("UPDATE switches SET normally_open = 1 WHERE id = 4", 'as the switches normally stand, a bus is not connected or there is a loop (refusal 11): no plan leads from there'),
+    # not radial: with a supply refused by the library, without one accepted, but not planned
+    ("UPDATE switches SET normally_open = 1 WHERE id = 4", SUPPLY.format(1) + NOT_RADIAL.format(32)),
+    (NO_SUPPLY + "UPDATE switches SET normally_open = 1 WHERE id = 4", NO_PLAN),
+    # the supply
+    ("UPDATE head SET supply = 99", SUPPLY.format(99) + ': supply is the id of no bus (refusal 14 at line 32)'),
+    ("UPDATE head SET supply = 0; UPDATE switches SET normally_open = 1 WHERE id = 4", SUPPLY.format(0) + ': supply is the id of no bus (refusal 14 at line 32)'),
+    ("DELETE FROM buses; DELETE FROM branches; DELETE FROM switches", SUPPLY.format(1) + ': supply is the id of no bus (refusal 14 at line 2)'),
+    ("UPDATE head SET supply = 99; UPDATE buses SET id = 11 WHERE id = 23", TOWER.format(11, 0.9) + ': a row before it has the same id (refusal 7 at line 8)'),
+    ("UPDATE head SET supply = 70000", SUPPLY.format(70000) + f': supply is 70000, {WHOLE}'),
+    ("UPDATE head SET supply = -1", SUPPLY.format(-1) + f': supply is -1, {WHOLE}'),
+    ("UPDATE head SET supply = 'intake'", SUPPLY.format("'intake'") + f": supply is 'intake', {WHOLE}"),
 ]
 
 # What is done to the good database, and what is then planned.
@@ -124,7 +148,13 @@ PLANNED = [
     ("UPDATE buses SET name = NULL, id = 65535 WHERE id = 31; UPDATE branches SET to_bus = 65535 WHERE id = 301; UPDATE branches SET from_bus = 65535 WHERE id = 302", PLAN),
     ("UPDATE buses SET pd = '0.9' WHERE id = 23; UPDATE switches SET branch = '303' WHERE id = 5", PLAN),
     ("UPDATE branches SET id = 100000 WHERE id = 403; UPDATE switches SET branch = 100000 WHERE branch = 403", PLAN),
-    ("DELETE FROM buses; DELETE FROM branches; DELETE FROM switches",
+    # every cable is drawn away from the intake: without a supply all is the same, be the column empty or missing
+    (NO_SUPPLY, PLAN),
+    ("ALTER TABLE head RENAME TO old; CREATE VIEW head AS SELECT row, base_mva, method, max_iterations FROM old", PLAN),
+    # with it they may be drawn either way; without it the cables that are drawn towards the intake mislead
+    (TURNED, PLAN),
+    (NO_SUPPLY + TURNED, MISLED),
+    (NO_SUPPLY + "DELETE FROM buses; DELETE FROM branches; DELETE FROM switches",
      '0.0000 MW are lost as the switches normally stand, 0.0000 MW after the plan: 0.0 percent less\nNo switch has to move.\n'),
 ]
 
@@ -185,9 +215,9 @@ def texts():
     expect(run(good, kept), (PLAN, '', 0), 'the program, with a file for the text')
     expect(content(kept), TEXT.encode(), 'the text')
     # a text is written where no plan leads from the base, and none where there is no text
-    for damage in ('UPDATE switches SET normally_open = 1 WHERE id = 4', 'DELETE FROM head'):
+    for damage in (NO_SUPPLY + 'UPDATE switches SET normally_open = 1 WHERE id = 4', 'DELETE FROM head', 'UPDATE head SET supply = 99'):
         expect(ask([*damaged(damage), kept])[2], 1, damage)
-        expect(content(kept), TEXT.replace('040004000502', '040004000503').encode(), f'the text: {damage}')
+        expect(content(kept), TEXT.replace('040004000502', '040004000503').replace('050001\n', '').encode(), f'the text: {damage}')
     expect(ask([good, good]), ('', f'plan.py: {good} is the database\n', 2), 'the database is not overwritten')
     expect(content(good), before, 'the database is not overwritten')
     expect(ask([good, folder]), ('', f"plan.py: [Errno 21] Is a directory: '{folder}'\n", 2), 'a file that cannot be written')

@@ -12,7 +12,7 @@ const BRANCHES: [(u16, u16, f64); 3] = [(1, 2, 0.25), (2, 3, 0.4375), (1, 3, 0.1
 const SWITCHES: [(u16, u16, u8); 2] = [(10, 1, 2), (11, 2, 3)];
 
 /// Room for every text, and for every answer.
-const FRAMES_LENGTH: usize = 27429;
+const FRAMES_LENGTH: usize = 27436;
 const TEXT_LENGTH: usize = 7472;
 
 /// The head says: base 1 MVA, branch exchange, at most 100 rounds.

@@ -16,6 +16,10 @@
 #define LOCKED HEAD RECORDS "04000A000100\n04000B000203\n"
 #define NO_TIES HEAD RECORDS "04000A000102\n04000B000202\n"
 #define NO_BUSES "010000000000003FF0000000000000000064\n"
+/* document 02's last line, and the triangle with branch 0 turned */
+#define SUPPLY_1 "050001\n"
+#define SUPPLY_3 "050003\n"
+#define TURNED HEAD BUS_LINES "03000200013FD000000000000001\n03000200033FDC00000000000001\n03000100033FC800000000000001\n" SWITCHES
 
 enum { GUARD = 0xAA, ROOM = 64, MARGIN = 16 };
 
@@ -323,7 +327,7 @@ static void refused_records(void) {
     is_refused(HEAD BRANCH_LINES BUS_LINES SWITCHES, FEEDER_BAD_LINE, 2, "branches before buses");
     is_refused(HEAD RECORDS "04000A000102\n", FEEDER_BAD_LINE, 9, "a switch too few");
     is_refused(TRIANGLE "04000C000002\n", FEEDER_BAD_LINE, 10, "a switch too many");
-    is_refused(TRIANGLE "05000A\n", FEEDER_BAD_LINE, 10, "another record too many");
+    is_refused(TRIANGLE "06000A\n", FEEDER_BAD_LINE, 10, "another record too many");
     is_refused(HEAD_OF("030064") RECORDS SWITCHES, FEEDER_NO_MEANING, 1, "method 03");
     is_refused(HEAD_OF("0003E9") RECORDS SWITCHES, FEEDER_NO_MEANING, 1, "1,001 iterations");
     is_refused(HEAD BUS_LINES "03000100023FD000000000000002\n", FEEDER_NO_MEANING, 5, "status 02");
@@ -372,22 +376,96 @@ static void other_kinds(void) {
 }
 
 /* Records without end: the same bytes behind those of a text. */
-static void endless(const char *text, const char *record, unsigned place, const char *what) {
+static void endless(const char *text, const char *record, unsigned number, unsigned place, const char *what) {
     static uint8_t one[FEEDER_HEAD_BYTES];
     size_t size = lay_records(record), begin;
     memcpy(one, records, size);
     begin = lay_records(text);
     for (size_t k = begin; k < MANY; k++)
         records[k] = one[(k - begin) % size];
-    write_records(MANY, FEEDER_FRAMES_LENGTH, FEEDER_BAD_LINE, place, "", what);
+    write_records(MANY, FEEDER_FRAMES_LENGTH, number, place, "", what);
 }
 
 static void endless_records(void) {
-    static const char *const all[] = {NO_BUSES, BUS_1, OWN_LOOP, "04000A000102\n", "05\n", "FF\n", "00\n"};
+    static const char *const all[] = {NO_BUSES, BUS_1, OWN_LOOP, "04000A000102\n", "06\n", "FF\n", "00\n"};
     for (size_t k = 0; k < sizeof all / sizeof all[0]; k++) {
-        endless("", all[k], k == 0 ? 2 : 1, "records without end");
-        endless(TRIANGLE, all[k], 10, "records without end behind the triangle's");
+        endless("", all[k], FEEDER_BAD_LINE, k == 0 ? 2 : 1, "records without end");
+        endless(TRIANGLE, all[k], FEEDER_BAD_LINE, 10, "records without end behind the triangle's");
+        endless(TRIANGLE SUPPLY_1, all[k], FEEDER_BAD_LINE, 11, "records without end behind the triangle's supply");
     }
+    endless("", SUPPLY_1, FEEDER_BAD_LINE, 1, "supplies without end");
+    endless(TRIANGLE, SUPPLY_1, FEEDER_BAD_LINE, 11, "supplies without end behind the triangle's records");
+    endless(TRIANGLE, "05\n", FEEDER_SUPPLY_NOT_LISTED, 10, "bytes 05 without end behind the triangle's records: the supply is bus 0505");
+}
+
+/* A text that names the supply, and what its base and its exchanged state lose. Losses are away from the supply, radiality and plans as without the line. */
+static void fed(const char *text, double base, double exchanged, const char *what) {
+    expect_answer(loss(text, "\0\1", 2), 0, 0, bits(base), what);
+    expect_answer(loss(text, "\1\0", 2), 0, 0, bits(exchanged), what);
+    expect_answer(loss(text, "\0\0", 2), FEEDER_NOT_RADIAL, 0, 0, what);
+    expect_answer(loss(text, "\1\1", 2), FEEDER_NOT_RADIAL, 0, 0, what);
+    expect_answer(loss(text, "\0\0\0", 3), FEEDER_BAD_STATE, 0, 0, what);
+    expect_answer(loss(text, "\2\0", 2), FEEDER_BAD_STATE, 0, 0, what);
+    expect_answer(radiality(text, "\0\1", 2), 0, 0, 1, what);
+    expect_answer(radiality(text, "\0\0", 2), 0, 0, 0, what);
+    plan(text, "\0\1", 2, "\1\0", 2, 11, 0, 0, 1, "83000B000A\n", what);
+    plan(text, "\0\1", 2, "\1\1", 2, ROOM, FEEDER_NOT_RADIAL, 1, 0, "", what);
+    operations(text, "\0\0", 2, "\1\0", 2, 9, 0, 0, 1, "82000A00\n", what);
+    base_state(text, 2, 0, 0, "\0\1", 2, what);
+    comes_back(text, what);
+    write_records(lay_records(text), strlen(text) - 1, FEEDER_NO_ROOM, 0, "", what);
+}
+
+/* A text that every call refuses, before the states and the room; and so are its records, but for refusal 1. */
+static void refused_by_all(const char *text, unsigned number, unsigned place, const char *what) {
+    expect_answer(radiality(text, "\2", 1), number, place, 0, what);
+    expect_answer(loss(text, "\2", 1), number, place, 0, what);
+    plan(text, "\2", 1, "\2", 1, 0, number, place, 0, "", what);
+    operations(text, "\2", 1, "\2", 1, 0, number, place, 0, "", what);
+    answer_text(text, FEEDER_TEXT_LENGTH, number, place, "", what);
+    answer_text(text, 0, number, place, "", what);
+    base_state(text, 0, number, place, "", 0, what);
+    solve(text, 0, not_solved(number, place), "", 0, what);
+    if (number != FEEDER_BAD_CHARACTERS)
+        is_refused(text, number, place, what);
+}
+
+static void supplies(void) {
+    struct feeder_solved exchanged = {0, 0, 1, 1, 2, 4.0, 1.0, 75.0};
+    struct feeder_solved moved = {0, 0, 1, 1, 100, 4.0, 4.0, 0.0};
+    struct feeder_solved tried = {0, 0, 1, 1, 1, 4.0, 4.0, 0.0};
+    struct feeder_solved turned = {0, 0, 1, 1, 1, 1.75, 1.75, 0.0};
+    struct feeder_solved at_3 = {0, 0, 1, 1, 1, 0.4375, 0.4375, 0.0};
+    expect_answer(loss(TURNED, "\0\1", 2), 0, 0, bits(1.75), "branch 0 turned, no supply");
+    solve(TURNED, 2, turned, "\0\1", 2, "branch 0 turned, no supply");
+    fed(TRIANGLE SUPPLY_1, 4.0, 1.0, "the triangle fed at bus 1");
+    fed(TURNED SUPPLY_1, 4.0, 1.0, "branch 0 turned, fed at bus 1");
+    fed(TRIANGLE "050002\n", 1.75, 1.75, "the triangle fed at bus 2");
+    fed(TURNED "050002\n", 1.75, 1.75, "branch 0 turned, fed at bus 2");
+    fed(TRIANGLE SUPPLY_3, 0.4375, 0.4375, "the triangle fed at bus 3");
+    answer_text(TRIANGLE SUPPLY_1, strlen(PRINTED), 0, 0, PRINTED, "the triangle fed at bus 1, answered");
+    answer_text(TURNED SUPPLY_1, strlen(PRINTED), 0, 0, PRINTED, "branch 0 turned, fed at bus 1, answered");
+    answer_text(TRIANGLE SUPPLY_3, ROOM, 0, 0, "81013FDC0000000000003FDC0000000000000000000000000000000101\n", "the triangle fed at bus 3, answered");
+    solve(TURNED SUPPLY_1, 2, exchanged, "\1\0", 2, "fed at bus 1, by exchange");
+    solve(TRIANGLE SUPPLY_3, 2, at_3, "\0\1", 2, "fed at bus 3, by exchange");
+    solve(HEAD_OF("010064") RECORDS SWITCHES SUPPLY_1, 2, moved, "\0\1", 2, "fed at bus 1, by tabu");
+    solve(HEAD_OF("020064") RECORDS SWITCHES SUPPLY_1, 2, tried, "\0\1", 2, "fed at bus 1, by exhaustion");
+    expect_answer(loss("01000100000000" ONE "000064\n" BUS_1 SUPPLY_1, "", 0), 0, 0, 0, "the only bus is the supply");
+    refused_by_all(TRIANGLE "050009\n", FEEDER_SUPPLY_NOT_LISTED, 10, "a supply that is not listed");
+    refused_by_all(TRIANGLE "050000\n", FEEDER_SUPPLY_NOT_LISTED, 10, "a position for the supply's id");
+    refused_by_all(NO_BUSES SUPPLY_1, FEEDER_SUPPLY_NOT_LISTED, 2, "a supply of no buses");
+    refused_by_all(NO_TIES SUPPLY_1, FEEDER_BASE_NOT_RADIAL, 10, "a supply, and a base with a loop");
+    refused_by_all(NO_TIES "050009\n", FEEDER_SUPPLY_NOT_LISTED, 10, "a supply that is not listed, and a base with a loop");
+    refused_by_all(HEAD RECORDS "04000A000103\n04000B000203\n" SUPPLY_1, FEEDER_BASE_NOT_RADIAL, 10, "a supply, and a base that cuts a bus off");
+    refused_by_all(TRIANGLE SUPPLY_1 SUPPLY_1, FEEDER_BAD_LINE, 11, "a second supply");
+    refused_by_all(TRIANGLE "050009\n" SUPPLY_1, FEEDER_SUPPLY_NOT_LISTED, 10, "a supply that is not listed, and a second one");
+    refused_by_all(TRIANGLE "050001", FEEDER_BAD_CHARACTERS, 10, "an unended supply");
+    refused_by_all(TRIANGLE "05000a\n", FEEDER_BAD_CHARACTERS, 10, "a supply in lower case");
+    refused_by_all(TRIANGLE "060001\n", FEEDER_BAD_LINE, 10, "kind 06 for the supply");
+    refused_by_all(HEAD RECORDS SUPPLY_1 SWITCHES, FEEDER_BAD_LINE, 8, "a supply before the switches");
+    refused_by_all(HEAD RECORDS "04000A000102\n04000A000203\n050009\n", FEEDER_ID_TWICE, 9, "a switch id twice, and a supply that is not listed");
+    for (size_t length = lay_records(TRIANGLE) + 1; length < lay_records(TRIANGLE SUPPLY_1); length++)
+        write_records(length, FEEDER_FRAMES_LENGTH, FEEDER_BAD_LINE, 10, "", "the supply's record cut off");
 }
 
 /* The largest feeder: buses 1 to 256 in a row, 1 MW at the last. Branches 0 to 254 are the row, 255 to 509 lie beside them and lose nothing, 510
@@ -403,7 +481,8 @@ static int normally_open(unsigned method, int k) {
     return ROW <= k && (method == 0 || k < BRANCHES - 1);
 }
 
-static void make_largest(unsigned method, unsigned iterations) {
+/* Supply 0: no line for it. */
+static void make_largest(unsigned method, unsigned iterations, unsigned supply) {
     char *at = largest;
     at += sprintf(at, "01%04X%04X%04X" ONE "%02X%04X\n", BUSES, BRANCHES, BRANCHES, method, iterations);
     for (int bus = 1; bus <= BUSES; bus++)
@@ -415,6 +494,8 @@ static void make_largest(unsigned method, unsigned iterations) {
     }
     for (int k = 0; k < BRANCHES; k++)
         at += sprintf(at, "04%04X%04X%02X\n", FIRST_ID + k, k, normally_open(method, k) ? 3 : 2);
+    if (supply != 0)
+        sprintf(at, "05%04X\n", supply);
 }
 
 static char *head_of_answer(char *at, double base, double best, double reduction, unsigned iterations, unsigned converged) {
@@ -422,7 +503,22 @@ static char *head_of_answer(char *at, double base, double best, double reduction
                         (unsigned long long)bits(reduction), iterations, converged);
 }
 
-static void largest_feeder(void) {
+/* The texts of the largest feeder, without a supply and with one: it is the longest. */
+static void largest_texts(unsigned supply) {
+    size_t more = supply != 0, length = FEEDER_LONGEST_TEXT - (more ? 0 : strlen(SUPPLY_1));
+    size_t size = FEEDER_LONGEST_RECORDS - (more ? 0 : FEEDER_SUPPLY_BYTES);
+    make_largest(0, 1, supply);
+    expect(strlen(largest) == length, "the largest text has as many bytes as the header says");
+    expect(lay_records(largest) == size, "the largest text's records have as many bytes as the header says");
+    write_records(size, length, 0, 0, largest, "the largest text, an exactly full slice");
+    write_records(size, length - 1, FEEDER_NO_ROOM, 0, "", "the largest text, one byte short");
+    write_records(size + 1, FEEDER_FRAMES_LENGTH, FEEDER_BAD_LINE, 1282 + more, "", "the largest text's records and a byte");
+    write_records(size - 1, FEEDER_FRAMES_LENGTH, FEEDER_BAD_LINE, 1281 + more, "", "the largest text's records but a byte");
+    endless(largest, NO_BUSES, FEEDER_BAD_LINE, 1282 + more, "records without end behind the largest text's");
+}
+
+/* Every branch of the row leads away from bus 1: with the supply there all is as without one. */
+static void largest_feeder(unsigned supply) {
     static char row[BRANCHES], beside[BRANCHES], all_closed[BRANCHES], all_open[BRANCHES], written[FEEDER_TEXT_LENGTH + 1];
     struct feeder_solved best = {0, 0, 1, 0, 1, 255.0, 254.0, 0.0};
     char *at = written;
@@ -431,14 +527,7 @@ static void largest_feeder(void) {
         beside[k] = !(ROW <= k && k < 2 * ROW);
         all_open[k] = 1;
     }
-    make_largest(0, 1);
-    expect(strlen(largest) == sizeof largest - 1, "the largest text has as many bytes as the header says");
-    expect(lay_records(largest) == FEEDER_LONGEST_RECORDS, "the largest text's records have as many bytes as the header says");
-    write_records(FEEDER_LONGEST_RECORDS, FEEDER_FRAMES_LENGTH, 0, 0, largest, "the largest text, an exactly full slice");
-    write_records(FEEDER_LONGEST_RECORDS, FEEDER_FRAMES_LENGTH - 1, FEEDER_NO_ROOM, 0, "", "the largest text, one byte short");
-    write_records(FEEDER_LONGEST_RECORDS + 1, FEEDER_FRAMES_LENGTH, FEEDER_BAD_LINE, 1282, "", "the largest text's records and a byte");
-    write_records(FEEDER_LONGEST_RECORDS - 1, FEEDER_FRAMES_LENGTH, FEEDER_BAD_LINE, 1281, "", "the largest text's records but a byte");
-    endless(largest, NO_BUSES, 1282, "records without end behind the largest text's");
+    largest_texts(supply);
     expect_answer(radiality(largest, row, BRANCHES), 0, 0, 1, "the row is radial");
     expect_answer(radiality(largest, beside, BRANCHES), 0, 0, 1, "what lies beside is radial");
     expect_answer(loss(largest, row, BRANCHES), 0, 0, bits(255.0), "the row's loss");
@@ -466,17 +555,37 @@ static void largest_feeder(void) {
     row[509] = 0;
     solve(largest, FEEDER_MAX_SWITCHES, best, row, BRANCHES, "the largest feeder's best state, an exactly full slice");
     solve(largest, FEEDER_MAX_SWITCHES - 1, not_solved(FEEDER_NO_ROOM, 0), "", 0, "the largest feeder's best state, one byte short");
+}
 
-    make_largest(1, 2);
+static void other_largest_feeders(void) {
+    static char row[BRANCHES], written[FEEDER_TEXT_LENGTH + 1];
+    char *at;
+    make_largest(1, 2, 0);
     at = head_of_answer(written, 256.0, 255.0, 100.0 / 256.0, 2, 1);
     sprintf(at, "82%04X00\n", FIRST_ID);
     answer_text(largest, FEEDER_TEXT_LENGTH, 0, 0, written, "the largest feeder's answer by tabu: the first that breaks the loop");
 
-    make_largest(2, 0);
+    make_largest(2, 0, 0);
     at = head_of_answer(written, 0.0, 255.0, 0.0, 1, 1);
     for (int k = ROW - TEN; k < ROW; k++)
         at += sprintf(at, "82%04X01\n", FIRST_ID + k);
     answer_text(largest, FEEDER_TEXT_LENGTH, 0, 0, written, "the largest feeder's answer by exhaustion: all ten ties closed");
+
+    /* neither base is radial */
+    for (unsigned method = 1; method <= 2; method++) {
+        make_largest(method, 0, 1);
+        refused_by_all(largest, FEEDER_BASE_NOT_RADIAL, 1282, "the largest feeder with a base that is not radial, fed");
+    }
+    make_largest(0, 1, BUSES + 1);
+    refused_by_all(largest, FEEDER_SUPPLY_NOT_LISTED, 1282, "the largest feeder, fed at no bus");
+
+    /* the load is at the last bus: only the branches between it and the supply carry it */
+    for (int k = 0; k < BRANCHES; k++)
+        row[k] = k >= ROW;
+    for (unsigned bus = 1; bus <= BUSES; bus += 51) {
+        make_largest(0, 1, bus);
+        expect_answer(loss(largest, row, BRANCHES), 0, 0, bits(256.0 - bus), "the row's loss, fed on its way");
+    }
 }
 
 static void *run(void *unused) {
@@ -494,7 +603,10 @@ static void *run(void *unused) {
     cut_off();
     other_kinds();
     endless_records();
-    largest_feeder();
+    supplies();
+    largest_feeder(0);
+    largest_feeder(1);
+    other_largest_feeders();
     return NULL;
 }
 
@@ -503,8 +615,8 @@ int main(void) {
     pthread_t thread;
     expect(sizeof(struct feeder_answer) == 16, "the answer has 16 bytes");
     expect(sizeof(struct feeder_solved) == 32, "a search's answer has 32 bytes");
-    expect(FEEDER_FRAMES_LENGTH == 27429, "room for every text");
-    expect(FEEDER_LONGEST_RECORDS == 13074, "the records of the longest text");
+    expect(FEEDER_FRAMES_LENGTH == 27436, "room for every text");
+    expect(FEEDER_LONGEST_RECORDS == 13077, "the records of the longest text");
     if (pthread_attr_init(&attributes) != 0 || pthread_attr_setstacksize(&attributes, FEEDER_STACK) != 0
         || pthread_create(&thread, &attributes, run, NULL) != 0 || pthread_join(thread, NULL) != 0) {
         printf("interface: C: no thread\n");

@@ -1,8 +1,10 @@
-//! The calls of include/feeder.h from Rust, on seeded feeders of every shape, damaged texts and records, and states that are radial, not
-//! radial and faulty: each answer and each byte of a lent slice against tests/oracle's independent reckoning of document 01.
+//! The calls of include/feeder.h from Rust, on seeded feeders of every shape, without a supply and with one, damaged texts and records, and states that are
+//! radial, not radial and faulty: each answer and each byte of a lent slice against tests/oracle's independent reckoning of documents 01 and 02.
 
 #![allow(dead_code)]
 
+#[path = "../oracle/src/cases.rs"]
+mod cases;
 #[path = "../oracle/src/damage.rs"]
 mod damage;
 #[path = "../oracle/src/feeder.rs"]
@@ -10,6 +12,8 @@ mod feeder;
 #[path = "../timing/feeders.rs"]
 mod feeders;
 mod library;
+#[path = "../oracle/src/limits.rs"]
+mod limits;
 #[path = "../oracle/src/random.rs"]
 mod random;
 #[path = "../oracle/src/reckoning/mod.rs"]
@@ -17,11 +21,16 @@ mod reckoning;
 mod records;
 #[path = "../oracle/src/shapes.rs"]
 mod shapes;
+#[path = "../oracle/src/short.rs"]
+mod short;
 #[path = "../oracle/src/states.rs"]
 mod states;
+#[path = "../oracle/src/supplied.rs"]
+mod supplied;
 #[path = "../oracle/src/values.rs"]
 mod values;
 
+use feeder::Feeder;
 use library::{Answer, Solved};
 use random::Random;
 use states::OPERATION_LENGTH;
@@ -33,25 +42,27 @@ use std::fmt::Debug;
 use std::process::ExitCode;
 
 const CASES: usize = 4000;
+const FED_CASES: usize = 4000;
 const RECORDS_CASES: usize = 6000;
 const ANSWER_LENGTH: usize = 59;
 const GUARD: u8 = 0xAA;
 const MARGIN: usize = 16;
 const MAX_BUSES: usize = 256;
 const MAX_SWITCHES: usize = 512;
-const FRAMES_LENGTH: usize = 27429;
+const FRAMES_LENGTH: usize = 27436;
 const PAIR_LENGTH: usize = 11;
 const TEXT_LENGTH: usize = ANSWER_LENGTH + MAX_SWITCHES * OPERATION_LENGTH + (MAX_BUSES - 1) * PAIR_LENGTH;
 
 /// The calls, and the refusals that each can answer.
-const OF_A_TEXT: [u8; 10] = [1, 2, 3, 4, 5, 6, 7, 8, 9, 13];
-const OF_A_STATE: [u8; 10] = [1, 2, 3, 4, 5, 6, 7, 8, 9, 10];
-const OF_TWO_STATES: [u8; 11] = [1, 2, 3, 4, 5, 6, 7, 8, 9, 10, 13];
-const OF_A_PLAN: [u8; 13] = [1, 2, 3, 4, 5, 6, 7, 8, 9, 10, 11, 12, 13];
-const OF_RECORDS: [u8; 9] = [2, 3, 4, 5, 6, 7, 8, 9, 13];
+const OF_A_TEXT: [u8; 12] = [1, 2, 3, 4, 5, 6, 7, 8, 9, 14, 15, 13];
+const OF_A_STATE: [u8; 12] = [1, 2, 3, 4, 5, 6, 7, 8, 9, 14, 15, 10];
+const OF_A_LOSS: [u8; 13] = [1, 2, 3, 4, 5, 6, 7, 8, 9, 14, 15, 10, 11];
+const OF_TWO_STATES: [u8; 13] = [1, 2, 3, 4, 5, 6, 7, 8, 9, 14, 15, 10, 13];
+const OF_A_PLAN: [u8; 15] = [1, 2, 3, 4, 5, 6, 7, 8, 9, 14, 15, 10, 11, 12, 13];
+const OF_RECORDS: [u8; 11] = [2, 3, 4, 5, 6, 7, 8, 9, 14, 15, 13];
 const CALLS: [(&str, &[u8]); 8] = [
     ("radiality", &OF_A_STATE),
-    ("loss", &OF_A_STATE),
+    ("loss", &OF_A_LOSS),
     ("plan", &OF_A_PLAN),
     ("answer", &OF_A_TEXT),
     ("base", &OF_A_TEXT),
@@ -84,6 +95,7 @@ fn main() -> ExitCode {
     let mut checks = Checks::default();
     let good = timed_feeders(&mut checks)
         && (0..CASES).all(|number| any_case(&mut checks, number))
+        && (0..FED_CASES).all(|number| any_fed_case(&mut checks, number))
         && written_feeders(&mut checks)
         && every_byte(&mut checks)
         && (0..RECORDS_CASES).all(|number| any_records(&mut checks, number));
@@ -95,10 +107,16 @@ fn main() -> ExitCode {
     if good && all_met { ExitCode::SUCCESS } else { ExitCode::FAILURE }
 }
 
-/// The triangle, 33 buses and the largest feeder, forward and back, with room for the plan, and one byte less.
+/// A feeder without a supply, with its last bus as the supply, and with none of its buses.
+fn fed(feeder: &Feeder) -> [Feeder; 3] {
+    let last = feeder.buses.last().map_or(0, |bus| bus.id);
+    [None, Some(last), Some(last + 1)].map(|supply| Feeder { supply, ..feeder.clone() })
+}
+
+/// The triangle, 33 buses and the largest feeder, without a supply and with one, forward and back, with room for the plan, and one byte less.
 fn timed_feeders(checks: &mut Checks) -> bool {
-    feeders::all().iter().all(|timed| {
-        let text = timed.feeder.text();
+    feeders::all().iter().all(|timed| fed(&timed.feeder)[..2].iter().all(|feeder| {
+        let text = feeder.text();
         let network = reader::read(&text).expect("acceptable");
         let (a, b) = (&timed.first[..], &timed.second[..]);
         let room = PAIR_LENGTH * plan(&network, a, b, usize::MAX).expect("two radial states").len();
@@ -106,14 +124,29 @@ fn timed_feeders(checks: &mut Checks) -> bool {
         [a, b].iter().all(|state| state_answers(checks, &text, state))
             && [room, room - 1].iter().all(|&room| plan_answer(checks, &text, a, b, room) && plan_answer(checks, &text, b, a, room))
             && [list, list - 1].iter().all(|&room| operations_answer(checks, &text, a, b, room))
-    })
+    }))
 }
 
 fn any_case(checks: &mut Checks, number: usize) -> bool {
     let random = &mut Random::new(1, "interface", number);
     let feeder = (shapes::SHAPES[random.below(shapes::SHAPES.len())].make)(random);
     let text = if random.percent(10) { damage::damaged(random) } else { feeder.text() };
-    let network = reader::read(&text).or(reader::read(&feeder.text())).expect("shapes are acceptable");
+    answers_on(checks, random, feeder, text)
+}
+
+/// The same with the 05 line.
+fn any_fed_case(checks: &mut Checks, number: usize) -> bool {
+    let random = &mut Random::new(1, "interface, fed", number);
+    let shape = supplied::any_shape(random);
+    let feeder = supplied::feeder(random, shape);
+    let text = if random.percent(10) { damage::damaged_with_line(random) } else { feeder.text() };
+    answers_on(checks, random, feeder, text)
+}
+
+/// Each call on a text; its states are those of the feeder without a supply where it is refused.
+fn answers_on(checks: &mut Checks, random: &mut Random, feeder: Feeder, text: Vec<u8>) -> bool {
+    let without = Feeder { supply: None, ..feeder };
+    let network = reader::read(&text).or(reader::read(&without.text())).expect("shapes are acceptable");
     let state = states::any_state(random, &network);
     let (present, wanted, room) = states::any_plan(random, &network);
     let list = states::near(random, operations(&network, &state, &wanted).len());
@@ -149,7 +182,7 @@ fn in_room<V>(room: usize, expected: Result<(V, Vec<u8>), Refusal>) -> Result<(V
     expected.and_then(|(value, written)| if written.len() <= room { Ok((value, written)) } else { Err(Refusal { number: 13, place: 0 }) })
 }
 
-/// What document 01 answers for an accepted text.
+/// What documents 01 and 02 answer for an accepted text.
 #[derive(Clone)]
 struct Answers {
     base: Vec<u8>,
@@ -182,19 +215,19 @@ fn answers(network: &Network) -> Answers {
 
 /// The timed feeders' records: their text, cut off at every length (the largest at some), and behind them records without end.
 fn written_feeders(checks: &mut Checks) -> bool {
-    feeders::all().iter().all(|timed| {
-        let bytes = records::of_feeder(&timed.feeder);
+    feeders::all().iter().flat_map(|timed| fed(&timed.feeder)).all(|feeder| {
+        let bytes = records::of_feeder(&feeder);
         let step = if bytes.len() < 2000 { 1 } else { 97 };
-        records::text_of(&bytes) == timed.feeder.text()
+        records::text_of(&bytes) == feeder.text()
             && write_answers(checks, &bytes)
             && (0..bytes.len()).step_by(step).all(|length| write_answer(checks, &bytes[..length], FRAMES_LENGTH))
             && records::endless(&bytes).chain(records::endless(&[])).all(|bytes| write_answer(checks, &bytes, FRAMES_LENGTH))
     })
 }
 
-/// Each byte of the triangle's records with each value.
+/// Each byte of the triangle's records, the supply's among them, with each value.
 fn every_byte(checks: &mut Checks) -> bool {
-    let bytes = records::of_feeder(&feeder::triangle());
+    let bytes = records::of_feeder(&fed(&feeder::triangle())[1]);
     (0..bytes.len() * 256).all(|k| {
         let mut other = bytes.clone();
         other[k / 256] = (k % 256) as u8;
@@ -205,11 +238,13 @@ fn every_byte(checks: &mut Checks) -> bool {
 /// Good records, those of a damaged text, or damaged ones.
 fn any_records(checks: &mut Checks, number: usize) -> bool {
     let random = &mut Random::new(1, "records", number);
-    let feeder = (shapes::SHAPES[random.below(shapes::SHAPES.len())].make)(random);
+    let shape = shapes::SHAPES[random.below(shapes::SHAPES.len())].make;
+    let feeder = if number % 2 == 0 { shape(random) } else { supplied::feeder(random, shape) };
     let good = records::of_feeder(&feeder);
     match random.below(3) {
         0 => records::text_of(&good) == feeder.text() && write_answers(checks, &good),
-        1 => write_answers(checks, &records::of_digits(&damage::damaged(random))),
+        1 if number % 2 == 0 => write_answers(checks, &records::of_digits(&damage::damaged(random))),
+        1 => write_answers(checks, &records::of_digits(&damage::damaged_with_line(random))),
         _ => write_answers(checks, &records::damaged(random, good)),
     }
 }
@@ -231,16 +266,19 @@ fn write_answer(checks: &mut Checks, bytes: &[u8], room: usize) -> bool {
 }
 
 fn state_answers(checks: &mut Checks, text: &[u8], state: &[u8]) -> bool {
-    let is_radial = |network: &Network| radial(network, &network.live(state)) as u64;
-    let loss = |network: &Network| Searches::new(network, None).loss(state).to_bits();
+    let is_radial = |network: &Network| Ok(radial(network, &network.live(state)) as u64);
+    let loss = |network: &Network| match network.supply {
+        Some(_) if is_radial(network)? == 0 => Err(Refusal { number: 11, place: 0 }),
+        _ => Ok(Searches::new(network, None).loss(state).to_bits()),
+    };
     compare(checks, "radiality", text, on_state(text, state, is_radial), numbers, library::radiality(text, state))
         && compare(checks, "loss", text, on_state(text, state, loss), numbers, library::loss(text, state))
 }
 
-/// What document 01 answers on a state of a text's network.
-fn on_state(text: &[u8], state: &[u8], value: impl Fn(&Network) -> u64) -> Result<u64, Refusal> {
+/// What is answered on a state of a text's network: 10 comes before what the call has of its own.
+fn on_state(text: &[u8], state: &[u8], answer: impl Fn(&Network) -> Result<u64, Refusal>) -> Result<u64, Refusal> {
     let network = reader::read(text)?;
-    if well_formed(&network, state) { Ok(value(&network)) } else { Err(Refusal { number: 10, place: 0 }) }
+    if well_formed(&network, state) { answer(&network) } else { Err(Refusal { number: 10, place: 0 }) }
 }
 
 fn plan_answer(checks: &mut Checks, text: &[u8], present: &[u8], wanted: &[u8], room: usize) -> bool {

@@ -4,8 +4,8 @@
 use crate::feeder::Feeder;
 use crate::random::Random;
 
-/// Document 01's frames: the kind byte, and how many bytes the frame has.
-const FRAMES: [(u8, usize); 4] = [(1, 18), (2, 11), (3, 14), (4, 6)];
+/// The frames of documents 01 and 02: the kind byte, and how many bytes the frame has.
+const FRAMES: [(u8, usize); 5] = [(1, 18), (2, 11), (3, 14), (4, 6), (5, 3)];
 
 /// "Each frame in digits with its line feed; a frame has as many bytes as its kind byte says, and where the kind is none of these or fewer
 /// bytes are left, all that is left is one line."
@@ -35,6 +35,9 @@ pub fn of_feeder(feeder: &Feeder) -> Vec<u8> {
     for switch in &feeder.switches {
         bytes.extend([&[4], &switch.id.to_be_bytes()[..], &switch.branch.to_be_bytes(), &[switch.flags]].concat());
     }
+    if let Some(supply) = feeder.supply {
+        bytes.extend([&[5], &supply.to_be_bytes()[..]].concat());
+    }
     bytes
 }
 
@@ -48,11 +51,11 @@ pub fn of_digits(text: &[u8]) -> Vec<u8> {
 pub fn damaged(random: &mut Random, mut bytes: Vec<u8>) -> Vec<u8> {
     for _ in 0..random.between(1, 3) {
         let at = random.below(bytes.len() + 1);
-        let byte = if random.percent(50) { random.below(6) as u8 } else { random.next() as u8 };
+        let byte = if random.percent(50) { random.below(7) as u8 } else { random.next() as u8 };
         match random.below(6) {
             0 => bytes.truncate(at),
             1 => bytes.insert(at, byte),
-            2 => bytes.extend(vec![byte; random.pick(&[1, 6, 11, 14, 18, 40_000])]),
+            2 => bytes.extend(vec![byte; random.pick(&[1, 3, 6, 11, 14, 18, 40_000])]),
             3 if at < bytes.len() => drop(bytes.remove(at)),
             _ if at < bytes.len() => bytes[at] = byte,
             _ => (),
@@ -63,7 +66,7 @@ pub fn damaged(random: &mut Random, mut bytes: Vec<u8>) -> Vec<u8> {
 
 /// Bytes longer than any text: one of each kind, and of none, over and over behind these.
 pub fn endless(bytes: &[u8]) -> impl Iterator<Item = Vec<u8>> + '_ {
-    (0..=5).map(|kind| {
+    (0..=6).map(|kind| {
         let size = FRAMES.iter().find(|frame| frame.0 == kind).map_or(1, |frame| frame.1);
         let one = [vec![kind], vec![0; size - 1]].concat();
         bytes.iter().chain(one.iter().cycle()).copied().take(100_000).collect()

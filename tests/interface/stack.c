@@ -1,6 +1,7 @@
 /* The stack of each call of include/feeder.h, measured. A call runs on a stack that ends at a page which nobody may touch, in a child of its own, and the least
- * stack on which it does not fault is found to 64 bytes: on a feeder of three buses, and on those of the largest texts. Then every text of the list that
- * `replay` has (tests/answers.md) is tried on as much stack as the header says. usage: stack LIST */
+ * stack on which it does not fault is found to 64 bytes: on a feeder of three buses, and on those of the largest texts, each without a supply and with its first bus as
+ * the supply. Then every text of the list that `replay` has (tests/answers.md), and its like with a supply, is tried on as much stack as the header says.
+ * usage: stack LIST */
 #define _GNU_SOURCE
 #include "feeder.h"
 #include <stdio.h>
@@ -175,20 +176,25 @@ static int is_enough_for_all(size_t size, void (*ask)(void), const struct entry 
     return child_ended(child);
 }
 
+/* 256 buses, 512 branches and 512 switches; three buses with a plan. */
+static int is_largest(const struct entry *e) { return strncmp(e->text, "01010002000200", 14) == 0 && strncmp(e->printed, "81", 2) == 0; }
+static int is_small(const struct entry *e) { return strncmp(e->text, "010003", 6) == 0 && memmem(e->printed, e->printed_length, "\n83", 3) != NULL; }
+static int is_fed(const struct entry *e) { return e->text_length > 7 && strncmp(e->text + e->text_length - 7, "05", 2) == 0; }
+
 static size_t measure(const struct call *c, const struct entry *entries, size_t count) {
-    size_t three = 0, largest = 0;
+    size_t three = 0, largest = 0, measured[2] = {0, 0};
     for (size_t k = 0; k < count; k++) {
         const struct entry *e = &entries[k];
-        int has_plan = memmem(e->printed, e->printed_length, "\n83", 3) != NULL;
-        if (e->text_length == FEEDER_LONGEST_TEXT || (three == 0 && has_plan && strncmp(e->text, "010003", 6) == 0)) {
+        if (is_largest(e) || (is_small(e) && measured[is_fed(e)]++ == 0)) {
             lay(e);
             size_t size = least(c->ask, three);
-            if (e->text_length == FEEDER_LONGEST_TEXT)
+            if (is_largest(e))
                 largest = size > largest ? size : largest;
             else
-                three = size;
+                three = size > three ? size : three;
         }
     }
+    expect(measured[0] > 0 && measured[1] > 0, c->name, "no three buses without a supply, or none with one");
     printf("interface: stack: %s %zu: measured %zu with 3 buses, %zu with 256\n", c->name, c->said, three, largest);
     expect(three > 0 && three <= c->said, c->name, "three buses need more");
     expect(largest > 0 && largest <= c->said, c->name, "the largest texts need more");
@@ -215,12 +221,34 @@ static struct entry *read_list(const char *path, size_t *count) {
     return entries;
 }
 
+/* Behind the entries their like with the first bus as the supply, where that is accepted. A wanted state is radial there, as the base is. */
+static void feed_all(struct entry *entries, size_t *count) {
+    size_t given = *count;
+    for (size_t k = 0; k < given; k++) {
+        struct entry e = entries[k];
+        if (strncmp(e.printed, "81", 2) != 0 || strncmp(e.text + 2, "0000", 4) == 0)
+            continue;
+        char *fed = malloc(e.text_length + 8);
+        if (fed == NULL)
+            exit(1);
+        memcpy(fed, e.text, e.text_length);
+        sprintf(fed + e.text_length, "05%.4s\n", e.text + 39);
+        e.text = fed;
+        e.text_length += 7;
+        if (feeder_base_state((const uint8_t *)e.text, e.text_length, out, sizeof out).number == 0)
+            entries[(*count)++] = e;
+        else
+            free(fed);
+    }
+}
+
 int main(int words, char **word) {
     const struct rlimit no_core = {0, 0};
     size_t count = 0, greatest = 0;
     if (words != 2)
         return 1;
     struct entry *entries = read_list(word[1], &count);
+    feed_all(entries, &count);
     make_stack();
     setrlimit(RLIMIT_CORE, &no_core);
     setvbuf(stdout, NULL, _IOLBF, 0);

@@ -14,6 +14,21 @@ pub fn all() -> Vec<Timed> {
     vec![small(), middle(), chains("64 buses", 64), chains("128 buses", 128), full(), colliding()]
 }
 
+/// Where a supply is named, and how many times as long as the same call without it a loss call may then take: the base's radiality is tested, and one walk more
+/// is made.
+pub fn supplied() -> Vec<(&'static str, Timed, f64)> {
+    let at = |mut timed: Timed, position: usize| {
+        timed.feeder.supply = Some(timed.feeder.buses[position].id);
+        timed
+    };
+    vec![
+        ("supply at the first bus", at(middle(), 0), 2.0),
+        ("supply in the middle", at(middle(), 16), 2.0),
+        ("supply at the first bus", at(full(), 0), 1.15),
+        ("supply in the middle", at(full(), 128), 1.15),
+    ]
+}
+
 /// The same feeders for each search. The largest one is searched by the exchange for one round, since the Rust takes seconds for each, and
 /// the exhaustive search wants at most ten ties.
 pub fn searched() -> Vec<(&'static str, Timed)> {

@@ -1,5 +1,5 @@
 //! One driver for both sides: the Rust module, unchanged, and the proved static library, on the same inputs. What both answer is added up
-//! and must be the same; the least time of several samples is printed.
+//! and must be the same; the least time of several samples is printed. A loss with a supply must not take much longer than one without.
 
 #![allow(dead_code)]
 
@@ -10,11 +10,15 @@ mod feeder;
 mod feeders;
 #[path = "../oracle/src/reckoning/mod.rs"]
 mod reckoning;
+#[path = "../oracle/src/supply.rs"]
+mod supply;
 
 use driver::Original;
+use feeder::Feeder;
 use feeders::Timed;
 use original::network::reconfiguration::{verify_radiality, NetworkConfiguration};
 use std::hint::black_box;
+use std::process::ExitCode;
 use std::time::{Duration, Instant};
 
 /// Kinds of calls of `timing_rounds`, crates/timing/src/rounds.rt. Searches have `timing_searches`; writing a text has `timing_texts`, crates/text_timing.
@@ -92,7 +96,7 @@ impl Rust {
     }
 }
 
-fn main() {
+fn main() -> ExitCode {
     println!("| call | feeder | Rust | Rattle | Rust ÷ Rattle |");
     println!("|---|---|---|---|---|");
     let timed = feeders::all();
@@ -108,6 +112,7 @@ fn main() {
     for timed in &timed {
         row("loss of a state", timed, Some(Rust::loss), LOSS);
     }
+    let supplied: Vec<Beside> = feeders::supplied().iter().map(row_with_supply).collect();
     for timed in &timed {
         row("plan", timed, None, PLAN);
     }
@@ -117,6 +122,43 @@ fn main() {
     for (name, timed) in &feeders::long() {
         row(name, timed, None, SEARCH);
     }
+    println!();
+    supplied.iter().for_each(Beside::print);
+    if supplied.iter().any(|beside| beside.ratio > beside.most) {
+        return ExitCode::FAILURE;
+    }
+    ExitCode::SUCCESS
+}
+
+/// A loss call with a supply beside the same call without: the ratio of their times, and the greatest that is allowed.
+struct Beside {
+    name: String,
+    ratio: f64,
+    most: f64,
+}
+
+impl Beside {
+    fn print(&self) {
+        let Beside { name, ratio, most } = self;
+        let verdict = if ratio > most { "TOO LONG" } else { "ok" };
+        println!("loss, {name}: {ratio:.2} times the same call without, at most {most}: {verdict}");
+    }
+}
+
+/// A line of the table; the Rust has no supply. The answers must be its losses of the records drawn away from the supply. The call is sampled in turn with the
+/// same call on the text without the 05 line.
+fn row_with_supply((place, timed, most): &(&str, Timed, f64)) -> Beside {
+    let text = timed.feeder.text();
+    let without = Feeder { supply: None, ..timed.feeder.clone() }.text();
+    let rounds = |text: &[u8], times| rattle(LOSS, text, &timed.first, &timed.second, times);
+    let network = reckoning::reader::read(&text).expect("the feeder is acceptable");
+    let drawn = [&timed.first, &timed.second].map(|state| supply::loss(&network, state).to_bits());
+    assert_eq!(drawn[0].wrapping_add(drawn[1]), rounds(&text, 2), "{place}, {}: the two answer differently", timed.name);
+    let other = Sampled::new(|times| rounds(&without, times));
+    let (ours, before) = Sampled::new(|times| rounds(&text, times)).least(Some(other));
+    println!("| loss of a state, {place} | {} | none | {} |  |", timed.name, shown(ours));
+    let ratio = ours / before.expect("both are sampled");
+    Beside { name: format!("{place}, {}", timed.name), ratio, most: *most }
 }
 
 /// A line of the table. The Rust has no reader, no writer and no planner.

@@ -13,7 +13,6 @@ use Rattle.network.specs.declared.topology.PowerNetwork.{PowerNetwork}
 use Rattle.network.specs.Records.{Network, recordsOf}
 use Rattle.network.specs.Answers.{Answer, accepted, refused, _andThen_, judge}
 use Rattle.network.specs.AnswerLaws.{same-value, then-iff, no-refusal}
-use Rattle.network.specs.Check.{checkRecords}
 use Rattle.states.specs.Live.{baseState, checkState}
 use Rattle.states.specs.Listed.{state-accepted, switches-listed, few-switches}
 use Rattle.slices.specs.Written.{written}
@@ -21,17 +20,21 @@ use Rattle.slices.specs.WrittenLaws.{written-sets, take-written, sets-append, s
 use Rattle.printing.specs.Lengths.{answerLength, operationLength, pairLength, operationsLength, planLength}
 use Rattle.printing.specs.Calls.{Call, called}
 use Rattle.printing.specs.CallLaws.{call-refused, call-short, call-done, call-is}
-use Rattle.radiality.specs.Feeder.{radialIn}
+use Rattle.network.specs.Check.{checkRecords}
+use Rattle.feeders.specs.Supply.{checkNetwork}
+use Rattle.feeders.specs.SupplyLaws.{network-records}
+use Rattle.feeders.specs.Feeder.{radialIn}
 use Rattle.plan.specs.declared.planner.PlanAnswer.{PlanAnswer}
 use Rattle.plan.specs.declared.planner.PlanAnswer.the-variants as plans
-use Rattle.changes.specs.Change.{checkRadial, checkPlan}
+use Rattle.feeders.specs.StateCalls.{checkRadial}
+use Rattle.changes.specs.Change.{checkPlan}
 use Rattle.plan.specs.Plan.{plan, planText, planned, planAnswerOf}
 use Rattle.plan.specs.Length as PlanLength
 use Rattle.operations.specs.declared.operations.OperationsAnswer.{OperationsAnswer}
 use Rattle.operations.specs.declared.operations.OperationsAnswer.the-variants as lists
 use Rattle.searches.specs.declared.answer.ReconfigResult.{ReconfigResult}
 use Rattle.searches.specs.declared.answer.SolveAnswer.the-variants as solves
-use Rattle.searches.specs.FromBase.{base-good}
+use Rattle.states.specs.BaseLaws.{base-good}
 use Rattle.reconfiguration.specs.AnswersHavePlans.{best-good, solve-plan-accepted}
 use Rattle.searches.specs.Results.{Result, resultBy, solvedBy, resultOf, solveAnswerOf}
 use Rattle.reconfiguration.specs.Solve.{result, best, solved}
@@ -51,11 +54,11 @@ abbrev pub planBytes : PlanAnswer → ℕ
 planBytes (plans.Pairs count) = pairLength * count
 planBytes (plans.Refused number place) = 0
 
-module _ (n : PowerNetwork) (ok : checkRecords (recordsOf n) ≡ accepted tt) (out : List ℕ) where
+module _ (n : PowerNetwork) (ok : checkNetwork (recordsOf n) ≡ accepted tt) (out : List ℕ) where
   abbrev N : Network
   N = recordsOf n
 
-  states-pass : (checkRecords N andThen checkState N (baseState N) 0 andThen checkState N (best N .state) 1) ≡ accepted tt
+  states-pass : (checkNetwork N andThen checkState N (baseState N) 0 andThen checkState N (best N .state) 1) ≡ accepted tt
   states-pass = then-iff _ _ .1 (ok, then-iff _ _ .1 (state-accepted N (baseState N) 0 .1 (base-good N), state-accepted N (best N .state) 1 .1 (best-good N)))
 
   -- ---- the operations
@@ -64,7 +67,7 @@ module _ (n : PowerNetwork) (ok : checkRecords (recordsOf n) ≡ accepted tt) (o
   unfolding operationLines operationsCall
   operations-printed room a {after} f t e =
       let l = operations N (baseState N) (best N .state) in
-      let c = call-is (length l) (operationsText l) out states-pass (omega (arith, operations-short N ok)) (rw (f, t) at e) in
+      let c = call-is (length l) (operationsText l) out states-pass (omega (arith, operations-short N (network-records N ok))) (rw (f, t) at e) in
       (go a (ap (λ (x : Call ℕ). x .answer) c), ap (λ (x : Call ℕ). x .out) c)
     where
       go : (b : OperationsAnswer) → operationsAnswerOf b ≡ accepted (length (operations N (baseState N) (best N .state))) → operationBytes b ≡ length (operationLines N)
@@ -109,10 +112,10 @@ module _ (n : PowerNetwork) (ok : checkRecords (recordsOf n) ≡ accepted tt) (o
           rw same (none a (ap (λ (x : Call ℕ). x .answer) c), ap (λ (x : Call ℕ). x .out) c ∙ sym (written-sets [] out (omega arith)))
 
 -- ---- the search
-module _ (n : PowerNetwork) (ok : checkRecords (recordsOf n) ≡ accepted tt) (space : List ℕ) (room : length space ≡ 512) where
+module _ (n : PowerNetwork) (ok : checkNetwork (recordsOf n) ≡ accepted tt) (space : List ℕ) (room : length space ≡ 512) where
   solved-is : {c : Call Result} → c ≡ solved (recordsOf n) space → c ≡ record { answer = accepted (result (recordsOf n)); out = written (best (recordsOf n) .state) space }
   unfolding solved solvedBy result
-  solved-is e = call-is (result (recordsOf n)) (best (recordsOf n) .state) space ok (omega (arith, few-switches n ok, switches-listed n, best-good (recordsOf n) .long)) e
+  solved-is e = call-is (result (recordsOf n)) (best (recordsOf n) .state) space ok (omega (arith, few-switches n (network-records (recordsOf n) ok), switches-listed n, best-good (recordsOf n) .long)) e
 
   pub solved-result : {r : ReconfigResult} {after : List ℕ} → record { answer = solveAnswerOf (solves.Solved r); out = after } ≡ solved (recordsOf n) space → resultOf r ≡ result (recordsOf n)
   solved-result e = same-value (ap (λ (x : Call Result). x .answer) (solved-is e))
@@ -120,7 +123,7 @@ module _ (n : PowerNetwork) (ok : checkRecords (recordsOf n) ≡ accepted tt) (s
   pub solved-state : {a : Answer Result} {after : List ℕ} → record { answer = a; out = after } ≡ solved (recordsOf n) space → take (n .«switch_count») after ≡ best (recordsOf n) .state
   solved-state e =
       let long : length (best (recordsOf n) .state) ≡ n .«switch_count» = best-good (recordsOf n) .long ∙ switches-listed n in
-      take-written (best (recordsOf n) .state) space long (omega (arith, few-switches n ok)) (ap (λ (x : Call Result). x .out) (solved-is e))
+      take-written (best (recordsOf n) .state) space long (omega (arith, few-switches n (network-records (recordsOf n) ok))) (ap (λ (x : Call Result). x .out) (solved-is e))
 
   pub not-refused : {B : Type 0} {number place : ℕ} {after : List ℕ} → record { answer = solveAnswerOf (solves.Refused number place); out = after } ≡ solved (recordsOf n) space → B
   not-refused e = no-refusal (ap (λ (x : Call Result). x .answer) (solved-is e))

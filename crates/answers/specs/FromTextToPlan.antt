@@ -18,7 +18,7 @@ use Rattle.printing.specs.declared.writer.SwitchAction.the-variants.{Open, Clos
 use Rattle.printing.specs.declared.writer.SwitchOperation.{SwitchOperation}
 use Rattle.printing.specs.Lengths.{printedLength}
 use Rattle.graph.specs.Graph.{Tree}
-use Rattle.radiality.specs.Feeder.{feeder, LiveIn, radialIn}
+use Rattle.feeders.specs.Feeder.{feeder, LiveIn, radialIn}
 use Rattle.plan.specs.Plan.{plan, planText}
 use Rattle.plan.specs.Claim.{SwitchingPlan}
 use Rattle.reconfiguration.specs.Solve.{best, result}

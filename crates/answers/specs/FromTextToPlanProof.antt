@@ -18,7 +18,6 @@ use Rattle.numbers.specs.Tests.{clash}
 use Rattle.network.specs.Records.{Network, noSwitch}
 use Rattle.network.specs.Answers.{Answer, accepted, refused}
 use Rattle.network.specs.AnswerLaws.{no-refusal}
-use Rattle.network.specs.Check.{checkRecords}
 use Rattle.network.specs.Inside.{Each}
 use Rattle.network.specs.EachLaws.{each-anywhere, each-if, each-made, map-kept}
 use Rattle.states.specs.Switches.{State, byte, size, switch, GoodState}
@@ -34,10 +33,12 @@ use Rattle.printing.specs.declared.writer.SwitchAction.the-variants.{Open, Clos
 use Rattle.printing.specs.declared.writer.SwitchOperation.{SwitchOperation}
 use Rattle.printing.specs.Printed.{answer, answerFields, answerText, operation, operationFields, operationText, pair, pairFields, pairText}
 use Rattle.printing.specs.CallLaws.{call-answered}
-use Rattle.radiality.specs.Feeder.{radialIn}
-use Rattle.radiality.specs.FeederLaws.{radial-in-tree}
+use Rattle.feeders.specs.Supply.{checkNetwork}
+use Rattle.feeders.specs.SupplyLaws.{network-records}
+use Rattle.feeders.specs.Feeder.{radialIn}
+use Rattle.feeders.specs.FeederLaws.{radial-in-tree}
 use Rattle.plan.specs.Plan.{pairs, Moves, movesOf, switchOn, plan, planText}
-use Rattle.searches.specs.FromBase.{base-good}
+use Rattle.states.specs.BaseLaws.{base-good}
 use Rattle.searches.specs.Results.{Result}
 use Rattle.reconfiguration.specs.Solve.{result}
 use Rattle.reconfiguration.specs.AnswersHavePlans.{best-good, solve-has-plan}
@@ -199,12 +200,12 @@ module _ (N : Network) where
     operations-read : operationsIn (networkText N) ≡ operations N (base N) (wanted N)
     operations-read = ap operationsIn network-lines ∙ operations-back (result N) (operations N (base N) (wanted N)) pairsPrinted operations-named
 
-    network-read : checkRecords N ≡ accepted tt → FromTextToPlan N (networkText N)
+    network-read : checkNetwork N ≡ accepted tt → FromTextToPlan N (networkText N)
     network-read ok = record {
       pairs = λ r. pairs-read ∙ rw r;
       safe = solve-has-plan N ok;
       no-pairs = λ r. pairs-read ∙ rw r;
-      radial = radial-in-tree N ok (base N);
+      radial = radial-in-tree N (network-records N ok) (base N);
       moves = operations-read;
       in-order = operations-read ∙ by-position N (base N) (wanted N);
       moved = λ o. rw (operations-read, by-position N (base N) (wanted N)) (moved-so N (base N) (wanted N) (base-good N) (best-good N) o, moved-if N (base N) (wanted N) (base-good N) (best-good N) o);

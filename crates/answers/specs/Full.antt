@@ -1,4 +1,4 @@
--- Demand 1's first sentence, call by call: with records inside the limits, states of one byte 00 or 01 for each switch and room in the lent slice, nothing is refused,
+-- Demand 1's first sentence, call by call: with records inside the limits and a supply, where one is named, as document 02 wants it, states of one byte 00 or 01 for each switch and room in the lent slice, nothing is refused,
 -- and the answer is the full one: the value, and the bytes at the front of the slice, which keeps its tail. What a text says is `frames.specs.Claim.accepted-texts`; the
 -- calls that take a text and states are in `controller.specs.Full`. The last law is on every other text.
 use mathlib.Core.Path.{_≡_, refl, sym, _∙_}
@@ -10,10 +10,8 @@ use Rattle.network.specs.Records.{Network}
 use Rattle.network.specs.declared.switch.ReconfigAlgorithm.{ReconfigAlgorithm}
 use Rattle.network.specs.Answers.{accepted, refused, _andThen_}
 use Rattle.network.specs.AnswerLaws.{then-iff}
-use Rattle.network.specs.Check.{checkRecords}
 use Rattle.network.specs.Inside.{Inside}
-use Rattle.network.specs.InsideLaws.{check-inside}
-use Rattle.states.specs.Live.{checkState, onState}
+use Rattle.states.specs.Live.{checkState}
 use Rattle.lines.specs.Lines.{cut}
 use Rattle.frames.specs.Acceptable.{Acceptable}
 use Rattle.frames.specs.Conditions.{conditions, judgeLines}
@@ -21,9 +19,16 @@ use Rattle.frames.specs.Proof.{claim}
 use Rattle.printing.specs.Lengths.{operationLength, pairLength, printedLength}
 use Rattle.printing.specs.CallLaws.{call-refused, in-full}
 use Rattle.graph.specs.Graph.{Tree}
-use Rattle.radiality.specs.Feeder.{feeder, LiveIn, radialIn}
-use Rattle.radiality.specs.FeederLaws.{radial-in-tree}
+use Rattle.feeders.specs.Feeder.{feeder, LiveIn, radialIn}
+use Rattle.feeders.specs.FeederLaws.{radial-in-tree}
+use Rattle.feeders.specs.StateCalls.{onState}
+use Rattle.feeders.specs.Supplied.{Supplied}
+use Rattle.feeders.specs.Supply.{checkNetwork}
+use Rattle.feeders.specs.SupplyLaws.{network-inside, network-records}
 use Rattle.losses.specs.Loss.{lossIn}
+use Rattle.losses.specs.LossCall.{lossCall}
+use Rattle.losses.specs.LossCallLaws.{loss-answered}
+use Rattle.losses.specs.SupplySide.{Fed}
 use Rattle.plan.specs.Plan.{plan, planText, planned}
 use Rattle.states.specs.Switches.{State, GoodState}
 use Rattle.plan.specs.Plannable.{Free}
@@ -38,9 +43,9 @@ use Rattle.operations.specs.OperationLines as Operations
 use Rattle.answers.specs.Printing.{networkText, printed, answeredText}
 use Rattle.answers.specs.PrintingLaws.{network-short, text-answered}
 
-module _ (N : Network) (inside : Inside N) where
-  checked : checkRecords N ≡ accepted tt
-  checked = check-inside N .1 inside
+module _ (N : Network) (inside : Inside N) (supplied : Supplied N) where
+  checked : checkNetwork N ≡ accepted tt
+  checked = network-inside N .1 (inside, supplied)
 
   answered : {A : Type 0} (s : State) → GoodState N s → (a : A) → onState N s a ≡ accepted a
   unfolding _andThen_
@@ -50,9 +55,9 @@ module _ (N : Network) (inside : Inside N) where
   pub radiality-in-full : (s : State) → GoodState N s → onState N s (radialIn N s) ≡ accepted (radialIn N s)
   radiality-in-full s good = answered s good (radialIn N s)
 
-  -- `evaluate_config`, of any state, radial or not
-  pub loss-in-full : (s : State) → GoodState N s → onState N s (lossIn N s) ≡ accepted (lossIn N s)
-  loss-in-full s good = answered s good (lossIn N s)
+  -- `evaluate_config`, of any state, radial or not; where a supply is named, of any radial one
+  pub loss-in-full : (s : State) → GoodState N s → Fed N s → lossCall N s ≡ accepted (lossIn N s)
+  loss-in-full s good fed = loss-answered N s checked good fed
 
   -- `branch_exchange_solve`, `tabu_search` and `exhaustive_solve`, whichever search the head asks for: a byte for each switch. For `exhaustive_solve` on another head, N
   -- is `asExhaustive` of it
@@ -76,7 +81,7 @@ module _ (N : Network) (inside : Inside N) where
   unfolding operationsCall
   operations-in-full from to f t out room =
       let l = operations N from to in
-      let passed = then-iff (checkRecords N) _ .1 (checked, then-iff (checkState N from 0) (checkState N to 1) .1 (state-accepted N from 0 .1 f, state-accepted N to 1 .1 t)) in
+      let passed = then-iff (checkNetwork N) _ .1 (checked, then-iff (checkState N from 0) (checkState N to 1) .1 (state-accepted N from 0 .1 f, state-accepted N to 1 .1 t)) in
       in-full (length l) (operationsText l) out passed (rw (Operations.length-text l) room) ∙ rw (Operations.length-text l)
 
   -- `plan`, between radial states whose switches that must move are operable: a line for each pair
@@ -87,7 +92,8 @@ module _ (N : Network) (inside : Inside N) where
   unfolding planned
   planned-in-full present wanted p w r v free out room =
       let moves = plan N present wanted in
-      let passed = plan-accepted N present wanted .1 (checked, p, w, radial-in-tree N checked present .1 r, radial-in-tree N checked wanted .1 v, free) in
+      let ok = network-records N checked in
+      let passed = plan-accepted N present wanted .1 (checked, p, w, radial-in-tree N ok present .1 r, radial-in-tree N ok wanted .1 v, free) in
       in-full (length moves) (planText moves) out passed (rw (PlanLength.length-text moves) room) ∙ rw (PlanLength.length-text moves)
 
 -- `answer_text`: the lines of the text's records
@@ -98,7 +104,7 @@ printed-in-full text N a out room = sym (text-answered text out (claim .accepted
 -- and `printedLength` bytes are room for every such text
 pub always-printed : (text : List ℕ) (N : Network) → Acceptable text N → (out : List ℕ) → printedLength ≤ length out
     → answeredText text out ≡ record { answer = accepted (length (networkText N)); out = networkText N ++ drop (length (networkText N)) out }
-always-printed text N a out room = printed-in-full text N a out (omega (arith, network-short N (checked N (a .inside))))
+always-printed text N a out room = printed-in-full text N a out (omega (arith, network-short N (checked N (a .inside) (a .supplied))))
 
 -- every other text is refused with the number and place of its first faulty line, whatever room there is, and the slice keeps every byte (a text that is not accepted
 -- has such a line: `frames.specs.Claim`, first)

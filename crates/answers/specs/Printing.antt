@@ -11,7 +11,7 @@ use Rattle.frames.specs.Text.{readText}
 use Rattle.frames.specs.Conditions.{judgementOf}
 use Rattle.printing.specs.Printed.{answerText, refusalText}
 use Rattle.printing.specs.Calls.{Call, called}
-use Rattle.radiality.specs.Feeder.{radialIn}
+use Rattle.feeders.specs.Feeder.{radialIn}
 use Rattle.plan.specs.Plan.{plan, planText}
 use Rattle.searches.specs.Results.{Result}
 use Rattle.reconfiguration.specs.Solve.{result, best}

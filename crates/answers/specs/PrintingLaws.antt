@@ -24,7 +24,9 @@ use Rattle.printing.specs.Calls.{called}
 use Rattle.printing.specs.CallLaws.{call-refused, call-answered, in-full}
 use Rattle.printing.specs.LineTexts.{length-answer, length-refusal}
 use Rattle.printing.specs.Lengths.{answerLength, operationsLength, planLength, printedLength}
-use Rattle.radiality.specs.Feeder.{radialIn}
+use Rattle.feeders.specs.Feeder.{radialIn}
+use Rattle.feeders.specs.Supply.{checkNetwork}
+use Rattle.feeders.specs.SupplyLaws.{network-records}
 use Rattle.losses.specs.Loss.{lossIn}
 use Rattle.losses.specs.Accepted.{accepted-loss-within}
 use Rattle.losses.specs.PercentLaws.{percent-within}
@@ -50,21 +52,6 @@ module _ (N : Network) (ok : checkRecords N ≡ accepted tt) where
       let few = check-inside N .0 ok .counts in
       omega (arith, few .2, Operations.length-text (operations N (baseState N) (best N .state)), Operations.length-operations N (baseState N) (best N .state), count-le (differs (baseState N) (best N .state)) (length (N .switches)))
 
-  -- a pair for each bus but one at most
-  pub plan-short : length (planLines N) ≤ planLength
-  unfolding planLines
-  plan-short = go (radialIn N (baseState N)) refl
-    where
-      go : (b : Bool) → radialIn N (baseState N) ≡ b → length (cond b (planText (plan N (baseState N) (best N .state))) []) ≤ planLength
-      go true e =
-          let few = check-inside N .0 ok .counts in
-          omega (arith, few .0, PlanLength.length-text (plan N (baseState N) (best N .state)), PlanLength.plan-short N (baseState N) (best N .state) (solve-plan-accepted N ok e))
-      go false e = omega arith
-
-  pub network-short : length (networkText N) ≤ printedLength
-  unfolding networkText moveLines
-  network-short = simp length-append (omega (arith, length-result (result N), operations-short, plan-short))
-
   -- ---- bits
   base-within : Within (2 ^ 115) (lossIn N (baseState N))
   base-within = accepted-loss-within N (check-inside N .0 ok) (baseState N)
@@ -85,6 +72,22 @@ module _ (N : Network) (ok : checkRecords N ≡ accepted tt) where
       go : (b : Bool) → lt trillionth (lossIn N (baseState N)) ≡ b → T (not (isNan (cond b (mul binary64 (div binary64 (sub binary64 (lossIn N (baseState N)) (lossIn N (best N .state))) (lossIn N (baseState N))) hundred) zero64)))
       go true e = within-no-nan (percent-within base-within best-within (rw e tt))
       go false e = unfold ofBits isNan in tt
+
+module _ (N : Network) (tested : checkNetwork N ≡ accepted tt) where
+  -- a pair for each bus but one at most
+  pub plan-short : length (planLines N) ≤ planLength
+  unfolding planLines
+  plan-short = go (radialIn N (baseState N)) refl
+    where
+      go : (b : Bool) → radialIn N (baseState N) ≡ b → length (cond b (planText (plan N (baseState N) (best N .state))) []) ≤ planLength
+      go true e =
+          let few = check-inside N .0 (network-records N tested) .counts in
+          omega (arith, few .0, PlanLength.length-text (plan N (baseState N) (best N .state)), PlanLength.plan-short N (baseState N) (best N .state) (solve-plan-accepted N tested e))
+      go false e = omega arith
+
+  pub network-short : length (networkText N) ≤ printedLength
+  unfolding networkText moveLines
+  network-short = simp length-append (omega (arith, length-result (result N), operations-short N (network-records N tested), plan-short))
 
 -- "A refusal prints one line", and `printedLength` bytes are enough for every text
 pub printed-short : (text : List ℕ) → length (printed text) ≤ printedLength

@@ -1,4 +1,4 @@
--- What the printer's functions are handed: a checked network with the bytes of its base and of its best state, and a result whose floats have bits.
+-- What the printer's functions are handed: a network that has passed its test, with the bytes of its base and of its best state, and a result whose floats have bits.
 use mathlib.Core.Path.{_≡_}
 use mathlib.Core.Bool.{not}
 use mathlib.Core.List.{List}
@@ -8,7 +8,7 @@ use lib.Ieee.{isNan}
 use lib.ListN.{take}
 use Rattle.network.specs.declared.topology.PowerNetwork.{PowerNetwork}
 use Rattle.network.specs.Answers.{accepted}
-use Rattle.network.specs.Check.{checkRecords}
+use Rattle.feeders.specs.Supply.{checkNetwork}
 use Rattle.states.specs.Live.{baseState}
 use Rattle.network.specs.Records.{recordsOf}
 use Rattle.searches.specs.declared.answer.ReconfigResult.{ReconfigResult}
@@ -16,7 +16,7 @@ use Rattle.reconfiguration.specs.Solve.{best}
 
 abbrev pub Searched : PowerNetwork → List ℕ → List ℕ → Type 0
 Searched n base found =
-    (checkRecords (recordsOf n) ≡ accepted tt)
+    (checkNetwork (recordsOf n) ≡ accepted tt)
     × (take (n .«switch_count») base ≡ baseState (recordsOf n))
     × (take (n .«switch_count») found ≡ best (recordsOf n) .state)
 

@@ -4,7 +4,7 @@ ghost use Prim.Native.Nat.{_+_, _≤_};
 ghost use lib.ListN.{length};
 ghost use lib.Seq.{sets};
 ghost use Rattle.network.specs.Answers.{accepted};
-ghost use Rattle.network.specs.Check.{checkRecords};
+ghost use Rattle.feeders.specs.Supply.{checkNetwork};
 ghost use Rattle.network.specs.Records.{recordsOf};
 ghost use Rattle.slices.specs.Written.{written};
 ghost use Rattle.printing.specs.Lengths.{answerLength, operationsLength, planLength, printedLength};
@@ -103,9 +103,9 @@ fn write_moves(
     n + write_plan(&mut out[n..], network, base, best)
 }
 
-// All lines for a network. A search that is refused prints nothing: a checked network's is not.
+// All lines for a network. A search that is refused prints nothing: that of a network that has passed its test is not.
 fn print_network(out: &mut [u8], network: PowerNetwork) -> usize
-    requires { ⌜ (checkRecords (recordsOf network) ≡ accepted tt) × (printedLength ≤ length (now out)) ⌝ }
+    requires { ⌜ (checkNetwork (recordsOf network) ≡ accepted tt) × (printedLength ≤ length (now out)) ⌝ }
     ensures { λ r. ⌜ (r ≡ length (networkText (recordsOf network))) × (now (out .exit) ≡ written (networkText (recordsOf network)) (now (out .entry))) ⌝ }
 {
     let configuration = build_base_configuration(network);
@@ -123,7 +123,7 @@ fn print_network(out: &mut [u8], network: PowerNetwork) -> usize
 // A network's lines, at the front of the slice. How long they are shows only when they are made, and a refusal writes no lent byte: so they are made in
 // memory of this call's own.
 fn answer_network(network: PowerNetwork, out: &mut [u8]) -> TextAnswer
-    requires { ⌜ checkRecords (recordsOf network) ≡ accepted tt ⌝ }
+    requires { ⌜ checkNetwork (recordsOf network) ≡ accepted tt ⌝ }
     ensures { λ r. ⌜ record { answer = textAnswerOf r; out = now (out .exit) }
         ≡ called (accepted tt) (length (networkText (recordsOf network))) (networkText (recordsOf network)) (now (out .entry)) ⌝ }
 {

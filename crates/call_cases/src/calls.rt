@@ -30,7 +30,7 @@ use searches::answer::SolveAnswer;
 use texts::writer::WriteAnswer;
 use texts::writer::write_text;
 
-// A dot for each byte. The longest text has 27,429.
+// A dot for each byte. The longest text has 27,436.
 fn dots() -> [u8; 28672]
     ensures { λ r. ⌜ 28672 ≡ length r ⌝ }
 {

@@ -13,7 +13,7 @@ use Rattle.network.specs.Answers.{accepted, refused}
 use Rattle.states.specs.Listed.{switches-listed, switch-at}
 use Rattle.states.specs.Switches.{State, byte}
 use Rattle.graph.specs.Rows.{flag}
-use Rattle.radiality.specs.FeederRows.{liveFlags}
+use Rattle.feeders.specs.FeederRows.{liveFlags}
 use Rattle.changes.specs.Change.{differing, lockedDifference, lockedDifferences, refuseLocked, checkLocked}
 use Rattle.changes.specs.Onward.{onward, onward-all, onward-none, onward-yes, onward-no}
 use Rattle.changes.specs.Passing.{Checked, flag-live}

@@ -8,19 +8,16 @@ use Rattle.numbers.specs.Choose.{those}
 use Rattle.network.specs.declared.topology.PowerNetwork.{PowerNetwork}
 use Rattle.network.specs.Records.{Network, noSwitch, recordsOf}
 use Rattle.states.specs.Switches.{State, byte, branchOf, operable}
-use Rattle.network.specs.Answers.{accepted, refused, answerOf, _andThen_, _if_, judge, Judgement}
-use Rattle.network.specs.Check.{checkRecords}
+use Rattle.network.specs.Answers.{accepted, refused, answerOf, _andThen_, Judgement}
 use Rattle.states.specs.Live.{live, checkState}
 use Rattle.states.specs.Configuration.{configurationOf}
 use Rattle.graph.specs.declared.rows.Graph.{Graph}
-use Rattle.radiality.specs.Feeder.{radialIn}
-use Rattle.radiality.specs.FeederRows.{feederGraph, liveFlags}
+use Rattle.feeders.specs.StateCalls.{checkRadial}
+use Rattle.feeders.specs.Supply.{checkNetwork}
+use Rattle.feeders.specs.FeederRows.{feederGraph, liveFlags}
 use Rattle.changes.specs.declared.change.Change.{Change}
 
--- ---- refusals 11 and 12
-unfoldable pub checkRadial : Network → State → ℕ → Judgement
-checkRadial N s place = judge ((11 if not (radialIn N s)) ∷ []) place
-
+-- ---- refusal 12
 -- branch k is flagged in E and not in F
 abbrev pub onlyIn : (ℕ → Bool) → (ℕ → Bool) → ℕ → Bool
 onlyIn E F k = E k && not (F k)
@@ -48,7 +45,7 @@ checkLocked N present wanted = refuseLocked N (lockedDifferences N present wante
 -- "Calls test the network, then 10 (present first), 11 (likewise), 12"
 unfoldable pub checkPlan : Network → State → State → Judgement
 checkPlan N present wanted =
-    checkRecords N
+    checkNetwork N
     andThen checkState N present 0
     andThen checkState N wanted 1
     andThen checkRadial N present 0

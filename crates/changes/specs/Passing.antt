@@ -16,8 +16,9 @@ use Rattle.states.specs.Listed.{switches-listed, few-switches, state-accepted}
 use Rattle.states.specs.Live.{live, checkState}
 use Rattle.states.specs.Switches.{State}
 use Rattle.graph.specs.Rows.{flag}
-use Rattle.radiality.specs.FeederRows.{feederGraph, liveFlags}
-use Rattle.radiality.specs.FeederRowLaws.{flags-live, state-flags}
+use Rattle.feeders.specs.FeederRows.{feederGraph, liveFlags}
+use Rattle.feeders.specs.FeederRowLaws.{flags-live, state-flags}
+use Rattle.feeders.specs.SupplyLaws.{network-records}
 use Rattle.changes.specs.declared.change.Change.{Change}
 use Rattle.changes.specs.Change.{checkPlan, flagsIn, Judged, judgedIn, judged}
 
@@ -63,7 +64,7 @@ module _ (n : PowerNetwork) where
     accepted-checked ok =
         let (r, e₁) = then-iff _ _ .0 ok in
         let (p, e₂) = then-iff _ _ .0 e₁ in
-        record { network = r; present-good = p; wanted-good = then-iff _ _ .0 e₂ .0 }
+        record { network = network-records (recordsOf n) r; present-good = p; wanted-good = then-iff _ _ .0 e₂ .0 }
 
     pub accepted-passed : {change : Change} → change .verdict ≡ Accepted → judgedIn change ≡ judged n present wanted → Passed n change present wanted
     unfolding judged

@@ -3,18 +3,19 @@ ghost use mathlib.Core.Path.{_≡_};
 ghost use mathlib.Core.Bool.{not, _&&_, _||_};
 ghost use Rattle.network.specs.Answers.{answerOf, _andThen_};
 ghost use Rattle.network.specs.Records.{recordsOf};
-ghost use Rattle.radiality.specs.FeederRows.{feederGraph, liveFlags};
-ghost use Rattle.changes.specs.Change.{checkRadial, checkLocked, checkPlan, flagsIn, judgedIn, judged};
+ghost use Rattle.feeders.specs.FeederRows.{feederGraph, liveFlags};
+ghost use Rattle.feeders.specs.StateCalls.{checkRadial};
+ghost use Rattle.changes.specs.Change.{checkLocked, checkPlan, flagsIn, judgedIn, judged};
 ghost use Rattle.changes.specs.Passing.{Checked};
 use bfs::radial::is_radial;
-use checks::check::check;
+use feeders::feeder::graph_of;
+use feeders::supply::check_network;
 use graph::flags::flagged;
 use graph::rows::Graph;
 use network::error::Verdict;
 use network::switch::Switch;
 use network::topology::PowerNetwork;
 use numbers::wide16;
-use radiality::feeder::graph_of;
 use states::configuration::NetworkConfiguration;
 use states::configuration::check_state;
 use states::configuration::live_branches;
@@ -121,9 +122,9 @@ fn verdict_of(
     requires { ⌜ (graph ≡ feederGraph network) × («present_live» ≡ flagsIn network (now present)) × («wanted_live» ≡ flagsIn network (now wanted)) ⌝ }
     ensures { λ r. ⌜ answerOf r ≡ checkPlan (recordsOf network) (now (present .entry)) (now (wanted .entry)) ⌝ }
 {
-    let records = check(network);
-    let Verdict::Accepted = records else {
-        return records;
+    let tested = check_network(network);
+    let Verdict::Accepted = tested else {
+        return tested;
     };
     let present_state = check_state(network, present, 0);
     let Verdict::Accepted = present_state else {

@@ -6,12 +6,12 @@ use Prim.Native.Nat.{ℕ}
 use lib.Dec.{T}
 use lib.Ieee.{Float, isNan}
 use Rattle.network.specs.Answers.{Answer, accepted, refused, _andThen_, Judgement}
-use Rattle.network.specs.Check.{checkRecords}
 use Rattle.network.specs.Records.{Network}
 use Rattle.printing.specs.Calls.{Call}
 use Rattle.frames.specs.Text.{readText}
+use Rattle.feeders.specs.SupplyLaws.{network-records}
 use Rattle.losses.specs.Accepted.{loss-finite}
-use Rattle.losses.specs.Loss.{lossIn}
+use Rattle.losses.specs.LossCall.{lossCall}
 use Rattle.controller.specs.Calls.{numbered, onRecords, onText, writtenAs}
 
 -- ---- a loss has bits
@@ -24,9 +24,9 @@ unfolding _andThen_
 no-nan-behind (accepted u) a h = h refl
 no-nan-behind (refused n p) a h = tt
 
-pub loss-no-nan : (N : Network) (c : Judgement) (s : List ℕ) (x : Answer Float) → x ≡ (checkRecords N andThen c andThen accepted (lossIn N s)) → NoNan x
-loss-no-nan N c s x e =
-    subst NoNan (sym e) (no-nan-behind (checkRecords N) _ λ ok. no-nan-behind c (accepted (lossIn N s)) λ _. loss-finite N ok s .2)
+pub loss-no-nan : (N : Network) (s : List ℕ) (x : Answer Float) → x ≡ lossCall N s → NoNan x
+unfolding lossCall
+loss-no-nan N s x e = subst NoNan (sym e) (no-nan-behind _ _ λ ok. no-nan-behind _ _ λ _. no-nan-behind _ _ λ _. loss-finite N (network-records N ok) s .2)
 
 -- ---- a call on a text: the text is refused, or its records are answered
 module _ {A : Type 0} (f : A → ℕ) (t : List ℕ) (call : Network → Answer A) where

@@ -4,14 +4,15 @@ use Prim.Native.Nat.{ℕ}
 use lib.Ieee.{binary64, toBits}
 use Rattle.numbers.specs.Constants.{zero64}
 use Rattle.network.specs.Answers.{Answer, accepted, refused}
-use Rattle.states.specs.Live.{onState, baseState}
+use Rattle.states.specs.Live.{baseState}
 use Rattle.states.specs.Switches.{size}
 use Rattle.network.specs.Records.{Network}
 use Rattle.printing.specs.Calls.{Call, called}
 use Rattle.printing.specs.Printed.{truthByte}
 use Rattle.frames.specs.Text.{readText}
-use Rattle.radiality.specs.Feeder.{radialIn}
-use Rattle.losses.specs.Loss.{lossIn}
+use Rattle.feeders.specs.Feeder.{radialIn}
+use Rattle.feeders.specs.StateCalls.{onState}
+use Rattle.losses.specs.LossCall.{lossCall}
 use Rattle.plan.specs.Plan.{planned}
 use Rattle.searches.specs.Results.{Result}
 use Rattle.reconfiguration.specs.Solve.{solved}
@@ -65,9 +66,9 @@ onRecords (refused number place) call = refused number place
 unfoldable pub textRadiality : List ℕ → List ℕ → Answer ℕ
 textRadiality text state = numbered truthByte (onRecords (readText text) (λ N. onState N state (radialIn N state)))
 
--- the bits of the loss in MW, after refusal 10
+-- the bits of the loss in MW, after refusal 10 and, where the text names a supply, 11
 unfoldable pub textLoss : List ℕ → List ℕ → Answer ℕ
-textLoss text state = numbered (toBits binary64) (onRecords (readText text) (λ N. onState N state (lossIn N state)))
+textLoss text state = numbered (toBits binary64) (onRecords (readText text) (λ N. lossCall N state))
 
 -- ---- a call that writes: what it answers, and what the lent slice holds then
 pub record CallWritten (A : Type 0) : Type 0 where

@@ -1,4 +1,4 @@
--- Demand 1's first sentence for the calls that take a text or records in bytes: a text of records inside the limits, with states of one byte 00 or 01 for each switch and room in the lent
+-- Demand 1's first sentence for the calls that take a text or records in bytes: a text of records inside the limits, with a supply, where one is named, as document 02 wants it, with states of one byte 00 or 01 for each switch and room in the lent
 -- slice, is answered in full. The calls on records, and `answer_text`, are in `answers.specs.Full`.
 use mathlib.Core.Path.{_≡_, refl, _∙_}
 use mathlib.Core.List.{List, _++_}
@@ -17,11 +17,13 @@ use Rattle.printing.specs.CallLaws.{in-full}
 use Rattle.printing.specs.Lengths.{operationLength, pairLength}
 use Rattle.printing.specs.Printed.{truthByte}
 use Rattle.graph.specs.Graph.{Tree}
-use Rattle.radiality.specs.Feeder.{feeder, LiveIn, radialIn}
+use Rattle.feeders.specs.Feeder.{feeder, LiveIn, radialIn}
+use Rattle.feeders.specs.Supplied.{Supplied}
 use Rattle.losses.specs.Loss.{lossIn}
+use Rattle.losses.specs.SupplySide.{Fed}
 use Rattle.plan.specs.Plan.{plan, planText}
 use Rattle.plan.specs.Plannable.{Free}
-use Rattle.searches.specs.FromBase.{base-good}
+use Rattle.states.specs.BaseLaws.{base-good}
 use Rattle.reconfiguration.specs.Solve.{best, result}
 use Rattle.operations.specs.Operations.{operations, operationsText}
 use Rattle.answers.specs.Full.{radiality-in-full, loss-in-full, solved-in-full, operations-in-full, planned-in-full}
@@ -37,12 +39,12 @@ module _ (t : List ℕ) (N : Network) (a : Acceptable t N) where
   -- `feeder_radiality`, of any state
   pub text-radiality-in-full : (s : State) → GoodState N s → textRadiality t s ≡ accepted (truthByte (radialIn N s))
   unfolding textRadiality onRecords numbered
-  text-radiality-in-full s good = rw (has-records, radiality-in-full N (a .inside) s good)
+  text-radiality-in-full s good = rw (has-records, radiality-in-full N (a .inside) (a .supplied) s good)
 
-  -- `feeder_loss`, of any state, radial or not
-  pub text-loss-in-full : (s : State) → GoodState N s → textLoss t s ≡ accepted (toBits binary64 (lossIn N s))
+  -- `feeder_loss`, of any state, radial or not; where the text names a supply, of any radial one
+  pub text-loss-in-full : (s : State) → GoodState N s → Fed N s → textLoss t s ≡ accepted (toBits binary64 (lossIn N s))
   unfolding textLoss onRecords numbered
-  text-loss-in-full s good = rw (has-records, loss-in-full N (a .inside) s good)
+  text-loss-in-full s good fed = rw (has-records, loss-in-full N (a .inside) (a .supplied) s good fed)
 
   -- `feeder_plan`, between radial states whose switches that must move are operable: a line for each pair
   pub text-plan-in-full : (present wanted : State) → GoodState N present → GoodState N wanted → Tree (feeder N) (LiveIn N present) → Tree (feeder N) (LiveIn N wanted)
@@ -51,19 +53,19 @@ module _ (t : List ℕ) (N : Network) (a : Acceptable t N) where
       pairLength * length moves ≤ length out
       → textPlan t present wanted out ≡ record { answer = accepted (length moves); out = planText moves ++ drop (pairLength * length moves) out }
   unfolding textPlan onText
-  text-plan-in-full present wanted p w r v free out room = rw has-records (planned-in-full N (a .inside) present wanted p w r v free out room)
+  text-plan-in-full present wanted p w r v free out room = rw has-records (planned-in-full N (a .inside) (a .supplied) present wanted p w r v free out room)
 
   -- `feeder_operations`, between any two states: `operationLength` bytes for each operation
   pub text-operations-in-full : (from to : State) → GoodState N from → GoodState N to → (out : List ℕ)
       → let l = operations N from to in
       operationLength * length l ≤ length out → textOperations t from to out ≡ record { answer = accepted (length l); out = operationsText l ++ drop (operationLength * length l) out }
   unfolding textOperations onText
-  text-operations-in-full from to f g out room = rw has-records (operations-in-full N (a .inside) from to f g out room)
+  text-operations-in-full from to f g out room = rw has-records (operations-in-full N (a .inside) (a .supplied) from to f g out room)
 
   -- `feeder_solve`: a byte for each switch
   pub text-solved-in-full : (out : List ℕ) → size N ≤ length out → textSolved t out ≡ record { answer = accepted (result N); out = best N .state ++ drop (size N) out }
   unfolding textSolved onText
-  text-solved-in-full out room = rw has-records (solved-in-full N (a .inside) out room)
+  text-solved-in-full out room = rw has-records (solved-in-full N (a .inside) (a .supplied) out room)
 
   -- `feeder_base_state`: a byte for each switch
   pub text-base-in-full : (out : List ℕ) → size N ≤ length out → textBase t out ≡ record { answer = accepted (size N); out = baseState N ++ drop (size N) out }
@@ -72,7 +74,7 @@ module _ (t : List ℕ) (N : Network) (a : Acceptable t N) where
       let long : length (baseState N) ≡ size N = base-good N .long in
       rw has-records (in-full (size N) (baseState N) out refl (rw long room) ∙ rw long)
 
--- `feeder_write_text`, of records inside the limits in bytes: their text
-pub records-in-full : (N : Network) → Inside N → Writable N → (out : List ℕ) → length (textOf N) ≤ length out
+-- `feeder_write_text`, of records inside the limits in bytes, with a supply as document 02 wants it: their text
+pub records-in-full : (N : Network) → Inside N → Supplied N → Writable N → (out : List ℕ) → length (textOf N) ≤ length out
     → writtenRecords (bytesOfRecords N) out ≡ record { answer = accepted (length (textOf N)); out = textOf N ++ drop (length (textOf N)) out }
-records-in-full N inside room out long = records-alike N room out ∙ writer.claim .written-in-full N out inside long
+records-in-full N inside supplied room out long = records-alike N room out ∙ writer.claim .written-in-full N out inside supplied long

@@ -45,7 +45,7 @@ pub extern "C" fn feeder_radiality(text: &[u8], state: &[u8]) -> CallAnswer
     radiality_numbers(verify_radiality(reading.network, state))
 }
 
-// The loss of a state, which need not be radial: the value is the bits of the f64, in MW.
+// The loss of a state, which must be radial only where the text names a supply: the value is the bits of the f64, in MW.
 #[no_mangle]
 pub extern "C" fn feeder_loss(text: &[u8], state: &[u8]) -> CallAnswer
     ensures { λ r. ⌜ r ≡ numbersOf (textLoss (now (text .entry)) (now (state .entry))) ⌝ }

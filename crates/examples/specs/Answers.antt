@@ -17,8 +17,8 @@ use Rattle.examples.specs.Feeders.{triangle}
 use Rattle.printing.specs.Printed.{answerText, operationText, pairText, refusalText}
 use Rattle.graph.specs.Walk.{far, neighbours, reached, enter, enterAll, turn, walkBy, walk, byOf, across, back, bfsPath}
 use Rattle.graph.specs.Radial.{radial}
-use Rattle.radiality.specs.Feeder.{feeder, position, endsPath, radialIn}
-use Rattle.losses.specs.Loss.{walkLoad, downstream, termOf, totalOf, loss, lossIn}
+use Rattle.feeders.specs.Feeder.{feeder, position, endsPath, radialIn}
+use Rattle.losses.specs.Loss.{walkLoad, downstream, termOf, totalOf, loss, drawn, lossIn}
 use Rattle.plan.specs.Plan.{closings, opening, exchanged, pairsFrom, pairs, switchOn, plan, planText}
 use Rattle.plan.specs.Claim.{SwitchingPlan}
 use Rattle.states.specs.Switches.{swapped}
@@ -36,7 +36,7 @@ pub triangle-printed : printed triangleText
     ++ (line 8 0x82000A00
     ++ (line 8 0x82000B01
     ++ line 10 0x83000B000A))
-unfolding printed networkText moveLines planLines operationLines resultText result resultBy reduction best bestBy exchangeBest exchange untilEnded lastSome afterRound roundOf improved improves trial swapWith sectionOf loopOf swapped operations operationTo operationsText plan planText pairs pairsFrom closings opening exchanged switchOn endsPath lossIn loss totalOf termOf downstream walkLoad radialIn feeder position radial bfsPath back across byOf walk walkBy turn enterAll enter reached neighbours far baseState live openOn those least firstSome firstOf indexOf _orElse_ count upTo table answerText operationText pairText frameText writeFields digits digit flatMap ofBits toBits add sub mul div lt le neg
+unfolding printed networkText moveLines planLines operationLines resultText result resultBy reduction best bestBy exchangeBest exchange untilEnded lastSome afterRound roundOf improved improves trial swapWith sectionOf loopOf swapped operations operationTo operationsText plan planText pairs pairsFrom closings opening exchanged switchOn endsPath lossIn drawn loss totalOf termOf downstream walkLoad radialIn feeder position radial bfsPath back across byOf walk walkBy turn enterAll enter reached neighbours far baseState live openOn those least firstSome firstOf indexOf _orElse_ count upTo table answerText operationText pairText frameText writeFields digits digit flatMap ofBits toBits add sub mul div lt le neg
 triangle-printed = rw triangle-read
 
 -- "A refusal prints one line": `0G` is 1 at line 1

@@ -1,6 +1,7 @@
 -- The records of the examples, and document 01's triangle.
 use mathlib.Core.Bool.{true, false}
 use mathlib.Core.List.{List, [], _∷_}
+use mathlib.Core.Option.{none, some}
 use Prim.Native.Nat.{ℕ}
 use lib.Ieee.{Float, binary64, ofBits}
 use Rattle.network.specs.declared.bus.Bus.{Bus}
@@ -29,7 +30,7 @@ tie id k = record { id = id; «branch_idx» = k; «normally_open» = true; «can
 -- base_mva is 1
 abbrev pub network : ReconfigAlgorithm → ℕ → List Bus → List Branch → List Switch → Network
 network algorithm iterations buses branches switches =
-    record { base = float 0x3FF0000000000000; algorithm = algorithm; iterations = iterations; buses = buses; branches = branches; switches = switches }
+    record { base = float 0x3FF0000000000000; algorithm = algorithm; iterations = iterations; buses = buses; branches = branches; switches = switches; supply = none }
 
 -- with the triangle's head
 abbrev pub records : List Bus → List Branch → List Switch → Network
@@ -54,3 +55,8 @@ triangleWith algorithm iterations = network algorithm iterations buses branches 
 
 abbrev pub triangle : Network
 triangle = triangleWith BranchExchange 100
+
+-- ---- document 02: fed from the bus with this id
+abbrev pub fedFrom : ℕ → Network → Network
+fedFrom id N =
+    record { base = N .base; algorithm = N .algorithm; iterations = N .iterations; buses = N .buses; branches = N .branches; switches = N .switches; supply = some id }

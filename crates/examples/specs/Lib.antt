@@ -4,3 +4,4 @@ pub mod Plans
 pub mod Searches
 pub mod Answers
 pub mod ReadBack
+pub mod Supplies

@@ -17,12 +17,15 @@ use Rattle.network.specs.Answers.{Answer, accepted, _andThen_, judge}
 use Rattle.network.specs.Limits.{okBase, okLoad, okR, ties}
 use Rattle.network.specs.Faults.{headFaults, busFaults, branchFaults, switchFaults}
 use Rattle.network.specs.Check.{headOf, checkRun, checkRecords}
-use Rattle.states.specs.Live.{live, openOn, checkState, onState, baseState}
+use Rattle.states.specs.Live.{live, openOn, checkState, baseState}
 use Rattle.states.specs.Switches.{State, swapped, toggled}
 use Rattle.graph.specs.Walk.{far, neighbours, reached, enter, enterAll, turn, walkBy, walk, byOf, across, back, bfsPath}
 use Rattle.graph.specs.Radial.{radial}
-use Rattle.radiality.specs.Feeder.{feeder, position, endsPath, radialIn}
-use Rattle.losses.specs.Loss.{walkLoad, downstream, termOf, totalOf, loss, lossIn}
+use Rattle.feeders.specs.Feeder.{feeder, position, endsPath, radialIn}
+use Rattle.feeders.specs.StateCalls.{onState}
+use Rattle.feeders.specs.Supply.{checkSupply, checkNetwork}
+use Rattle.losses.specs.Loss.{walkLoad, downstream, termOf, totalOf, loss, drawn, lossIn}
+use Rattle.losses.specs.LossCall.{lossCall}
 use Rattle.printing.specs.Calls.{Call, checkRoom, called}
 use Rattle.searches.specs.Results.{Result, reduction, resultBy, solvedBy}
 use Rattle.searches.specs.Rounds.{untilEnded, lesserBy}
@@ -56,7 +59,7 @@ slice N = replicate (length (N .switches) + 1) 0xFF
 
 -- by the definitions that these calls promise, their tests of the records and of the state included
 abbrev pub valueOf : Case → Value
-valueOf (inState N s) = ofState (onState N s (radialIn N s)) (onState N s (lossIn N s))
+valueOf (inState N s) = ofState (onState N s (radialIn N s)) (lossCall N s)
 valueOf (searched N) = ofSearch (solved N (slice N))
 
 -- no refusal: radial or not, and the loss
@@ -117,7 +120,7 @@ marked =
 
 -- document 01: "One proved table holds the marked (*) cases under one theorem"
 pub marked-cases : map reckoned marked ≡ map said marked
-unfolding solved solvedBy resultBy reduction called checkRoom checkState every checkRecords headOf checkRun headFaults busFaults branchFaults switchFaults okBase okLoad okR ties judge _andThen_ neg best bestBy exchangeBest tabuBest exhaustiveBest exchange untilEnded lastSome afterRound roundOf improved improves trial swapWith sectionOf loopOf swapped tabu bestMove afterMove lastSeven lesserBy allowed among toggled exhaustive tryMask leastOrBase masked lossIn loss totalOf termOf downstream walkLoad radialIn endsPath feeder position radial bfsPath back across byOf walk walkBy turn enterAll enter reached neighbours far baseState live openOn those least firstSome firstOf indexOf _orElse_ count upTo table ofBits add sub mul div lt le
+unfolding solved solvedBy resultBy reduction called checkRoom checkState every lossCall checkNetwork checkSupply checkRecords headOf checkRun headFaults busFaults branchFaults switchFaults okBase okLoad okR ties judge _andThen_ neg best bestBy exchangeBest tabuBest exhaustiveBest exchange untilEnded lastSome afterRound roundOf improved improves trial swapWith sectionOf loopOf swapped tabu bestMove afterMove lastSeven lesserBy allowed among toggled exhaustive tryMask leastOrBase masked lossIn drawn loss totalOf termOf downstream walkLoad radialIn endsPath feeder position radial bfsPath back across byOf walk walkBy turn enterAll enter reached neighbours far baseState live openOn those least firstSome firstOf indexOf _orElse_ count upTo table ofBits add sub mul div lt le
 marked-cases = refl
 
 -- Five buses in a row, 1 MW at each but the first, and three ties. In the first round, with 9.75 at its start, tie 5 improves to 8.75 and tie 6 to 9.5; tie 7's first
@@ -141,5 +144,5 @@ rounds =
     ∷ []
 
 round-cases : map reckoned rounds ≡ map said rounds
-unfolding solved solvedBy resultBy reduction called checkRoom checkState every checkRecords headOf checkRun headFaults busFaults branchFaults switchFaults okBase okLoad okR ties judge _andThen_ neg best bestBy exchangeBest tabuBest exhaustiveBest exchange untilEnded lastSome afterRound roundOf improved improves trial swapWith sectionOf loopOf swapped tabu bestMove afterMove lastSeven lesserBy allowed among toggled exhaustive tryMask leastOrBase masked lossIn loss totalOf termOf downstream walkLoad radialIn endsPath feeder position radial bfsPath back across byOf walk walkBy turn enterAll enter reached neighbours far baseState live openOn those least firstSome firstOf indexOf _orElse_ count upTo table ofBits add sub mul div lt le
+unfolding solved solvedBy resultBy reduction called checkRoom checkState every lossCall checkNetwork checkSupply checkRecords headOf checkRun headFaults busFaults branchFaults switchFaults okBase okLoad okR ties judge _andThen_ neg best bestBy exchangeBest tabuBest exhaustiveBest exchange untilEnded lastSome afterRound roundOf improved improves trial swapWith sectionOf loopOf swapped tabu bestMove afterMove lastSeven lesserBy allowed among toggled exhaustive tryMask leastOrBase masked lossIn drawn loss totalOf termOf downstream walkLoad radialIn endsPath feeder position radial bfsPath back across byOf walk walkBy turn enterAll enter reached neighbours far baseState live openOn those least firstSome firstOf indexOf _orElse_ count upTo table ofBits add sub mul div lt le
 round-cases = refl

@@ -11,7 +11,7 @@ use Rattle.network.specs.Faults.{headFaults, busFaults, branchFaults, switchFau
 use Rattle.lines.specs.Hex.{isDigit, value, digit, number, digits, readFields}
 use Rattle.lines.specs.Lines.{put, cut, lineFaults}
 use Rattle.record_lines.specs.Kinds.{isFrame, fieldsOf, methodOf, readOne, without}
-use Rattle.frames.specs.Text.{follow, pure, readRun, readEnd, readLines, readText}
+use Rattle.frames.specs.Text.{follow, pure, readRun, readEnd, atMostOne, asOption, readLines, readText}
 use Rattle.frames.specs.Conditions.{judgementOf}
 use Rattle.record_bytes.specs.RecordBytes.{frameBytes, linesOfBytes, textOfBytes, numberBytes}
 use Rattle.examples.specs.Feeders.{triangle}
@@ -21,23 +21,23 @@ abbrev pub line : ℕ → ℕ → List ℕ
 line w n = digits w n ++ (10 ∷ [])
 
 -- ---- the triangle
-abbrev headLine : List ℕ
+abbrev pub headLine : List ℕ
 headLine = line 36 0x010003000300023FF0000000000000000064
 
-abbrev busLines : List ℕ
+abbrev pub busLines : List ℕ
 busLines = line 22 0x0200010000000000000000 ++ (line 22 0x0200023FF0000000000000 ++ line 22 0x0200034000000000000000)
 
 abbrev branchLines : List ℕ
 branchLines = line 28 0x03000100023FD000000000000001 ++ (line 28 0x03000200033FDC00000000000001 ++ line 28 0x03000100033FC800000000000001)
 
-abbrev switchLines : List ℕ
+abbrev pub switchLines : List ℕ
 switchLines = line 12 0x04000A000102 ++ line 12 0x04000B000203
 
 abbrev pub triangleText : List ℕ
 triangleText = headLine ++ (busLines ++ (branchLines ++ switchLines))
 
 pub triangle-read : readText triangleText ≡ accepted triangle
-unfolding readText readLines readOne readRun readEnd without judge _andThen_ follow pure cut put every lineFaults isFrame fieldsOf methodOf number value digit digits isDigit readFields headFaults busFaults branchFaults switchFaults okBase okLoad okR among ties ofBits le neg
+unfolding readText readLines readOne readRun atMostOne asOption readEnd without judge _andThen_ follow pure cut put every lineFaults isFrame fieldsOf methodOf number value digit digits isDigit readFields headFaults busFaults branchFaults switchFaults okBase okLoad okR among ties ofBits le neg
 triangle-read = refl
 
 -- its records in bytes: the same digits, two in a byte
@@ -53,7 +53,7 @@ unfolding textOfBytes linesOfBytes frameBytes numberBytes flatMap digits digit
 triangle-written = refl
 
 -- ---- refused texts
-abbrev refusedAs : ℕ → ℕ → List ℕ → Type 0
+abbrev pub refusedAs : ℕ → ℕ → List ℕ → Type 0
 refusedAs n place t = readText t ≡ refused n place
 
 -- the triangle up to the last line of a kind, then this text
@@ -73,7 +73,7 @@ pub table-rows :
     × refusedAs 6 4 (line 36 0x010002000100003FF0000000000000000064 ++ (line 22 0x0200010000000000000000 ++ (line 22 0x0200020000000000000000 ++ line 28 0x0300010009000000000000000000)))  -- end 0009 of buses 1 and 2
     × refusedAs 7 3 (headLine ++ (line 22 0x0200010000000000000000 ++ line 22 0x0200010000000000000000))  -- bus 0001 again
     × refusedAs 8 9 (headLine ++ (busLines ++ (branchLines ++ (line 12 0x04000A000002 ++ line 12 0x04000B000003))))  -- two switches on 0000
-unfolding readText readLines readOne readRun readEnd without judge _andThen_ follow pure cut put every lineFaults isFrame fieldsOf methodOf number value digit digits isDigit readFields headFaults busFaults branchFaults switchFaults okBase okLoad okR among ties ofBits le neg
+unfolding readText readLines readOne readRun atMostOne asOption readEnd without judge _andThen_ follow pure cut put every lineFaults isFrame fieldsOf methodOf number value digit digits isDigit readFields headFaults busFaults branchFaults switchFaults okBase okLoad okR among ties ofBits le neg
 table-rows = (refl, refl, refl, refl, refl, refl, refl, refl)
 
 -- row 9: with method 02, ten ties pass, eleven are refused at the eleventh's line
@@ -89,5 +89,5 @@ abbrev manyTies : ℕ → List ℕ
 manyTies n = line 36 (0x010002000000003FF0000000000000020000 + n * 0x100010000000000000000000000) ++ (line 22 0x0200010000000000000000 ++ (line 22 0x0200020000000000000000 ++ (parallels n ++ tieLines n)))
 
 many-ties : (judgementOf (readText (manyTies 10)) ≡ accepted tt) × refusedAs 9 25 (manyTies 11)
-unfolding readText readLines readOne readRun readEnd without judge _andThen_ follow pure cut put every lineFaults isFrame fieldsOf methodOf number value digit digits isDigit readFields headFaults busFaults branchFaults switchFaults okBase okLoad okR among ties ofBits le neg judgementOf
+unfolding readText readLines readOne readRun atMostOne asOption readEnd without judge _andThen_ follow pure cut put every lineFaults isFrame fieldsOf methodOf number value digit digits isDigit readFields headFaults busFaults branchFaults switchFaults okBase okLoad okR among ties ofBits le neg judgementOf
 many-ties = (refl, refl)

@@ -10,7 +10,7 @@ use Rattle.numbers.specs.Choose.{least, firstSome, lastSome}
 use Rattle.network.specs.Records.{Network}
 use Rattle.states.specs.Live.{live, baseState}
 use Rattle.states.specs.Switches.{State, byte, branchOf, operable, size, isTie, swapped}
-use Rattle.radiality.specs.Feeder.{endsPath, radialIn}
+use Rattle.feeders.specs.Feeder.{endsPath, radialIn}
 use Rattle.losses.specs.Loss.{lossIn}
 use Rattle.searches.specs.Results.{Best}
 use Rattle.searches.specs.Rounds.{untilEnded}

@@ -10,7 +10,7 @@ use Rattle.numbers.specs.Tests.{both}
 use Rattle.network.specs.Records.{Network}
 use Rattle.states.specs.Live.{baseState}
 use Rattle.states.specs.Switches.{State, byte, branchOf, operable, size, isTie, swapped}
-use Rattle.radiality.specs.Feeder.{radialIn}
+use Rattle.feeders.specs.Feeder.{radialIn}
 use Rattle.losses.specs.Loss.{lossIn}
 use Rattle.exchange.specs.Exchange.{seen, loopOf, sectionOf, swapWith, trial, improves, improved, improving, roundOf, Exchange, afterRound, next, exchangeStart, exchange, exchangeBest}
 use Rattle.numbers.specs.IfSome.{IfSome, cond-holds, firstSome-holds, least-passes}
@@ -56,7 +56,7 @@ module _ (N : Network) where
                 radial = both (eqb (byte s i) 0) _ r .1;
               }
 
-      trial-swaps : IfSome (Swap N s) (trial N s tie)
+      pub trial-swaps : IfSome (Swap N s) (trial N s tie)
       unfolding trial sectionOf
       trial-swaps = firstSome-holds (Swap N s) _ (λ k. swapWith-swaps k (sectionOf N k) (least-passes _ (size N))) (loopOf N s tie)
 

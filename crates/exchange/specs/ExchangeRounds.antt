@@ -22,7 +22,7 @@ use Rattle.states.specs.Switches.{State, swapped}
 use Rattle.searches.specs.StateLaws.{held, state-held}
 use Rattle.exchange.specs.Exchange.{roundOf, Exchange, afterRound, next, exchangeStart, exchange}
 use Rattle.numbers.specs.IfSome.{IfSome}
-use Rattle.searches.specs.FromBase.{base-good}
+use Rattle.states.specs.BaseLaws.{base-good}
 use Rattle.searches.specs.RoundLaws.{Left, left-all, held-ended, held-none, held-less}
 use Rattle.exchange.specs.ExchangeLaws.{Swap, round-swaps}
 use Rattle.exchange.specs.ExchangeValues.{trialOf, exchangeOf}

@@ -22,9 +22,9 @@ use Rattle.network.specs.Inside.{Inside}
 use Rattle.network.specs.InsideLaws.{check-inside}
 use Rattle.network.specs.Positions.{one-on-branch}
 use Rattle.graph.specs.declared.rows.Graph.{Graph}
-use Rattle.radiality.specs.Feeder.{radialIn}
-use Rattle.radiality.specs.FeederRows.{feederGraph, liveFlags}
-use Rattle.radiality.specs.FeederRowLaws.{flags-radial}
+use Rattle.feeders.specs.Feeder.{radialIn}
+use Rattle.feeders.specs.FeederRows.{feederGraph, liveFlags}
+use Rattle.feeders.specs.FeederRowLaws.{flags-radial}
 use Rattle.graph.specs.Rows.{rowRadial}
 use Rattle.states.specs.Switches.{State, byte, branchOf, operable, size, isTie, swapped, inService}
 use Rattle.searches.specs.States.{stateOf}

@@ -26,9 +26,9 @@ use Rattle.network.specs.Positions.{on-a-branch}
 use Rattle.graph.specs.declared.rows.Graph.{Graph}
 use Rattle.graph.specs.declared.walks.PathBranches.{PathBranches}
 use Rattle.graph.specs.Rows.{pathOf, rowEndsPath, rowRadial}
-use Rattle.radiality.specs.Feeder.{feeder}
-use Rattle.radiality.specs.FeederRows.{feederGraph, liveFlags}
-use Rattle.radiality.specs.FeederRowLaws.{live-row-ends-path}
+use Rattle.feeders.specs.Feeder.{feeder}
+use Rattle.feeders.specs.FeederRows.{feederGraph, liveFlags}
+use Rattle.feeders.specs.FeederRowLaws.{live-row-ends-path}
 use Rattle.losses.specs.Loss.{lossIn}
 use Rattle.states.specs.Switches.{State, byte, branchOf, swapped, inService}
 use Rattle.exchange.specs.declared.exchange.Section.{Section}

@@ -14,6 +14,7 @@ ghost use Rattle.states.specs.Switches.{State};
 ghost use Rattle.graph.specs.Rows.{rowEndsPath, pathOf};
 ghost use Rattle.numbers.specs.Choose.{firstSome};
 ghost use Rattle.numbers.specs.Constants.{billionth};
+ghost use Rattle.feeders.specs.Supply.{checkNetwork};
 ghost use Rattle.searches.specs.Results.{solvedBy, solveAnswerOf};
 ghost use Rattle.searches.specs.SearchValues.{startOf, foundOf};
 ghost use Rattle.searches.specs.States.{stateOf};
@@ -23,8 +24,8 @@ ghost use Rattle.exchange.specs.ExchangeValues.{sectionIn, sectionAt, se
 use bfs::radial::is_radial;
 use graph::rows::Graph;
 use graph::walks::PathBranches;
-use losses::estimate::compute_losses_estimate;
-use network::bus::Power;
+use losses::loads::Loads;
+use losses::loads::live_loss;
 use network::error::Verdict;
 use network::switch::Switch;
 use network::topology::PowerNetwork;
@@ -245,7 +246,7 @@ fn last_improving(
 fn branch_exchange_step(
     network: PowerNetwork,
     graph: Graph,
-    loads: [Power; PowerNetwork::MAX_BUSES],
+    loads: Loads,
     sections: [u16; PowerNetwork::MAX_BRANCHES],
     configuration: NetworkConfiguration,
     current: f64,
@@ -280,7 +281,7 @@ fn branch_exchange_step(
                 let section = wide16(found);
                 let opened = wide16(network.switches[section].branch_idx);
                 let swapped = swapped_live(live, on, served, opened);
-                let loss = compute_losses_estimate(graph, loads, branches, base_mva, swapped);
+                let loss = live_loss(graph, loads, branches, base_mva, swapped);
                 last = last_improving(last, configuration, current, i, section, loss);
             }
         }
@@ -318,7 +319,7 @@ fn after_round(done: BranchExchange, step: Trial) -> BranchExchange
 fn branch_exchange_rounds(
     network: PowerNetwork,
     graph: Graph,
-    loads: [Power; PowerNetwork::MAX_BUSES],
+    loads: Loads,
     base: NetworkConfiguration,
     base_loss: f64,
 ) -> BranchExchange
@@ -345,7 +346,7 @@ fn branch_exchange_rounds(
 
 // What the exchange finds.
 fn search(network: PowerNetwork, start: Start) -> Found
-    requires { ⌜ (checkRecords (recordsOf network) ≡ accepted tt) × (start ≡ startOf network) ⌝ }
+    requires { ⌜ (checkNetwork (recordsOf network) ≡ accepted tt) × (start ≡ startOf network) ⌝ }
     ensures { λ r. ⌜ r ≡ foundOf (recordsOf network) (exchangeBest (recordsOf network)) ⌝ }
 {
     let graph = start.graph;

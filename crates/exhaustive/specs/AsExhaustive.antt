@@ -12,7 +12,7 @@ use Rattle.exhaustive.specs.ExhaustiveValues.{exhaustiveHead}
 
 -- with this method in its head
 abbrev headed : ReconfigAlgorithm → Network → Network
-headed a N = record { base = N .base; algorithm = a; iterations = N .iterations; buses = N .buses; branches = N .branches; switches = N .switches }
+headed a N = record { base = N .base; algorithm = a; iterations = N .iterations; buses = N .buses; branches = N .branches; switches = N .switches; supply = N .supply }
 
 module _ (n : PowerNetwork) (out : List ℕ) where
   pub exhaustive-own : n .algorithm ≡ method.Exhaustive → solvedBy exhaustiveBest (recordsOf n) out ≡ solvedBy exhaustiveBest (asExhaustive (recordsOf n)) out

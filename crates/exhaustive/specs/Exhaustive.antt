@@ -10,7 +10,7 @@ use Rattle.network.specs.declared.switch.ReconfigAlgorithm.the-variants as meth
 use Rattle.network.specs.Records.{Network}
 use Rattle.states.specs.Live.{stateByte, baseState}
 use Rattle.states.specs.Switches.{State, size, isTie}
-use Rattle.radiality.specs.Feeder.{radialIn}
+use Rattle.feeders.specs.Feeder.{radialIn}
 use Rattle.losses.specs.Loss.{lossIn}
 use Rattle.searches.specs.Rounds.{lesserBy}
 use Rattle.searches.specs.Results.{Best}
@@ -78,4 +78,4 @@ exhaustiveBest N =
 
 -- the feeder with method 02 in its head
 unfoldable pub asExhaustive : Network → Network
-asExhaustive N = record { base = N .base; algorithm = method.Exhaustive; iterations = N .iterations; buses = N .buses; branches = N .branches; switches = N .switches }
+asExhaustive N = record { base = N .base; algorithm = method.Exhaustive; iterations = N .iterations; buses = N .buses; branches = N .branches; switches = N .switches; supply = N .supply }

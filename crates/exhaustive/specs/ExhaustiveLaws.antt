@@ -10,12 +10,12 @@ use Rattle.network.specs.Records.{Network}
 use Rattle.states.specs.Live.{stateByte, live, baseState}
 use Rattle.states.specs.LiveLaws.{base-byte}
 use Rattle.states.specs.Switches.{byte, size, isTie, GoodState}
-use Rattle.radiality.specs.Feeder.{radialIn}
+use Rattle.feeders.specs.Feeder.{radialIn}
 use Rattle.losses.specs.Loss.{lossIn}
 use Rattle.states.specs.LiveBytes.{live-less}
 use Rattle.exhaustive.specs.Exhaustive.{bit, tieCount, maskedByte, masked, Least, withLoss, Exhaustive, tryMask, exhaustive, leastOrBase, exhaustiveBest}
 use Rattle.numbers.specs.IfSome.{IfSome}
-use Rattle.searches.specs.FromBase.{state-byte, base-good}
+use Rattle.states.specs.BaseLaws.{state-byte, base-good}
 use Rattle.searches.specs.LesserLaws.{lesser-holds}
 use Rattle.searches.specs.Results.{SoundBest}
 

@@ -17,12 +17,12 @@ use Rattle.network.specs.Inside.{Inside}
 use Rattle.states.specs.Live.{stateByte, baseState}
 use Rattle.states.specs.LiveLaws.{base-byte}
 use Rattle.states.specs.Switches.{isTie, size}
-use Rattle.radiality.specs.Feeder.{radialIn}
+use Rattle.feeders.specs.Feeder.{radialIn}
 use Rattle.losses.specs.Loss.{lossIn}
 use Rattle.exhaustive.specs.Exhaustive.{bit, tieCount, masked, withLoss, Exhaustive, tryMask, exhaustive, leastOrBase}
 use Rattle.searches.specs.Floats.{lt-self}
 use Rattle.searches.specs.Rounds.{lesserBy}
-use Rattle.searches.specs.FromBase.{base-good}
+use Rattle.states.specs.BaseLaws.{base-good}
 use Rattle.searches.specs.LiveBranches.{same-loss, radial-part-same}
 use Rattle.exhaustive.specs.ExhaustiveLaws.{masked-more}
 

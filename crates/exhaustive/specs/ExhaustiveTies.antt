@@ -27,11 +27,11 @@ use Rattle.network.specs.TieLaws.{ties-next}
 use Rattle.network.specs.Inside.{Inside}
 use Rattle.states.specs.Live.{baseState}
 use Rattle.states.specs.LiveLaws.{base-byte}
-use Rattle.radiality.specs.FeederRows.{liveFlags}
+use Rattle.feeders.specs.FeederRows.{liveFlags}
 use Rattle.states.specs.Switches.{State, byte, branchOf, size, switch, isTie, inService}
 use Rattle.exhaustive.specs.declared.exhaustive.Ties.{Ties}
 use Rattle.searches.specs.LiveFlags.{on-flagged, flags-closed}
-use Rattle.searches.specs.FromBase.{base-good}
+use Rattle.states.specs.BaseLaws.{base-good}
 use Rattle.exhaustive.specs.Exhaustive.{bit, tieCount, maskedByte, masked}
 use Rattle.exhaustive.specs.ExhaustiveValues.{tieAt, tiesOf, closing, closedBy}
 

@@ -62,4 +62,6 @@ exhaustiveHead n =
       «base_mva» = n .«base_mva»;
       algorithm = method.Exhaustive;
       «max_iterations» = n .«max_iterations»;
+      «has_supply» = n .«has_supply»;
+      supply = n .supply;
     }

@@ -12,9 +12,10 @@ ghost use Rattle.network.specs.Check.{checkRecords};
 ghost use Rattle.states.specs.Configuration.{configurationOf};
 ghost use Rattle.states.specs.Live.{stateByte, baseState};
 ghost use Rattle.network.specs.Records.{Network, recordsOf};
-ghost use Rattle.radiality.specs.Feeder.{radialIn};
-ghost use Rattle.radiality.specs.FeederRows.{liveFlags};
+ghost use Rattle.feeders.specs.Feeder.{radialIn};
+ghost use Rattle.feeders.specs.FeederRows.{liveFlags};
 ghost use Rattle.states.specs.Switches.{State};
+ghost use Rattle.feeders.specs.Supply.{checkNetwork};
 ghost use Rattle.searches.specs.Results.{solvedBy, solveAnswerOf};
 ghost use Rattle.searches.specs.SearchValues.{startOf, foundOf};
 ghost use Rattle.searches.specs.Given.{Given, Base};
@@ -22,8 +23,8 @@ ghost use Rattle.exhaustive.specs.Exhaustive.{tieCount, masked, Exhausti
 ghost use Rattle.exhaustive.specs.ExhaustiveValues.{tiesOf, closedBy, exhaustiveOf, exhaustiveHead};
 use bfs::radial::is_radial;
 use graph::rows::Graph;
-use losses::estimate::compute_losses_estimate;
-use network::bus::Power;
+use losses::loads::Loads;
+use losses::loads::live_loss;
 use network::error::Verdict;
 use network::switch::ReconfigAlgorithm;
 use network::switch::Switch;
@@ -238,7 +239,7 @@ fn with_base(base: NetworkConfiguration, base_radial: bool, base_loss: f64) -> E
 fn with_mask(
     network: PowerNetwork,
     graph: Graph,
-    loads: [Power; PowerNetwork::MAX_BUSES],
+    loads: Loads,
     search: ExhaustiveSearch,
     live: [bool; PowerNetwork::MAX_BRANCHES],
     mask: u16,
@@ -248,7 +249,7 @@ fn with_mask(
     ensures { λ r. ⌜ ((x : Exhaustive) → search ≡ exhaustiveOf (recordsOf network) x → r ≡ exhaustiveOf (recordsOf network) (tryMask (recordsOf network) x mask)) ⌝ }
 {
     let branches = network.branches;
-    let loss = compute_losses_estimate(graph, loads, branches, network.base_mva, live);
+    let loss = live_loss(graph, loads, branches, network.base_mva, live);
     with_radial(search, masked(network, mask), loss)
 }
 
@@ -256,7 +257,7 @@ fn with_mask(
 fn exhaustive_masks(
     network: PowerNetwork,
     graph: Graph,
-    loads: [Power; PowerNetwork::MAX_BUSES],
+    loads: Loads,
     base: NetworkConfiguration,
     base_live: [bool; PowerNetwork::MAX_BRANCHES],
     base_radial: bool,
@@ -282,7 +283,7 @@ fn exhaustive_masks(
 
 // What the exhaustive search finds: it counts the radial states, and it converged.
 fn search(network: PowerNetwork, start: Start) -> Found
-    requires { ⌜ (checkRecords (recordsOf network) ≡ accepted tt) × (start ≡ startOf network) × (network .algorithm ≡ ReconfigAlgorithm.Exhaustive) ⌝ }
+    requires { ⌜ (checkNetwork (recordsOf network) ≡ accepted tt) × (start ≡ startOf network) × (network .algorithm ≡ ReconfigAlgorithm.Exhaustive) ⌝ }
     ensures { λ r. ⌜ r ≡ foundOf (recordsOf network) (exhaustiveBest (recordsOf network)) ⌝ }
 {
     let graph = start.graph;
@@ -328,6 +329,8 @@ fn as_exhaustive(network: PowerNetwork) -> PowerNetwork
         base_mva: network.base_mva,
         algorithm: ReconfigAlgorithm::Exhaustive,
         max_iterations: network.max_iterations,
+        has_supply: network.has_supply,
+        supply: network.supply,
     }
 }
 

@@ -28,6 +28,8 @@ module _ (listed network : PowerNetwork) (k i : ℕ) (at : k ≡ i) where
         «base_mva» = network .«base_mva»;
         algorithm = network .algorithm;
         «max_iterations» = network .«max_iterations»;
+        «has_supply» = network .«has_supply»;
+        supply = network .supply;
       })
       (withBuses listed (l ++ (x ∷ [])))
   unfolding withBuses
@@ -45,6 +47,8 @@ module _ (listed network : PowerNetwork) (k i : ℕ) (at : k ≡ i) where
         «base_mva» = network .«base_mva»;
         algorithm = network .algorithm;
         «max_iterations» = network .«max_iterations»;
+        «has_supply» = network .«has_supply»;
+        supply = network .supply;
       })
       (withBranches listed (l ++ (x ∷ [])))
   unfolding withBranches
@@ -62,6 +66,8 @@ module _ (listed network : PowerNetwork) (k i : ℕ) (at : k ≡ i) where
         «base_mva» = network .«base_mva»;
         algorithm = network .algorithm;
         «max_iterations» = network .«max_iterations»;
+        «has_supply» = network .«has_supply»;
+        supply = network .supply;
       })
       (withSwitches listed (l ++ (x ∷ [])))
   unfolding withSwitches

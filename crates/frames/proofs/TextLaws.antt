@@ -4,12 +4,12 @@ use Prim.Native.Nat.{ℕ, _≤_}
 use mathlib.Core.List.{List}
 use lib.ListN.{length, drop}
 use Rattle.network.specs.Answers.{accepted, refused, answerOf, _andThen_}
-use Rattle.network.specs.Check.{checkRecords}
 use Rattle.network.specs.Records.{networkOf, recordsOf}
 use Rattle.network.specs.RecordLaws.{records-of-network}
 use Rattle.network.specs.Limits.{Head}
 use Rattle.frames.specs.declared.pass.Pass as Code
 use Rattle.lines.specs.Lines.{cut}
+use Rattle.feeders.specs.Supply.{checkNetwork}
 use Rattle.record_lines.specs.Kinds.{head, headFrom, headLineFaults, readOne, without}
 use Rattle.frames.specs.Text.{readText}
 use Rattle.frames.specs.Passes.{Collected, collect, afterHead, readTwice}
@@ -35,7 +35,7 @@ module _ (t : List ℕ) where
         (o .1, i .counts .0, i .counts .1, i .counts .2)
 
     pub text-settled : {r : Code.Pass} → IsCollected (collect h (cut (drop 37 t))) r
-        → (checkRecords (recordsOf (r .network)) andThen answerOf (r .stopped) andThen accepted (recordsOf (r .network))) ≡ readText t
+        → (checkNetwork (recordsOf (r .network)) andThen answerOf (r .stopped) andThen accepted (recordsOf (r .network))) ≡ readText t
     unfolding readTwice afterHead
     text-settled i =
         let o = one-made head headFrom headLineFaults 1 t (sym e) in

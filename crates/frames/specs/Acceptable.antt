@@ -1,4 +1,4 @@
--- The text of a network, and which texts are acceptable, in document 01's words. No refusal number occurs here.
+-- The text of a network, and which texts are acceptable, in the words of documents 01 and 02. No refusal number occurs here.
 use mathlib.Core.Path.{_≡_}
 use mathlib.Core.Bool.{Bool, cond}
 use mathlib.Core.List.{List, _++_, flatMap}
@@ -12,9 +12,11 @@ use Rattle.network.specs.Records.{Network}
 use Rattle.network.specs.Limits.{Head, methodByte}
 use Rattle.network.specs.Check as check
 use Rattle.network.specs.Inside.{Each, Inside}
+use Rattle.feeders.specs.Supply.{supplies}
+use Rattle.feeders.specs.Supplied.{Supplied}
 use Rattle.lines.specs.Hex.{Fields}
 use Rattle.lines.specs.Frames.{frameText}
-use Rattle.record_lines.specs.Kinds.{head, bus, branch, switch}
+use Rattle.record_lines.specs.Kinds.{head, bus, branch, switch, supply}
 
 -- ---- the fields of a record
 -- "f64 bits"
@@ -45,14 +47,19 @@ branchFields b = (b .«from_bus», (b .«to_bus», (bitsOf (b .r), (statusByte (
 abbrev pub switchFields : Switch → Fields (switch .widths)
 switchFields s = (s .id, (s .«branch_idx», (flagsByte (s .«normally_open») (s .«can_operate»), tt)))
 
+-- document 02: "a bus id (u16)"
+abbrev pub supplyFields : ℕ → Fields (supply .widths)
+supplyFields id = (id, tt)
+
 -- ---- the text of a network
--- "Lines come in this order, as many as the head says"
+-- "Lines come in this order, as many as the head says", and last the supply's line, if there is a supply
 unfoldable pub textOf : Network → List ℕ
 textOf N =
     frameText head (headFields (check.headOf N))
     ++ (flatMap (λ b. frameText bus (busFields b)) (N .buses)
     ++ (flatMap (λ b. frameText branch (branchFields b)) (N .branches)
-    ++ flatMap (λ s. frameText switch (switchFields s)) (N .switches)))
+    ++ (flatMap (λ s. frameText switch (switchFields s)) (N .switches)
+    ++ flatMap (λ id. frameText supply (supplyFields id)) (supplies (N .supply)))))
 
 -- ---- records that have room in their digits: "u16 of 4 digits, f64 bits of 16, bytes of 2"
 -- a u16
@@ -81,10 +88,13 @@ pub record Writable (N : Network) : Type 0 where
   pub bus-room : Each BusRoom (N .buses)
   pub branch-room : Each BranchRoom (N .branches)
   pub switch-room : Each SwitchRoom (N .switches)
+  pub supply-room : Each Short (supplies (N .supply))
 
 -- ---- a text that is acceptable with these records
 pub record Acceptable (t : List ℕ) (N : Network) : Type 0 where
   pub text : t ≡ textOf N
   -- counts, ranges, ids, ends and positions as document 01 allows them
   pub inside : Inside N
+  -- a supply and its base as document 02 allows them
+  pub supplied : Supplied N
   pub writable : Writable N

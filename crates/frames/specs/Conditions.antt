@@ -5,13 +5,16 @@ use mathlib.Core.List.{List, [], _∷_, _++_, map}
 use Prim.Native.Nat.{ℕ, zero, suc, _≤_}
 use lib.ListN.{take, drop}
 use Rattle.network.specs.declared.bus.Bus.{Bus}
+use Rattle.network.specs.declared.branch.Branch.{Branch}
+use Rattle.network.specs.declared.switch.Switch.{Switch}
 use Rattle.network.specs.Answers.{Answer, accepted, refused, _andThen_, Fault, _if_, judge, Judgement}
 use Rattle.network.specs.Limits.{Head}
 use Rattle.network.specs.Inside.{Each}
 use Rattle.lines.specs.Hex.{Fields}
 use Rattle.lines.specs.Lines.{Line, isLong, isMiswritten}
 use Rattle.lines.specs.Frames.{Frame}
-use Rattle.record_lines.specs.Kinds.{head, bus, branch, switch, isFrame, fieldsOf, headFrom, busFrom, branchFrom, switchFrom, headLineFaults, busLineFaults, branchLineFaults, switchLineFaults}
+use Rattle.record_lines.specs.Kinds.{head, bus, branch, switch, supply, isFrame, fieldsOf, headFrom, busFrom, branchFrom, switchFrom, supplyFrom, headLineFaults, busLineFaults, branchLineFaults, switchLineFaults}
+use Rattle.frames.specs.Text.{atMostOne, supplyLineFaults}
 
 -- what a line may meet: "a line over 36 characters is 2 whatever they are", and its other conditions
 pub record LineConditions : Type 0 where
@@ -42,9 +45,15 @@ unfoldable pub surplusConditions : List Line → List LineConditions
 surplusConditions [] = []
 surplusConditions (l ∷ ls) = lineConditions false l [] ∷ []
 
--- the buses that the first lines behind the head write
+-- the records that lines write
 unfoldable pub busesOf : ℕ → List Line → List Bus
 busesOf n ls = map (λ l. busFrom (fieldsOf bus l)) (take n ls)
+
+unfoldable pub branchesOf : ℕ → List Line → List Branch
+branchesOf n ls = map (λ l. branchFrom (fieldsOf branch l)) (take n ls)
+
+unfoldable pub switchesOf : ℕ → List Line → List Switch
+switchesOf n ls = map (λ l. switchFrom (fieldsOf switch l)) (take n ls)
 
 -- of the lines behind the head
 unfoldable pub bodyConditions : Head → List Line → List LineConditions
@@ -52,10 +61,14 @@ bodyConditions h ls =
     let after-buses = drop (h .buses) ls in
     let after-branches = drop (h .branches) after-buses in
     let after-switches = drop (h .switches) after-branches in
+    let buses = busesOf (h .buses) ls in
+    let branches = branchesOf (h .branches) after-buses in
+    let switches = switchesOf (h .switches) after-branches in
     kindConditions bus busFrom busLineFaults [] (h .buses) ls
-    ++ (kindConditions branch branchFrom (λ before. branchLineFaults (busesOf (h .buses) ls)) [] (h .branches) after-buses
+    ++ (kindConditions branch branchFrom (λ before. branchLineFaults buses) [] (h .branches) after-buses
     ++ (kindConditions switch switchFrom (switchLineFaults h) [] (h .switches) after-branches
-    ++ surplusConditions after-switches))
+    ++ (kindConditions supply supplyFrom (λ before. supplyLineFaults buses branches switches) [] (atMostOne after-switches) after-switches
+    ++ surplusConditions (drop (atMostOne after-switches) after-switches))))
 
 unfoldable pub conditions : List Line → List LineConditions
 conditions [] = missing ∷ []

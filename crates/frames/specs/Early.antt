@@ -7,14 +7,17 @@ use native.Mathlib.Omega.{arith}
 use lib.Dec.{eqb}
 use lib.ListN.{length, take}
 use borrow.Author.Tests.{lt-ltb}
+use Rattle.network.specs.declared.bus.Bus.{Bus}
+use Rattle.network.specs.declared.branch.Branch.{Branch}
+use Rattle.network.specs.declared.switch.Switch.{Switch}
 use Rattle.network.specs.Answers.{Answer, accepted, refused, _andThen_, Fault, judge, Judgement}
 use Rattle.lines.specs.Hex.{Fields, total}
 use Rattle.lines.specs.Lines.{Line, put, cut, lineFaults}
 use Rattle.lines.specs.Frames.{Frame, layout}
-use Rattle.record_lines.specs.Kinds.{head, bus, branch, switch, isFrame, fieldsOf, headFrom, busFrom, branchFrom, switchFrom, headLineFaults, busLineFaults, branchLineFaults, switchLineFaults, Reader, readOne, without}
-use Rattle.frames.specs.Text.{follow, pure, readRun, readEnd, readLines, readText}
+use Rattle.record_lines.specs.Kinds.{head, bus, branch, switch, supply, isFrame, fieldsOf, headFrom, busFrom, branchFrom, switchFrom, supplyFrom, headLineFaults, busLineFaults, branchLineFaults, switchLineFaults, Reader, readOne, without}
+use Rattle.frames.specs.Text.{follow, pure, readRun, readEnd, atMostOne, supplyLineFaults, supplyPlace, readSupply, readLines, readText}
 use Rattle.frames.specs.Lengths.{lineLength, longestText, decidingLine, decidingLength}
-use Rattle.frames.specs.LineLaws.{Sound, head-sound, bus-sound, branch-sound, switch-sound, line-kept, line-long}
+use Rattle.frames.specs.LineLaws.{Sound, head-sound, bus-sound, branch-sound, switch-sound, supply-sound, line-kept, line-long}
 use Rattle.frames.specs.ReadLaws.{head-passed}
 
 -- the lines of a text (left) and those of its first n bytes (right)
@@ -111,6 +114,22 @@ module _ {A : Type 0} (F : Frame) (s : Sound F) (make : Fields (F .widths) → A
       λ a n₁ ls₁ ms₁ e₁ g₁ t₁. follow-alike k k _ _ _ (run-same faults (before ++ (a ∷ [])) m (suc p) k n₁ ls₁ ms₁ h₁ g₁ t₁)
       λ rest n₂ ls₂ ms₂ e₂ g₂ t₂. both-accepted n₂ g₂ t₂
 
+-- a line is left in both, or in neither
+left-same : (n : ℕ) (ls ms : List Line) → decidingLine ≤ n → Same n ls ms → (atMostOne ms ≡ atMostOne ls) × (atMostOne ls ≤ 1)
+unfolding atMostOne
+left-same n [] ms h equal = (refl, omega arith)
+left-same n (l ∷ ls) ms h equal = (refl, omega arith)
+left-same n ls ms h (next k e t) = (refl, omega arith)
+left-same n ls ms h (long a b) = (refl, omega arith)
+left-same n ls ms h (out e) = absurd (omega arith)
+
+supply-same : (buses : List Bus) (branches : List Branch) (switches : List Switch) (p n : ℕ) (ls ms : List Line) → lineLength supply + decidingLine ≤ n → Same n ls ms
+    → Alike decidingLine (readSupply buses branches switches p ls) (readSupply buses branches switches p ms)
+supply-same buses branches switches p n ls ms h t =
+    let a = left-same n ls ms (omega arith) t in
+    let few = a .1 in
+    rw (a .0) (run-same supply supply-sound supplyFrom (λ before. supplyLineFaults buses branches switches) [] (atMostOne ls) p decidingLine n ls ms (omega arith) (omega arith) t)
+
 end-same : (p n : ℕ) (ls ms : List Line) → decidingLine ≤ n → Same n ls ms → Alike 0 (readEnd p ls) (readEnd p ms)
 unfolding readEnd lineFaults
 end-same p n ls ms h equal = alike-refl 0 n (omega arith) (readEnd p ls)
@@ -124,17 +143,23 @@ lines-same n ls ms h t =
     follow-alike longestText 0 _ _ _ (one-same head head-sound headFrom headLineFaults 1 longestText n ls ms (omega arith) (omega arith) t)
     λ hd n₀ ls₀ ms₀ e₀ g₀ t₀.
     let c = head-passed ls (hd, ls₀) e₀ .counts in
-    let room : hd .buses * lineLength bus + (hd .branches * lineLength branch + (hd .switches * lineLength switch + decidingLine)) ≤ longestText = omega (arith, c .0, c .1, c .2) in
-    follow-alike (hd .branches * lineLength branch + (hd .switches * lineLength switch + decidingLine)) 0 _ _ _
-    (run-same bus bus-sound busFrom busLineFaults [] (hd .buses) 2 (hd .branches * lineLength branch + (hd .switches * lineLength switch + decidingLine)) n₀ ls₀ ms₀ (omega arith) (omega arith) t₀)
+    let behind-switches : ℕ = lineLength supply + decidingLine in
+    let behind-branches : ℕ = hd .switches * lineLength switch + behind-switches in
+    let behind-buses : ℕ = hd .branches * lineLength branch + behind-branches in
+    let room : hd .buses * lineLength bus + behind-buses ≤ longestText = omega (arith, c .0, c .1, c .2) in
+    follow-alike behind-buses 0 _ _ _
+    (run-same bus bus-sound busFrom busLineFaults [] (hd .buses) 2 behind-buses n₀ ls₀ ms₀ (omega arith) (omega arith) t₀)
     λ buses n₁ ls₁ ms₁ e₁ g₁ t₁.
-    follow-alike (hd .switches * lineLength switch + decidingLine) 0 _ _ _
-    (run-same branch branch-sound branchFrom (λ before. branchLineFaults buses) [] (hd .branches) (2 + hd .buses) (hd .switches * lineLength switch + decidingLine) n₁ ls₁ ms₁ (omega arith) (omega arith) t₁)
+    follow-alike behind-branches 0 _ _ _
+    (run-same branch branch-sound branchFrom (λ before. branchLineFaults buses) [] (hd .branches) (2 + hd .buses) behind-branches n₁ ls₁ ms₁ (omega arith) (omega arith) t₁)
     λ branches n₂ ls₂ ms₂ e₂ g₂ t₂.
-    follow-alike decidingLine 0 _ _ _ (run-same switch switch-sound switchFrom (switchLineFaults hd) [] (hd .switches) (2 + hd .buses + hd .branches) decidingLine n₂ ls₂ ms₂ (omega arith) (omega arith) t₂)
+    follow-alike behind-switches 0 _ _ _
+    (run-same switch switch-sound switchFrom (switchLineFaults hd) [] (hd .switches) (2 + hd .buses + hd .branches) behind-switches n₂ ls₂ ms₂ (omega arith) (omega arith) t₂)
     λ switches n₃ ls₃ ms₃ e₃ g₃ t₃.
-    follow-alike 0 0 _ _ _ (end-same (2 + hd .buses + hd .branches + hd .switches) n₃ ls₃ ms₃ g₃ t₃)
-    λ u n₄ ls₄ ms₄ e₄ g₄ t₄. both-accepted n₄ g₄ t₄
+    follow-alike decidingLine 0 _ _ _ (supply-same buses branches switches (supplyPlace hd) n₃ ls₃ ms₃ g₃ t₃)
+    λ ids n₄ ls₄ ms₄ e₄ g₄ t₄.
+    follow-alike 0 0 _ _ _ (end-same (supplyPlace hd + 1) n₄ ls₄ ms₄ g₄ t₄)
+    λ u n₅ ls₅ ms₅ e₅ g₅ t₅. both-accepted n₅ g₅ t₅
 
 pub read-early : (n : ℕ) (t : List ℕ) → decidingLength ≤ n → readText (take n t) ≡ readText t
 unfolding readText

@@ -15,11 +15,11 @@ use Rattle.network.specs.Limits.{Head}
 use Rattle.lines.specs.Hex.{Fields}
 use Rattle.lines.specs.Lines.{Line, cut, lineFaults}
 use Rattle.lines.specs.Frames.{Frame}
-use Rattle.record_lines.specs.Kinds.{head, bus, branch, switch, isFrame, fieldsOf, headFrom, busFrom, branchFrom, switchFrom, headLineFaults, busLineFaults, branchLineFaults, switchLineFaults, readOne, without}
-use Rattle.frames.specs.Text.{follow, _>>=_, pure, readRun, readEnd, readLines, readText}
+use Rattle.record_lines.specs.Kinds.{head, bus, branch, switch, supply, isFrame, fieldsOf, headFrom, busFrom, branchFrom, switchFrom, supplyFrom, headLineFaults, busLineFaults, branchLineFaults, switchLineFaults, readOne, without}
+use Rattle.frames.specs.Text.{follow, _>>=_, pure, readRun, readEnd, atMostOne, supplyLineFaults, readLines, readText}
 use Rattle.record_lines.specs.JudgementLaws.{without-then}
-use Rattle.frames.specs.ReaderLaws.{go-on, network, behindSwitches, behindBranches, behindBuses, behindHead, lines-read}
-use Rattle.frames.specs.Conditions.{kindConditions, surplusConditions, busesOf, bodyConditions, conditions, judgeLines, judgementOf, LineConditions}
+use Rattle.frames.specs.ReaderLaws.{go-on, network, behindSupply, behindSwitches, behindBranches, behindBuses, behindHead, lines-read}
+use Rattle.frames.specs.Conditions.{kindConditions, surplusConditions, busesOf, branchesOf, switchesOf, bodyConditions, conditions, judgeLines, judgementOf, LineConditions}
 
 pub judgement-then : {A : Type 0} (v : Judgement) (a : A) → judgementOf (v andThen accepted a) ≡ v
 unfolding judgementOf _andThen_
@@ -59,8 +59,14 @@ unfolding readEnd lineFaults surplusConditions judgeLines _andThen_
 end-judged p [] = refl
 end-judged p (l ∷ ls) = then-assoc (judge (lineFaults false l) p) (accepted tt) (accepted (tt {0}, ls))
 
+-- without a supply line nothing is left, and the place counts nowhere
+behind-supply : (p : ℕ) (ls : List Line) → let rest = surplusConditions (drop (atMostOne ls) ls) in judgeLines (p + atMostOne ls) rest ≡ judgeLines (p + 1) rest
+unfolding atMostOne surplusConditions judgeLines
+behind-supply p [] = refl
+behind-supply p (l ∷ ls) = refl
+
 body-judged : (h : Head) (ls : List Line) → (r : Network × List Line) × (behindHead h ls ≡ (judgeLines 2 (bodyConditions h ls) andThen accepted r))
-unfolding behindHead behindBuses behindBranches behindSwitches bodyConditions busesOf pure
+unfolding behindHead behindBuses behindBranches behindSwitches behindSupply bodyConditions busesOf branchesOf switchesOf pure
 body-judged h ls =
     let l₁ : List Line = drop (h .buses) ls in
     let l₂ : List Line = drop (h .branches) l₁ in
@@ -68,33 +74,43 @@ body-judged h ls =
     let buses : List Bus = busesOf (h .buses) ls in
     let branches : List Branch = map (λ l. branchFrom (fieldsOf branch l)) (take (h .branches) l₁) in
     let switches : List Switch = map (λ l. switchFrom (fieldsOf switch l)) (take (h .switches) l₂) in
-    let N : Network = network h buses branches switches in
-    let end : Answer (Network × List Line) = accepted (N, drop 1 l₃) in
+    let n : ℕ = atMostOne l₃ in
+    let l₄ : List Line = drop n l₃ in
+    let ids : List ℕ = map (λ l. supplyFrom (fieldsOf supply l)) (take n l₃) in
+    let N : Network = network h buses branches switches ids in
+    let end : Answer (Network × List Line) = accepted (N, drop 1 l₄) in
     let p₂ : ℕ = 2 + h .buses in
     let p₃ : ℕ = p₂ + h .branches in
     let p₄ : ℕ = p₃ + h .switches in
     let c₁ : List LineConditions = kindConditions bus busFrom busLineFaults [] (h .buses) ls in
     let c₂ : List LineConditions = kindConditions branch branchFrom (λ before. branchLineFaults buses) [] (h .branches) l₁ in
     let c₃ : List LineConditions = kindConditions switch switchFrom (switchLineFaults h) [] (h .switches) l₂ in
-    let c₄ : List LineConditions = surplusConditions l₃ in
+    let p₅ : ℕ = p₄ + 1 in
+    let f₄ : List ℕ → Fields (supply .widths) → List Fault = λ before. supplyLineFaults buses branches switches in
+    let c₄ : List LineConditions = kindConditions supply supplyFrom f₄ [] n l₃ in
+    let c₅ : List LineConditions = surplusConditions l₄ in
     let v₁ : Judgement = judgeLines 2 c₁ in
     let v₂ : Judgement = judgeLines p₂ c₂ in
     let v₃ : Judgement = judgeLines p₃ c₃ in
     let v₄ : Judgement = judgeLines p₄ c₄ in
-    let read : behindHead h ls ≡ (v₁ andThen (v₂ andThen (v₃ andThen (v₄ andThen end)))) =
+    let v₅ : Judgement = judgeLines p₅ c₅ in
+    let read : behindHead h ls ≡ (v₁ andThen (v₂ andThen (v₃ andThen (v₄ andThen (v₅ andThen end))))) =
     go-on v₁ (buses, l₁) (behindBuses h) (run-judged bus busFrom busLineFaults (h .buses) [] 2 ls)
     ∙ ap (λ x. v₁ andThen x) (go-on v₂ (branches, l₂) (behindBranches h buses) (run-judged branch branchFrom (λ before. branchLineFaults buses) (h .branches) [] p₂ l₁)
     ∙ ap (λ x. v₂ andThen x) (go-on v₃ (switches, l₃) (behindSwitches h buses branches) (run-judged switch switchFrom (switchLineFaults h) (h .switches) [] p₃ l₂)
-    ∙ ap (λ x. v₃ andThen x) (go-on v₄ (tt {0}, drop 1 l₃) _ (end-judged p₄ l₃)))) in
-    let judged : judgeLines 2 (bodyConditions h ls) ≡ (v₁ andThen (v₂ andThen (v₃ andThen v₄))) =
-    run-append bus busFrom busLineFaults (h .buses) [] 2 ls (c₂ ++ (c₃ ++ c₄))
-    ∙ ap (λ x. v₁ andThen x) (run-append branch branchFrom (λ before. branchLineFaults buses) (h .branches) [] p₂ l₁ (c₃ ++ c₄)
-    ∙ ap (λ x. v₂ andThen x) (run-append switch switchFrom (switchLineFaults h) (h .switches) [] p₃ l₂ c₄)) in (
-      (N, drop 1 l₃),
+    ∙ ap (λ x. v₃ andThen x) (go-on v₄ (ids, l₄) (behindSupply h buses branches switches) (run-judged supply supplyFrom f₄ n [] p₄ l₃)
+    ∙ ap (λ x. v₄ andThen x) (go-on v₅ (tt {0}, drop 1 l₄) _ (end-judged p₅ l₄))))) in
+    let judged : judgeLines 2 (bodyConditions h ls) ≡ (v₁ andThen (v₂ andThen (v₃ andThen (v₄ andThen v₅)))) =
+    run-append bus busFrom busLineFaults (h .buses) [] 2 ls (c₂ ++ (c₃ ++ (c₄ ++ c₅)))
+    ∙ ap (λ x. v₁ andThen x) (run-append branch branchFrom (λ before. branchLineFaults buses) (h .branches) [] p₂ l₁ (c₃ ++ (c₄ ++ c₅))
+    ∙ ap (λ x. v₂ andThen x) (run-append switch switchFrom (switchLineFaults h) (h .switches) [] p₃ l₂ (c₄ ++ c₅)
+    ∙ ap (λ x. v₃ andThen x) (run-append supply supplyFrom f₄ n [] p₄ l₃ c₅ ∙ ap (λ x. v₄ andThen x) (behind-supply p₄ l₃)))) in (
+      (N, drop 1 l₄),
       read
-          ∙ ap (λ x. v₁ andThen (v₂ andThen x)) (then-assoc v₃ v₄ end)
-          ∙ ap (λ x. v₁ andThen x) (then-assoc v₂ (v₃ andThen v₄) end)
-          ∙ then-assoc v₁ (v₂ andThen (v₃ andThen v₄)) end
+          ∙ ap (λ x. v₁ andThen (v₂ andThen (v₃ andThen x))) (then-assoc v₄ v₅ end)
+          ∙ ap (λ x. v₁ andThen (v₂ andThen x)) (then-assoc v₃ (v₄ andThen v₅) end)
+          ∙ ap (λ x. v₁ andThen x) (then-assoc v₂ (v₃ andThen (v₄ andThen v₅)) end)
+          ∙ then-assoc v₁ (v₂ andThen (v₃ andThen (v₄ andThen v₅))) end
           ∙ ap (λ x. x andThen end) (sym judged),
     )
 

@@ -15,7 +15,7 @@ use Rattle.lines.specs.Lines.{Line, lineFaults, cut}
 use Rattle.lines.specs.CutLaws.{cut-ended, DigitLine, written-no-feed}
 use Rattle.lines.specs.JudgeLaws.{judge-past, line-passed}
 use Rattle.lines.specs.Frames.{Frame, layout, frameText}
-use Rattle.record_lines.specs.Kinds.{head, bus, branch, switch, isFrame, fieldsOf}
+use Rattle.record_lines.specs.Kinds.{head, bus, branch, switch, supply, isFrame, fieldsOf}
 
 -- ---- lines of a kind
 pub record Sound (F : Frame) : Type 0 where
@@ -34,6 +34,9 @@ branch-sound = record { byte = lit< tt; short = lit≤ tt; even = refl }
 
 pub switch-sound : Sound switch
 switch-sound = record { byte = lit< tt; short = lit≤ tt; even = refl }
+
+pub supply-sound : Sound supply
+supply-sound = record { byte = lit< tt; short = lit≤ tt; even = refl }
 
 -- the line that fields make
 unfoldable pub lineOf : (F : Frame) → Fields (F .widths) → Line

@@ -8,6 +8,7 @@ use native.Mathlib.Omega.{arith}
 use lib.Dec.{lit≤}
 use lib.ListN.{drop}
 use Rattle.network.specs.declared.bus.Bus.{Bus}
+use Rattle.network.specs.declared.branch.Branch.{Branch}
 use Rattle.network.specs.declared.switch.Switch.{Switch}
 use Rattle.network.specs.Answers.{Fault, _if_, judge}
 use Rattle.network.specs.AnswerLaws.{no-refusal}
@@ -17,8 +18,10 @@ use Rattle.network.specs.Inside.{Each}
 use Rattle.lines.specs.Hex.{Fields}
 use Rattle.lines.specs.Lines.{Line, cut}
 use Rattle.lines.specs.Frames.{Frame}
-use Rattle.record_lines.specs.Kinds.{head, bus, branch, switch, isFrame, fieldsOf, headFrom, busFrom, branchFrom, switchFrom, headLineFaults, busLineFaults, branchLineFaults, switchLineFaults}
-use Rattle.frames.specs.Conditions.{kindConditions, surplusConditions, busesOf, bodyConditions, conditions, met, LowestWins, LineConditions, lineConditions}
+use Rattle.record_lines.specs.Kinds.{head, bus, branch, switch, supply, isFrame, fieldsOf, headFrom, busFrom, branchFrom, switchFrom, supplyFrom, headLineFaults, busLineFaults, branchLineFaults, switchLineFaults}
+use Rattle.feeders.specs.Supply.{supplyFaults}
+use Rattle.frames.specs.Text.{atMostOne, supplyLineFaults}
+use Rattle.frames.specs.Conditions.{kindConditions, surplusConditions, busesOf, branchesOf, switchesOf, bodyConditions, conditions, met, LowestWins, LineConditions, lineConditions}
 
 -- ---- conditions by rising number
 abbrev Rising : List Fault → Type 0
@@ -70,6 +73,11 @@ switch-in-order : (h : Head) (l : Line) (before : List Switch) → InOrder (line
 unfolding switchFaults
 switch-in-order h l before = (lit≤ tt, (lit≤ tt, (lit≤ tt, (lit≤ tt, (lit≤ tt, (lit≤ tt, tt))))))
 
+supply-in-order : (buses : List Bus) (branches : List Branch) (switches : List Switch) (l : Line)
+    → InOrder (lineConditions (isFrame supply l) l (supplyLineFaults buses branches switches (fieldsOf supply l)))
+unfolding supplyFaults
+supply-in-order buses branches switches l = (lit≤ tt, (lit≤ tt, (lit≤ tt, tt)))
+
 surplus-in-order : (ls : List Line) → Each InOrder (surplusConditions ls)
 unfolding surplusConditions
 surplus-in-order [] = tt
@@ -81,10 +89,14 @@ body-in-order h ls =
     let after-buses = drop (h .buses) ls in
     let after-branches = drop (h .branches) after-buses in
     let buses = busesOf (h .buses) ls in
+    let left = drop (h .switches) after-branches in
+    let branches = branchesOf (h .branches) after-buses in
+    let switches = switchesOf (h .switches) after-branches in
     kind-in-order bus busFrom busLineFaults bus-in-order [] (h .buses) ls _
     (kind-in-order branch branchFrom (λ before. branchLineFaults buses) (λ l before. branch-in-order buses l) [] (h .branches) after-buses _
     (kind-in-order switch switchFrom (switchLineFaults h) (switch-in-order h) [] (h .switches) after-branches _
-    (surplus-in-order (drop (h .switches) after-branches))))
+    (kind-in-order supply supplyFrom (λ before. supplyLineFaults buses branches switches) (λ l before. supply-in-order buses branches switches l) [] (atMostOne left) left _
+    (surplus-in-order (drop (atMostOne left) left)))))
 
 all-in-order : (ls : List Line) → Each InOrder (conditions ls)
 unfolding conditions

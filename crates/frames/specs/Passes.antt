@@ -11,12 +11,12 @@ use Rattle.network.specs.declared.switch.Switch.{Switch}
 use Rattle.network.specs.Answers.{Answer, accepted, refused, _andThen_, Fault, Judgement}
 use Rattle.network.specs.Records.{Network}
 use Rattle.network.specs.Limits.{Head}
-use Rattle.network.specs.Check.{checkRecords}
 use Rattle.lines.specs.Hex.{Fields}
 use Rattle.lines.specs.Lines.{Line, cut}
 use Rattle.lines.specs.Frames.{Frame}
-use Rattle.record_lines.specs.Kinds.{head, bus, branch, switch, headFrom, busFrom, branchFrom, switchFrom, headLineFaults, busBytes, branchBytes, switchBytes, readOne, without}
-use Rattle.frames.specs.Text.{readEnd}
+use Rattle.record_lines.specs.Kinds.{head, bus, branch, switch, supply, headFrom, busFrom, branchFrom, switchFrom, supplyFrom, headLineFaults, busBytes, branchBytes, switchBytes, supplyBytes, readOne, without}
+use Rattle.feeders.specs.Supply.{checkNetwork}
+use Rattle.frames.specs.Text.{readEnd, atMostOne, asOption, supplyPlace}
 
 -- ---- the pass over the lines of one kind
 -- the records read so far, the lines left, and the refusal at which the pass stopped, if it did; the line refused is then the first of those left
@@ -67,6 +67,17 @@ passBranches h = passRun branch branchFrom branchBytes (h .branches) (2 + h .bus
 abbrev pub passSwitches : Head → List Line → Pass Switch
 passSwitches h = passRun switch switchFrom switchBytes (h .switches) (2 + h .buses + h .branches)
 
+-- one line, if a line is left
+abbrev pub passSupply : ℕ → List Line → Pass ℕ
+passSupply place ls = passRun supply supplyFrom supplyBytes (atMostOne ls) place ls
+
+-- the branches behind the buses, and the switches behind these
+abbrev pub branchesRead : Head → List Line → Pass Branch
+branchesRead h ls = after (passBuses h ls) (passBranches h)
+
+abbrev pub switchesRead : Head → List Line → Pass Switch
+switchesRead h ls = after (branchesRead h ls) (passSwitches h)
+
 -- the records collected, and the refusal of the first line at fault, if there is one
 pub record Collected : Type 0 where
   pub network : Network
@@ -75,16 +86,25 @@ pub record Collected : Type 0 where
 unfoldable pub collect : Head → List Line → Collected
 collect h ls =
     let b = passBuses h ls in
-    let r = after b (passBranches h) in
-    let s = after r (passSwitches h) in
+    let r = branchesRead h ls in
+    let s = switchesRead h ls in
+    let z = after s (passSupply (supplyPlace h)) in
     record {
-      network = record { base = h .base; algorithm = h .algorithm; iterations = h .iterations; buses = b .records; branches = r .records; switches = s .records };
-      stopped = s .stopped andThen without (readEnd (2 + h .buses + h .branches + h .switches) (s .left));
+      network = record {
+        base = h .base;
+        algorithm = h .algorithm;
+        iterations = h .iterations;
+        buses = b .records;
+        branches = r .records;
+        switches = s .records;
+        supply = asOption (z .records);
+      };
+      stopped = z .stopped andThen without (readEnd (supplyPlace h + 1) (z .left));
     }
 
 -- the records decide, each at its place, then the line at which the pass stopped, which comes after all of theirs
 abbrev pub settle : Collected → Answer Network
-settle c = checkRecords (c .network) andThen c .stopped andThen accepted (c .network)
+settle c = checkNetwork (c .network) andThen c .stopped andThen accepted (c .network)
 
 unfoldable pub afterHead : Answer (Head × List Line) → Answer Network
 afterHead (accepted r) = settle (collect (r .0) (r .1))

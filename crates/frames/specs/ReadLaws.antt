@@ -1,9 +1,12 @@
 -- The reader against the check of records and the text of a network: what is written is judged as the records are (`read-written`), and what is
 -- accepted was written so (`accepted-written`). Both go line by line, from the laws of a line's characters and of a record's fields.
-use mathlib.Core.Path.{_≡_, refl, sym, ap, _∙_, subst}
+use mathlib.Core.Path.{_≡_, refl, sym, ap, ap₂, _∙_, subst}
 use mathlib.Core.Bool.{false, not, false≢true}
 use mathlib.Core.List.{List, [], _∷_, _++_, map, flatMap, append-nil, append-assoc}
-use Prim.Native.Nat.{ℕ, zero, suc, _+_}
+use mathlib.Core.Option.{Option, none, some}
+use Prim.Native.Nat.{ℕ, zero, suc, _+_, _≤_}
+use native.Mathlib.Nat.{le-of-eq}
+use native.Mathlib.Omega.{arith}
 use lib.ListN.{length}
 use borrow.Author.Tests.{not-false}
 use Rattle.network.specs.declared.bus.Bus.{Bus}
@@ -18,19 +21,20 @@ use Rattle.network.specs.InsideLaws.{HeadInside, head-iff}
 use Rattle.network.specs.Check as check
 use Rattle.network.specs.Check.{checkRun, checkRecords}
 use Rattle.network.specs.Inside.{Each}
+use Rattle.feeders.specs.Supply.{supplyFaults, supplies, checkSupply, checkNetwork}
 use Rattle.network.specs.EachLaws.{each-append}
 use Rattle.lines.specs.Hex.{Fields}
 use Rattle.lines.specs.Lines.{Line, cut, lineFaults}
 use Rattle.lines.specs.Frames.{frameText}
-use Rattle.record_lines.specs.Kinds.{isFrame, fieldsOf, head, switch, headFrom, switchFrom, headLineFaults, switchLineFaults, readOne, without}
-use Rattle.frames.specs.Text.{follow, _>>=_, pure, readRun, readEnd, readLines, readText}
+use Rattle.record_lines.specs.Kinds.{isFrame, fieldsOf, head, supply, headFrom, supplyFrom, headLineFaults, readOne, without}
+use Rattle.frames.specs.Text.{follow, _>>=_, pure, readRun, readEnd, atMostOne, asOption, supplyLineFaults, supplyPlace, readLines, readText}
 use Rattle.frames.specs.Acceptable.{textOf, Writable}
 use Rattle.lines.specs.JudgeLaws.{judge-passed, judge-append, line-passed}
 use Rattle.record_lines.specs.JudgementLaws.{then-accepted, without-then}
-use Rattle.frames.specs.ReaderLaws.{go-on, follow-accepted, without-accepted, network, behindSwitches, behindBranches, behindBuses, behindHead, lines-read}
+use Rattle.frames.specs.ReaderLaws.{go-on, follow-accepted, without-accepted, network, behindSupply, behindSwitches, behindBranches, behindBuses, behindHead, lines-read}
 use Rattle.lines.specs.CutLaws.{joined, joined-cut, cut-joined, DigitLine, digit-lines}
 use Rattle.frames.specs.LineLaws.{lineOf, line-digits, fields-line, line-clear, line-kept}
-use Rattle.frames.specs.RecordLaws.{Kind, headKind, busKind, branchKind, switchKind}
+use Rattle.frames.specs.RecordLaws.{Kind, headKind, busKind, branchKind, switchKind, supplyKind}
 
 -- the line of a record
 unfoldable recordLine : {A : Type 0} → Kind A → A → Line
@@ -117,51 +121,95 @@ branch-ranged buses before b p e = not-false _ (judge-passed 5 (not (okR (b .r))
 switch-ranged : (h : Head) (before : List Switch) (s : Switch) (p : ℕ) → judge (switchFaults h before s) p ≡ accepted tt → switchKind .Ranged s
 switch-ranged h before s p e = tt
 
+supply-ranged : (buses : List Bus) (branches : List Branch) (switches : List Switch) (before : List ℕ) (id p : ℕ) → judge (supplyFaults buses branches switches id) p ≡ accepted tt
+    → supplyKind .Ranged id
+supply-ranged buses branches switches before id p e = tt
+
 -- a head that the reader accepts is inside the limits
 pub head-passed : (ls : List Line) (r : Head × List Line) → readOne head headFrom headLineFaults 1 ls ≡ accepted r → HeadInside (r .0)
 head-passed ls r e = head-iff (r .0) .0 (judge-iff (headFaults (r .0)) 1 .0 (one-kept headKind (λ before. headFaults) head-ranged [] 1 ls r e .2))
+
+-- the tests of the records, that of the supply, and what stands behind them
+pub regroup : {A : Type 0} (a b c d : Judgement) (x : Answer A) → (a andThen (b andThen (c andThen (d andThen x)))) ≡ (((a andThen (b andThen c)) andThen d) andThen x)
+regroup a b c d x =
+    ap (λ y. a andThen y) (then-assoc b c (d andThen x)) ∙ then-assoc a (b andThen c) (d andThen x) ∙ then-assoc (a andThen (b andThen c)) d x
+
+-- ---- a run of at most one line is a supply, or none
+pub one-supply : (ls : List Line) (ids : List ℕ) → length ids ≤ atMostOne ls → supplies (asOption ids) ≡ ids
+unfolding atMostOne asOption
+one-supply ls [] h = refl
+one-supply ls (id ∷ []) h = refl
+one-supply [] (id ∷ id′ ∷ ids) h = absurd (omega arith)
+one-supply (l ∷ ls) (id ∷ id′ ∷ ids) h = absurd (omega arith)
+
+first-supply : (z : Option ℕ) → asOption (supplies z) ≡ z
+unfolding asOption
+first-supply none = refl
+first-supply (some id) = refl
+
+lines-left : (z : Option ℕ) → atMostOne (map (recordLine supplyKind) (supplies z)) ≡ length (supplies z)
+unfolding atMostOne
+lines-left none = refl
+lines-left (some id) = refl
 
 -- ---- the lines of a network
 linesOf : Network → List Line
 linesOf N =
     recordLine headKind (check.headOf N)
-    ∷ (map (recordLine busKind) (N .buses) ++ (map (recordLine branchKind) (N .branches) ++ map (recordLine switchKind) (N .switches)))
+    ∷ (map (recordLine busKind) (N .buses) ++ (map (recordLine branchKind) (N .branches) ++ (map (recordLine switchKind) (N .switches) ++ map (recordLine supplyKind) (supplies (N .supply)))))
 
-lines-written : (N : Network) → Writable N → readLines (linesOf N) ≡ (checkRecords N andThen accepted (N, []))
-unfolding linesOf checkRecords check.headOf behindHead behindBuses behindBranches behindSwitches readEnd follow pure
+lines-written : (N : Network) → Writable N → readLines (linesOf N) ≡ (checkNetwork N andThen accepted (N, []))
+unfolding linesOf checkNetwork checkSupply checkRecords check.headOf behindHead behindBuses behindBranches behindSwitches behindSupply readEnd follow pure
 lines-written N w =
     let h : Head = check.headOf N in
-    let s-lines : List Line = map (recordLine switchKind) (N .switches) in
+    let z-lines : List Line = map (recordLine supplyKind) (supplies (N .supply)) in
+    let s-lines : List Line = map (recordLine switchKind) (N .switches) ++ z-lines in
     let r-lines : List Line = map (recordLine branchKind) (N .branches) ++ s-lines in
     let b-lines : List Line = map (recordLine busKind) (N .buses) ++ r-lines in
     let p₂ : ℕ = 2 + h .buses in
     let p₃ : ℕ = p₂ + h .branches in
+    let p₄ : ℕ = p₃ + h .switches in
     let v₀ : Judgement = judge (headFaults h) 1 in
     let v₁ : Judgement = checkRun busFaults [] 2 (N .buses) in
     let v₂ : Judgement = checkRun (λ before. branchFaults (N .buses)) [] p₂ (N .branches) in
     let v₃ : Judgement = checkRun (switchFaults h) [] p₃ (N .switches) in
+    let v₄ : Judgement = checkRun (λ before. supplyFaults (N .buses) (N .branches) (N .switches)) [] p₄ (supplies (N .supply)) in
     let end : Answer (Network × List Line) = accepted (N, []) in
-    let switches-read = ap (readRun switch switchFrom (switchLineFaults h) [] (h .switches) p₃) (sym (append-nil s-lines)) ∙ run-written switchKind (switchFaults h) (switch-ranged h) [] (N .switches) p₃ [] (w .switch-room) in
+    let same : network h (N .buses) (N .branches) (N .switches) (supplies (N .supply)) ≡ N = λ i. record {
+      base = N .base;
+      algorithm = N .algorithm;
+      iterations = N .iterations;
+      buses = N .buses;
+      branches = N .branches;
+      switches = N .switches;
+      supply = first-supply (N .supply) i;
+    } in
+    let f₄ : List ℕ → ℕ → List Fault = λ before. supplyFaults (N .buses) (N .branches) (N .switches) in
+    let run : ℕ → List Line → Answer (List ℕ × List Line) = λ n. readRun supply supplyFrom (λ before. supplyLineFaults (N .buses) (N .branches) (N .switches)) [] n p₄ in
+    let supply-read = ap₂ run (lines-left (N .supply)) (sym (append-nil z-lines))
+    ∙ run-written supplyKind f₄ (supply-ranged (N .buses) (N .branches) (N .switches)) [] (supplies (N .supply)) p₄ [] (w .supply-room) in
     lines-read (linesOf N)
     ∙ go-on v₀ (h, b-lines) behindHead (one-written headKind (λ before. headFaults) head-ranged [] 1 h (w .head-room) b-lines)
     ∙ ap (λ x. v₀ andThen x) (go-on v₁ (N .buses, r-lines) (behindBuses h) (run-written busKind busFaults bus-ranged [] (N .buses) 2 r-lines (w .bus-room))
     ∙ ap (λ x. v₁ andThen x) (go-on v₂ (N .branches, s-lines) (behindBranches h (N .buses)) (run-written branchKind (λ before. branchFaults (N .buses)) (branch-ranged (N .buses)) [] (N .branches) p₂ s-lines (w .branch-room))
-    ∙ ap (λ x. v₂ andThen x) (go-on v₃ (N .switches, []) (behindSwitches h (N .buses) (N .branches)) switches-read)
-    ∙ then-assoc v₂ v₃ end)
-    ∙ then-assoc v₁ (v₂ andThen v₃) end)
-    ∙ then-assoc v₀ (v₁ andThen (v₂ andThen v₃)) end
+    ∙ ap (λ x. v₂ andThen x) (go-on v₃ (N .switches, z-lines) (behindSwitches h (N .buses) (N .branches)) (run-written switchKind (switchFaults h) (switch-ranged h) [] (N .switches) p₃ z-lines (w .switch-room))
+    ∙ ap (λ x. v₃ andThen x) (go-on v₄ (supplies (N .supply), []) (behindSupply h (N .buses) (N .branches) (N .switches)) supply-read
+    ∙ ap (λ (M : Network). v₄ andThen accepted (M, [])) same))))
+    ∙ ap (λ z. v₀ andThen (v₁ andThen z)) (then-assoc v₂ v₃ (v₄ andThen end)) ∙ regroup v₀ v₁ (v₂ andThen v₃) v₄ end
 
 -- what the reader has found once it accepts: a head and a network whose lines are all there are
 record Found (h : Head) (N : Network) (ls : List Line) : Type 0 where
-  lines : ls ≡ recordLine headKind h ∷ (map (recordLine busKind) (N .buses) ++ (map (recordLine branchKind) (N .branches) ++ map (recordLine switchKind) (N .switches)))
+  lines : ls ≡ recordLine headKind h ∷ (map (recordLine busKind) (N .buses) ++ (map (recordLine branchKind) (N .branches) ++ (map (recordLine switchKind) (N .switches) ++ map (recordLine supplyKind) (supplies (N .supply)))))
   head-room : headKind .Room h
   bus-room : Each (busKind .Room) (N .buses)
   branch-room : Each (branchKind .Room) (N .branches)
   switch-room : Each (switchKind .Room) (N .switches)
+  supply-room : Each (supplyKind .Room) (supplies (N .supply))
   head-clear : judge (headFaults h) 1 ≡ accepted tt
   buses-clear : checkRun busFaults [] 2 (N .buses) ≡ accepted tt
   branches-clear : checkRun (λ before. branchFaults (N .buses)) [] (2 + h .buses) (N .branches) ≡ accepted tt
   switches-clear : checkRun (switchFaults h) [] (2 + h .buses + h .branches) (N .switches) ≡ accepted tt
+  supply-clear : checkRun (λ before. supplyFaults (N .buses) (N .branches) (N .switches)) [] (supplyPlace h) (supplies (N .supply)) ≡ accepted tt
 
 end-kept : (p : ℕ) (ls : List Line) (r : Unit {0} × List Line) → readEnd p ls ≡ accepted r → ls ≡ []
 unfolding readEnd lineFaults
@@ -170,54 +218,63 @@ end-kept p (l ∷ ls) r e =
     let t = then-accepted (judge (lineFaults false l) p) (accepted (tt, ls)) e in
     absurd (false≢true (line-passed false l [] p (t .0) .2))
 
-found : (h : Head) (N : Network) (l₀ l₁ l₂ l₃ l₄ : List Line)
+found : (h : Head) (N : Network) (n : ℕ) (l₀ l₁ l₂ l₃ l₄ l₅ : List Line)
     → (l₀ ≡ recordLine headKind h ∷ l₁) × headKind .Room h × (judge (headFaults h) 1 ≡ accepted tt)
     → Kept busKind busFaults bus-ranged (h .buses) [] 2 l₁ (N .buses, l₂)
     → Kept branchKind (λ before. branchFaults (N .buses)) (branch-ranged (N .buses)) (h .branches) [] (2 + h .buses) l₂ (N .branches, l₃)
     → Kept switchKind (switchFaults h) (switch-ranged h) (h .switches) [] (2 + h .buses + h .branches) l₃ (N .switches, l₄)
-    → l₄ ≡ [] → Found h N l₀
-found h N l₀ l₁ l₂ l₃ l₄ one buses branches switches left =
-    let s-lines : l₃ ≡ map (recordLine switchKind) (N .switches) = switches .lines ∙ ap (λ (x : List Line). map (recordLine switchKind) (N .switches) ++ x) left ∙ append-nil _ in
-    let r-lines : l₂ ≡ map (recordLine branchKind) (N .branches) ++ map (recordLine switchKind) (N .switches) = branches .lines ∙ ap (λ (x : List Line). map (recordLine branchKind) (N .branches) ++ x) s-lines in
+    → Kept supplyKind (λ before. supplyFaults (N .buses) (N .branches) (N .switches)) (supply-ranged (N .buses) (N .branches) (N .switches)) n [] (supplyPlace h) l₄ (supplies (N .supply), l₅)
+    → l₅ ≡ [] → Found h N l₀
+found h N n l₀ l₁ l₂ l₃ l₄ l₅ one buses branches switches ids left =
+    let z-lines : l₄ ≡ map (recordLine supplyKind) (supplies (N .supply)) = ids .lines ∙ ap (λ (x : List Line). map (recordLine supplyKind) (supplies (N .supply)) ++ x) left ∙ append-nil _ in
+    let s-lines = switches .lines ∙ ap (λ (x : List Line). map (recordLine switchKind) (N .switches) ++ x) z-lines in
+    let r-lines = branches .lines ∙ ap (λ (x : List Line). map (recordLine branchKind) (N .branches) ++ x) s-lines in
     record {
       lines = one .0 ∙ ap (λ (x : List Line). recordLine headKind h ∷ x) (buses .lines ∙ ap (λ (x : List Line). map (recordLine busKind) (N .buses) ++ x) r-lines);
       head-room = one .1;
       bus-room = buses .rooms;
       branch-room = branches .rooms;
       switch-room = switches .rooms;
+      supply-room = ids .rooms;
       head-clear = one .2;
       buses-clear = buses .clear;
       branches-clear = branches .clear;
       switches-clear = switches .clear;
+      supply-clear = ids .clear;
     }
 
 lines-found : (ls : List Line) (r : Network × List Line) → readLines ls ≡ accepted r → (h : Head) × (h ≡ check.headOf (r .0)) × Found h (r .0) ls
-unfolding behindHead behindBuses behindBranches behindSwitches check.headOf pure
+unfolding behindHead behindBuses behindBranches behindSwitches behindSupply check.headOf pure
 lines-found ls r e =
     follow-accepted (readOne head headFrom headLineFaults 1 ls) behindHead (sym (lines-read ls) ∙ e) λ a e₀ k₀.
     follow-accepted _ (behindBuses (a .0)) k₀ λ b e₁ k₁.
     follow-accepted _ (behindBranches (a .0) (b .0)) k₁ λ c e₂ k₂.
     follow-accepted _ (behindSwitches (a .0) (b .0) (c .0)) k₂ λ d e₃ k₃.
-    follow-accepted _ _ k₃ λ f e₄ k₄.
+    follow-accepted _ (behindSupply (a .0) (b .0) (c .0) (d .0)) k₃ λ g e₄ k₄.
+    follow-accepted _ _ k₄ λ f e₅ k₅.
     let h : Head = a .0 in
-    let N : Network = network h (b .0) (c .0) (d .0) in
+    let N : Network = network h (b .0) (c .0) (d .0) (g .0) in
     let one = one-kept headKind (λ before. headFaults) head-ranged [] 1 ls a e₀ in
     let buses = run-kept busKind busFaults bus-ranged (h .buses) [] 2 (a .1) b e₁ in
     let branches = run-kept branchKind (λ before. branchFaults (b .0)) (branch-ranged (b .0)) (h .branches) [] (2 + h .buses) (b .1) c e₂ in
     let switches = run-kept switchKind (switchFaults h) (switch-ranged h) (h .switches) [] (2 + h .buses + h .branches) (c .1) d e₃ in
-    let left = end-kept (2 + h .buses + h .branches + h .switches) (d .1) f e₄ in
+    let p : ℕ = 2 + h .buses + h .branches + h .switches in
+    let ids = run-kept supplyKind (λ before. supplyFaults (b .0) (c .0) (d .0)) (supply-ranged (b .0) (c .0) (d .0)) (atMostOne (d .1)) [] p (d .1) g e₄ in
+    let supply-kept = subst (λ (l : List ℕ). Kept supplyKind (λ before. supplyFaults (b .0) (c .0) (d .0)) (supply-ranged (b .0) (c .0) (d .0)) (atMostOne (d .1)) [] p (d .1) (l, g .1))
+    (sym (one-supply (d .1) (g .0) (le-of-eq (ids .many)))) ids in
+    let left = end-kept (supplyPlace h + 1) (g .1) f e₅ in
     let counts : check.headOf N ≡ h = λ i. record { buses = buses .many i; branches = branches .many i; switches = switches .many i; base = h .base; algorithm = h .algorithm; iterations = h .iterations } in
-    subst (λ (q : Network × List Line). (k : Head) × (k ≡ check.headOf (q .0)) × Found k (q .0) ls) (same-value k₄)
-    (h, sym counts, found h N ls (a .1) (b .1) (c .1) (d .1) one buses branches switches left)
+    subst (λ (q : Network × List Line). (k : Head) × (k ≡ check.headOf (q .0)) × Found k (q .0) ls) (same-value k₅)
+    (h, sym counts, found h N (atMostOne (d .1)) ls (a .1) (b .1) (c .1) (d .1) (g .1) one buses branches switches supply-kept left)
 
-lines-kept : (ls : List Line) (r : Network × List Line) → readLines ls ≡ accepted r → (ls ≡ linesOf (r .0)) × Writable (r .0) × (checkRecords (r .0) ≡ accepted tt)
-unfolding linesOf checkRecords _andThen_
+lines-kept : (ls : List Line) (r : Network × List Line) → readLines ls ≡ accepted r → (ls ≡ linesOf (r .0)) × Writable (r .0) × (checkNetwork (r .0) ≡ accepted tt)
+unfolding linesOf checkNetwork checkSupply checkRecords _andThen_
 lines-kept ls r e =
     let t = lines-found ls r e in
     let f : Found (check.headOf (r .0)) (r .0) ls = subst (λ h. Found h (r .0) ls) (t .1) (t .2) in (
       f .lines,
-      record { head-room = f .head-room; bus-room = f .bus-room; branch-room = f .branch-room; switch-room = f .switch-room },
-      rw (f .head-clear, f .buses-clear, f .branches-clear, f .switches-clear),
+      record { head-room = f .head-room; bus-room = f .bus-room; branch-room = f .branch-room; switch-room = f .switch-room; supply-room = f .supply-room },
+      rw (f .head-clear, f .buses-clear, f .branches-clear, f .switches-clear, f .supply-clear),
     )
 
 -- ---- the text of a network is that of its lines
@@ -237,8 +294,10 @@ joined-lines N =
     let b-lines : List Line = map (recordLine busKind) (N .buses) in
     let r-lines : List Line = map (recordLine branchKind) (N .branches) in
     let s-lines : List Line = map (recordLine switchKind) (N .switches) in
-    rw (joined-append b-lines (r-lines ++ s-lines), joined-append r-lines s-lines, joined-records busKind (N .buses), joined-records branchKind (N .branches), joined-records switchKind (N .switches))
-    (sym (append-assoc (lineOf head (headKind .fields (check.headOf N)) .chars) (10 ∷ []) _))
+    let z-lines : List Line = map (recordLine supplyKind) (supplies (N .supply)) in
+    rw (joined-append b-lines (r-lines ++ (s-lines ++ z-lines)), joined-append r-lines (s-lines ++ z-lines), joined-append s-lines z-lines)
+    (rw (joined-records busKind (N .buses), joined-records branchKind (N .branches), joined-records switchKind (N .switches), joined-records supplyKind (supplies (N .supply)))
+    (sym (append-assoc (lineOf head (headKind .fields (check.headOf N)) .chars) (10 ∷ []) _)))
 
 lines-digits : {A : Type 0} (K : Kind A) (xs : List A) → Each (K .Room) xs → Each DigitLine (map (recordLine K) xs)
 unfolding recordLine
@@ -248,26 +307,27 @@ lines-digits K (x ∷ xs) h = (line-digits (K .frame) (K .sound) (K .fields x) (
 all-digits : (N : Network) → Writable N → Each DigitLine (linesOf N)
 unfolding linesOf recordLine
 all-digits N w =
-    let s-digits = lines-digits switchKind (N .switches) (w .switch-room) in
+    let z-digits = lines-digits supplyKind (supplies (N .supply)) (w .supply-room) in
+    let s-digits = each-append DigitLine (map (recordLine switchKind) (N .switches)) _ (lines-digits switchKind (N .switches) (w .switch-room)) z-digits in
     let r-digits = each-append DigitLine (map (recordLine branchKind) (N .branches)) _ (lines-digits branchKind (N .branches) (w .branch-room)) s-digits in
     let b-digits = each-append DigitLine (map (recordLine busKind) (N .buses)) _ (lines-digits busKind (N .buses) (w .bus-room)) r-digits in
     (line-digits head (headKind .sound) _ (headKind .fit (check.headOf N) (w .head-room)), b-digits)
 
 -- ---- the laws
 -- what is written is judged as the records are
-pub read-written : (N : Network) → Writable N → readText (textOf N) ≡ (checkRecords N andThen accepted N)
+pub read-written : (N : Network) → Writable N → readText (textOf N) ≡ (checkNetwork N andThen accepted N)
 unfolding readText
 read-written N w =
     ap (λ t. without (readLines (cut t))) (sym (joined-lines N))
     ∙ ap (λ x. without (readLines x)) (cut-joined (linesOf N) (digit-lines (linesOf N) (all-digits N w)))
     ∙ ap without (lines-written N w)
-    ∙ without-then (checkRecords N) N []
+    ∙ without-then (checkNetwork N) N []
 
 -- what is accepted was written so
-pub accepted-written : (t : List ℕ) (N : Network) → readText t ≡ accepted N → (t ≡ textOf N) × Writable N × (checkRecords N ≡ accepted tt)
+pub accepted-written : (t : List ℕ) (N : Network) → readText t ≡ accepted N → (t ≡ textOf N) × Writable N × (checkNetwork N ≡ accepted tt)
 unfolding readText
 accepted-written t N e =
     without-accepted (readLines (cut t)) e λ r e₁ same.
     let k = lines-kept (cut t) r e₁ in
-    subst (λ (M : Network). (t ≡ textOf M) × Writable M × (checkRecords M ≡ accepted tt)) same
+    subst (λ (M : Network). (t ≡ textOf M) × Writable M × (checkNetwork M ≡ accepted tt)) same
     (sym (joined-cut t) ∙ ap joined (k .0) ∙ joined-lines (r .0), k .1, k .2)

@@ -6,14 +6,14 @@ use Rattle.network.specs.Answers.{Answer, accepted, refused, _andThen_, Judgeme
 use Rattle.network.specs.declared.bus.Bus.{Bus}
 use Rattle.network.specs.declared.branch.Branch.{Branch}
 use Rattle.network.specs.declared.switch.Switch.{Switch}
-use Rattle.network.specs.AnswerLaws.{no-refusal, same-value}
+use Rattle.network.specs.AnswerLaws.{no-refusal, same-value, then-nothing}
 use Rattle.network.specs.Records.{Network}
 use Rattle.network.specs.Limits.{Head}
 use Rattle.lines.specs.Lines.{Line}
 use Rattle.lines.specs.FirstLine.{judgeEnd}
 use Rattle.record_lines.specs.Kinds.{head, bus, branch, switch, headFrom, busFrom, branchFrom, switchFrom, headLineFaults, busLineFaults, branchLineFaults, switchLineFaults, Reader, readOne, without}
 use Rattle.record_lines.specs.JudgementLaws.{without-then}
-use Rattle.frames.specs.Text.{follow, _>>=_, pure, readRun, readEnd, readLines}
+use Rattle.frames.specs.Text.{follow, _>>=_, pure, readRun, readEnd, asOption, supplyPlace, readSupply, readLines}
 
 -- ---- a reader that goes on after a verdict
 follow-then : {A B : Type 0} (v : Judgement) (r : A × List Line) (f : A → Reader B) → follow (v andThen accepted r) f ≡ (v andThen f (r .0) (r .1))
@@ -32,11 +32,6 @@ unfolding follow
 follow-accepted (accepted q) f e k = k q refl e
 follow-accepted (refused n p) f e k = no-refusal e
 
-then-nothing : (v : Judgement) → (v andThen accepted tt) ≡ v
-unfolding _andThen_
-then-nothing (accepted u) = refl
-then-nothing (refused n p) = refl
-
 -- that no line is left is judged as it is read
 pub end-judged : (p : ℕ) (ls : List Line) → judgeEnd p ls ≡ without (readEnd p ls)
 unfolding judgeEnd readEnd without
@@ -49,14 +44,18 @@ without-accepted (accepted r) e k = k r refl (same-value e)
 without-accepted (refused n p) e k = no-refusal e
 
 -- ---- the lines behind the head
-abbrev pub network : Head → List Bus → List Branch → List Switch → Network
-network h buses branches switches = record { base = h .base; algorithm = h .algorithm; iterations = h .iterations; buses = buses; branches = branches; switches = switches }
+abbrev pub network : Head → List Bus → List Branch → List Switch → List ℕ → Network
+network h buses branches switches ids =
+    record { base = h .base; algorithm = h .algorithm; iterations = h .iterations; buses = buses; branches = branches; switches = switches; supply = asOption ids }
+
+unfoldable pub behindSupply : Head → List Bus → List Branch → List Switch → List ℕ → Reader Network
+behindSupply h buses branches switches ids =
+    do
+      _ ← readEnd (supplyPlace h + 1)
+      pure (network h buses branches switches ids)
 
 unfoldable pub behindSwitches : Head → List Bus → List Branch → List Switch → Reader Network
-behindSwitches h buses branches switches =
-    do
-      _ ← readEnd (2 + h .buses + h .branches + h .switches)
-      pure (network h buses branches switches)
+behindSwitches h buses branches switches = readSupply buses branches switches (supplyPlace h) >>= behindSupply h buses branches switches
 
 unfoldable pub behindBranches : Head → List Bus → List Branch → Reader Network
 behindBranches h buses branches = readRun switch switchFrom (switchLineFaults h) [] (h .switches) (2 + h .buses + h .branches) >>= behindSwitches h buses branches
@@ -68,5 +67,5 @@ unfoldable pub behindHead : Head → Reader Network
 behindHead h = readRun bus busFrom busLineFaults [] (h .buses) 2 >>= behindBuses h
 
 pub lines-read : (ls : List Line) → readLines ls ≡ follow (readOne head headFrom headLineFaults 1 ls) behindHead
-unfolding readLines behindHead behindBuses behindBranches behindSwitches
+unfolding readLines behindHead behindBuses behindBranches behindSwitches behindSupply
 lines-read ls = refl

@@ -20,10 +20,10 @@ use Rattle.numbers.specs.Tests.{both}
 use Rattle.network.specs.Limits.{Head, methodByte, inRange, okBase, okLoad, okR}
 use Rattle.lines.specs.Hex.{Fields, Fit}
 use Rattle.lines.specs.Frames.{Frame}
-use Rattle.record_lines.specs.Kinds.{head, bus, branch, switch, methodOf, headFrom, busFrom, branchFrom, switchFrom, headBytes, busBytes, branchBytes, switchBytes}
-use Rattle.frames.specs.Acceptable.{bitsOf, statusByte, flagsByte, headFields, busFields, branchFields, switchFields, HeadRoom, BusRoom, BranchRoom, SwitchRoom}
+use Rattle.record_lines.specs.Kinds.{head, bus, branch, switch, supply, methodOf, headFrom, busFrom, branchFrom, switchFrom, supplyFrom, headBytes, busBytes, branchBytes, switchBytes, supplyBytes}
+use Rattle.frames.specs.Acceptable.{bitsOf, statusByte, flagsByte, headFields, busFields, branchFields, switchFields, supplyFields, Short, HeadRoom, BusRoom, BranchRoom, SwitchRoom}
 use Rattle.lines.specs.JudgeLaws.{judge-passed}
-use Rattle.frames.specs.LineLaws.{Sound, head-sound, bus-sound, branch-sound, switch-sound}
+use Rattle.frames.specs.LineLaws.{Sound, head-sound, bus-sound, branch-sound, switch-sound, supply-sound}
 
 -- ---- floats
 le-nan : (x : Float) → le x nan ≡ false
@@ -101,7 +101,7 @@ pub record Kind (A : Type 0) : Type 1 where
   pub room : (f : Fields (frame .widths)) → Fit (frame .widths) f → Room (make f)
   pub kept : (f : Fields (frame .widths)) (p : ℕ) → Fit (frame .widths) f → judge (bytes f) p ≡ accepted tt → Ranged (make f) → fields (make f) ≡ f
 
--- ---- the four kinds
+-- ---- the kinds
 pub bus-made : (b : Bus) → BusRoom b → busFrom (busFields b) ≡ b
 bus-made b r = ap (λ (x : Float). record { id = b .id; pd = record { 0 = x } }) (ofBits-toBits binary64 (b .pd .0) (r .1))
 
@@ -259,4 +259,24 @@ headKind = record {
   meant = head-meant;
   room = λ f r. (r .0, r .1 .0, r .1 .1 .0, ofBits-fits binary64 (f .1 .1 .1 .0), r .1 .1 .1 .1 .1 .0);
   kept = head-kept;
+}
+
+pub supply-meant : (z : ℕ) (p : ℕ) → judge (supplyBytes (supplyFields z)) p ≡ accepted tt
+unfolding judge
+supply-meant z p = refl
+
+abbrev pub supplyKind : Kind ℕ
+supplyKind = record {
+  frame = supply;
+  sound = supply-sound;
+  make = supplyFrom;
+  fields = supplyFields;
+  bytes = supplyBytes;
+  Room = Short;
+  Ranged = λ z. Unit {0};
+  made = λ z r. refl;
+  fit = λ z r. (r, tt);
+  meant = supply-meant;
+  room = λ f r. r .0;
+  kept = λ f p r m u. refl;
 }

@@ -22,12 +22,13 @@ use Rattle.network.specs.Check.{checkRun, checkRecords}
 use Rattle.lines.specs.Hex.{Fields}
 use Rattle.lines.specs.Lines.{Line, cut, lineFaults}
 use Rattle.lines.specs.Frames.{Frame}
-use Rattle.record_lines.specs.Kinds.{head, bus, branch, switch, isFrame, fieldsOf, headFrom, busFrom, branchFrom, switchFrom, headLineFaults, busLineFaults, branchLineFaults, switchLineFaults, Reader, readOne, without, busBytes, branchBytes, switchBytes}
-use Rattle.frames.specs.Text.{follow, _>>=_, pure, readRun, readEnd, readText}
+use Rattle.record_lines.specs.Kinds.{head, bus, branch, switch, supply, isFrame, fieldsOf, headFrom, busFrom, branchFrom, switchFrom, supplyFrom, headLineFaults, busLineFaults, branchLineFaults, switchLineFaults, Reader, readOne, without, busBytes, branchBytes, switchBytes, supplyBytes}
+use Rattle.feeders.specs.Supply.{supplyFaults, supplies, checkSupply, checkNetwork}
+use Rattle.frames.specs.Text.{follow, _>>=_, pure, readRun, readEnd, atMostOne, asOption, supplyPlace, readSupply, readText}
 use Rattle.lines.specs.JudgeLaws.{judge-append}
-use Rattle.frames.specs.ReaderLaws.{go-on, network, behindSwitches, behindBranches, behindBuses, behindHead, lines-read}
-use Rattle.frames.specs.ReadLaws.{head-passed}
-use Rattle.frames.specs.Passes.{Pass, going, halted, passOne, passOn, passStep, passRun, onward, after, passBuses, passBranches, passSwitches, collect, settle, afterHead, readTwice}
+use Rattle.frames.specs.ReaderLaws.{go-on, network, behindSupply, behindSwitches, behindBranches, behindBuses, behindHead, lines-read}
+use Rattle.frames.specs.ReadLaws.{head-passed, regroup, one-supply}
+use Rattle.frames.specs.Passes.{Pass, going, halted, passOne, passOn, passStep, passRun, onward, after, passBuses, passBranches, passSwitches, passSupply, collect, settle, afterHead, readTwice}
 
 -- ---- a pass from its first line on
 abbrev behind : {A : Type 0} → A → Pass A → Pass A
@@ -184,9 +185,6 @@ unfolding without follow pure _andThen_
 end-then (accepted r) N = refl
 end-then (refused n p) N = refl
 
-regroup : {A : Type 0} (a b c : Judgement) (x : Answer A) → (a andThen (b andThen (c andThen x))) ≡ ((a andThen (b andThen c)) andThen x)
-regroup a b c x = ap (λ y. a andThen y) (then-assoc b c x) ∙ then-assoc a (b andThen c) x
-
 module _ (h : Head) (inside : HeadInside h) where
   busCheck : List Bus → Judgement
   busCheck buses = checkRun busFaults [] 2 buses
@@ -197,62 +195,108 @@ module _ (h : Head) (inside : HeadInside h) where
   switchCheck : List Switch → Judgement
   switchCheck switches = checkRun (switchFaults h) [] (2 + h .buses + h .branches) switches
 
+  supplyCheck : List Bus → List Branch → List Switch → List ℕ → Judgement
+  supplyCheck buses branches switches ids = checkRun (λ before. supplyFaults buses branches switches) [] (supplyPlace h) ids
+
   -- the records collected, checked with their own counts
-  settled : (buses : List Bus) (branches : List Branch) (switches : List Switch) (v₂ v₃ stopped : Judgement)
+  settled : (buses : List Bus) (branches : List Branch) (switches : List Switch) (ids : List ℕ) (v₂ v₃ v₄ stopped : Judgement)
       → length buses ≤ h .buses → length branches ≤ h .branches → length switches ≤ h .switches
       → checkRun (λ before. branchFaults buses) [] (2 + length buses) branches ≡ v₂
-      → checkRun (switchFaults (check.headOf (network h buses branches switches))) [] (2 + length buses + length branches) switches ≡ v₃
-      → settle (record { network = network h buses branches switches; stopped = stopped })
-      ≡ (busCheck buses andThen (v₂ andThen (v₃ andThen (stopped andThen accepted (network h buses branches switches)))))
-  unfolding checkRecords _andThen_ check.headOf busCheck
-  settled buses branches switches v₂ v₃ stopped b r s e₂ e₃ =
-      let N = network h buses branches switches in
-      rw (fewer h (check.headOf N) b r s refl refl inside, e₂, e₃) (sym (regroup (busCheck buses) v₂ v₃ (stopped andThen accepted N)))
+      → checkRun (switchFaults (check.headOf (network h buses branches switches ids))) [] (2 + length buses + length branches) switches ≡ v₃
+      → checkRun (λ before. supplyFaults buses branches switches) [] (2 + length buses + length branches + length switches) (supplies (asOption ids)) ≡ v₄
+      → settle (record { network = network h buses branches switches ids; stopped = stopped })
+      ≡ (busCheck buses andThen (v₂ andThen (v₃ andThen (v₄ andThen (stopped andThen accepted (network h buses branches switches ids))))))
+  unfolding checkNetwork checkSupply checkRecords _andThen_ check.headOf busCheck
+  settled buses branches switches ids v₂ v₃ v₄ stopped b r s e₂ e₃ e₄ =
+      let N = network h buses branches switches ids in
+      rw (fewer h (check.headOf N) b r s refl refl inside, e₂, e₃, e₄) (sym (regroup (busCheck buses) v₂ v₃ v₄ (stopped andThen accepted N)))
 
-  from-switches : (buses : List Bus) (branches : List Branch) (pass : Pass Switch) → length buses ≡ h .buses → length branches ≡ h .branches → Counted (h .switches) pass
-      → (busCheck buses andThen (branchCheck buses branches andThen (switchCheck (pass .records) andThen (pass .stopped andThen without (behindSwitches h buses branches (pass .records) (pass .left))))))
-      ≡ settle (record { network = network h buses branches (pass .records); stopped = pass .stopped andThen without (readEnd (2 + h .buses + h .branches + h .switches) (pass .left)) })
-  unfolding behindSwitches branchCheck switchCheck check.headOf
-  from-switches buses branches pass b r c =
-      let N = network h buses branches (pass .records) in
-      let e = readEnd (2 + h .buses + h .branches + h .switches) (pass .left) in
+  -- counts that are the head's put the records at the head's places
+  branch-places : (buses : List Bus) (branches : List Branch) → length buses ≡ h .buses → checkRun (λ before. branchFaults buses) [] (2 + length buses) branches ≡ branchCheck buses branches
+  unfolding branchCheck
+  branch-places buses branches b = ap (λ (n : ℕ). checkRun (λ before. branchFaults buses) [] (2 + n) branches) b
+
+  switch-places : (buses : List Bus) (branches : List Branch) (switches : List Switch) (ids : List ℕ) → length buses ≡ h .buses → length branches ≡ h .branches
+      → checkRun (switchFaults (check.headOf (network h buses branches switches ids))) [] (2 + length buses + length branches) switches ≡ switchCheck switches
+  unfolding switchCheck check.headOf
+  switch-places buses branches switches ids b r =
+      ap₂ (λ (f : List Switch → Switch → List Fault) (n : ℕ). checkRun f [] n switches) (switch-same (check.headOf (network h buses branches switches ids)) h r refl) (ap₂ (λ (m n : ℕ). 2 + m + n) b r)
+
+  supply-places : (buses : List Bus) (branches : List Branch) (switches : List Switch) (ids : List ℕ) → length buses ≡ h .buses → length branches ≡ h .branches → length switches ≡ h .switches
+      → supplies (asOption ids) ≡ ids
+      → checkRun (λ before. supplyFaults buses branches switches) [] (2 + length buses + length branches + length switches) (supplies (asOption ids)) ≡ supplyCheck buses branches switches ids
+  unfolding supplyCheck
+  supply-places buses branches switches ids b r s one =
+      let place : 2 + length buses + length branches + length switches ≡ supplyPlace h = omega arith in
+      ap₂ (λ (n : ℕ) (l : List ℕ). checkRun (λ before. supplyFaults buses branches switches) [] n l) place one
+
+  -- the records with what stands behind the pass over the supply's line
+  abbrev finished : Network → Pass ℕ → Answer Network
+  finished N pass = settle (record { network = N; stopped = pass .stopped andThen without (readEnd (supplyPlace h + 1) (pass .left)) })
+
+  from-supply : (buses : List Bus) (branches : List Branch) (switches : List Switch) (pass : Pass ℕ) → length buses ≡ h .buses → length branches ≡ h .branches
+      → length switches ≡ h .switches → supplies (asOption (pass .records)) ≡ pass .records
+      → let behind = pass .stopped andThen without (behindSupply h buses branches switches (pass .records) (pass .left)) in
+      (busCheck buses andThen (branchCheck buses branches andThen (switchCheck switches andThen (supplyCheck buses branches switches (pass .records) andThen behind))))
+      ≡ finished (network h buses branches switches (pass .records)) pass
+  unfolding behindSupply
+  from-supply buses branches switches pass b r s one =
+      let N = network h buses branches switches (pass .records) in
+      let e = readEnd (supplyPlace h + 1) (pass .left) in
       let v₁ = busCheck buses in
       let v₂ = branchCheck buses branches in
-      let v₃ = switchCheck (pass .records) in
-      let branch-places = ap (λ (n : ℕ). checkRun (λ before. branchFaults buses) [] (2 + n) branches) b in
-      let switch-places = ap₂ (λ (f : List Switch → Switch → List Fault) (n : ℕ). checkRun f [] n (pass .records)) (switch-same (check.headOf N) h r refl) (ap₂ (λ (m n : ℕ). 2 + m + n) b r) in
-      ap (λ x. v₁ andThen (v₂ andThen (v₃ andThen x))) (ap (λ x. pass .stopped andThen x) (end-then e N) ∙ then-assoc (pass .stopped) (without e) (accepted N))
-      ∙ sym (settled buses branches (pass .records) v₂ v₃ (pass .stopped andThen without e) (le-of-eq b) (le-of-eq r) (c .within) branch-places switch-places)
+      let v₃ = switchCheck switches in
+      let v₄ = supplyCheck buses branches switches (pass .records) in
+      ap (λ x. v₁ andThen (v₂ andThen (v₃ andThen (v₄ andThen x)))) (ap (λ x. pass .stopped andThen x) (end-then e N) ∙ then-assoc (pass .stopped) (without e) (accepted N))
+      ∙ sym (settled buses branches switches (pass .records) v₂ v₃ v₄ (pass .stopped andThen without e) (le-of-eq b) (le-of-eq r) (le-of-eq s)
+      (branch-places buses branches b) (switch-places buses branches switches (pass .records) b r) (supply-places buses branches switches (pass .records) b r s one))
+
+  from-switches : (buses : List Bus) (branches : List Branch) (switches : List Switch) (left : List Line) (stopped : Judgement) → length buses ≡ h .buses
+      → length branches ≡ h .branches → Counted (h .switches) (record { records = switches; left = left; stopped = stopped })
+      → (busCheck buses andThen (branchCheck buses branches andThen (switchCheck switches andThen (stopped andThen without (behindSwitches h buses branches switches left)))))
+      ≡ (let z = onward left stopped (passSupply (supplyPlace h)) in finished (network h buses branches switches (z .records)) z)
+  unfolding onward _andThen_ behindSwitches supplyCheck checkRun asOption whole checked
+  from-switches buses branches switches left (accepted u) b r c =
+      let p = supplyPlace h in
+      let z = passSupply p left in
+      let read = pass-then (readSupply buses branches switches p left) (supplyCheck buses branches switches (z .records)) z (behindSupply h buses branches switches)
+      (run-split supply supplyFrom supplyBytes (λ before. supplyFaults buses branches switches) (atMostOne left) [] p left) in
+      ap (λ x. busCheck buses andThen (branchCheck buses branches andThen (switchCheck switches andThen x))) read
+      ∙ from-supply buses branches switches z b r (c .full refl) (one-supply left (z .records) (pass-counted supply supplyFrom supplyBytes (atMostOne left) p left .within))
+  from-switches buses branches switches left (refused n p) b r c =
+      sym (settled buses branches switches [] (branchCheck buses branches) (switchCheck switches) (accepted tt) (refused n p) (le-of-eq b) (le-of-eq r) (c .within)
+      (branch-places buses branches b) (switch-places buses branches switches [] b r) refl)
 
   from-branches : (buses : List Bus) (branches : List Branch) (left : List Line) (stopped : Judgement) → length buses ≡ h .buses
       → Counted (h .branches) (record { records = branches; left = left; stopped = stopped })
       → (busCheck buses andThen (branchCheck buses branches andThen (stopped andThen without (behindBranches h buses branches left))))
       ≡ (let s = onward left stopped (passSwitches h) in
-      settle (record { network = network h buses branches (s .records); stopped = s .stopped andThen without (readEnd (2 + h .buses + h .branches + h .switches) (s .left)) }))
-  unfolding onward _andThen_ behindBranches branchCheck switchCheck checkRun whole checked
+      let z = after s (passSupply (supplyPlace h)) in
+      finished (network h buses branches (s .records) (z .records)) z)
+  unfolding onward _andThen_ behindBranches branchCheck switchCheck checkRun asOption whole checked
   from-branches buses branches left (accepted u) b c =
       let s = passSwitches h left in
       let read = pass-then (readRun switch switchFrom (switchLineFaults h) [] (h .switches) (2 + h .buses + h .branches) left) (switchCheck (s .records)) s (behindSwitches h buses branches)
       (run-split switch switchFrom switchBytes (switchFaults h) (h .switches) [] (2 + h .buses + h .branches) left) in
       ap (λ x. busCheck buses andThen (branchCheck buses branches andThen x)) read
-      ∙ from-switches buses branches s b (c .full refl) (pass-counted switch switchFrom switchBytes (h .switches) (2 + h .buses + h .branches) left)
+      ∙ from-switches buses branches (s .records) (s .left) (s .stopped) b (c .full refl) (pass-counted switch switchFrom switchBytes (h .switches) (2 + h .buses + h .branches) left)
   from-branches buses branches left (refused n p) b c =
-      let branch-places = ap (λ (k : ℕ). checkRun (λ before. branchFaults buses) [] (2 + k) branches) b in
-      sym (settled buses branches [] (branchCheck buses branches) (accepted tt) (refused n p) (le-of-eq b) (c .within) (omega arith) branch-places refl)
+      sym (settled buses branches [] [] (branchCheck buses branches) (accepted tt) (accepted tt) (refused n p) (le-of-eq b) (c .within) (omega arith) (branch-places buses branches b) refl refl)
 
   from-buses : (buses : List Bus) (left : List Line) (stopped : Judgement) → Counted (h .buses) (record { records = buses; left = left; stopped = stopped })
       → (busCheck buses andThen (stopped andThen without (behindBuses h buses left)))
       ≡ (let r = onward left stopped (passBranches h) in
       let s = after r (passSwitches h) in
-      settle (record { network = network h buses (r .records) (s .records); stopped = s .stopped andThen without (readEnd (2 + h .buses + h .branches + h .switches) (s .left)) }))
-  unfolding onward _andThen_ behindBuses branchCheck checkRun whole checked
+      let z = after s (passSupply (supplyPlace h)) in
+      finished (network h buses (r .records) (s .records) (z .records)) z)
+  unfolding onward _andThen_ behindBuses branchCheck checkRun asOption whole checked
   from-buses buses left (accepted u) c =
       let r = passBranches h left in
       let read = pass-then (readRun branch branchFrom (λ before. branchLineFaults buses) [] (h .branches) (2 + h .buses) left) (branchCheck buses (r .records)) r (behindBranches h buses)
       (run-split branch branchFrom branchBytes (λ before. branchFaults buses) (h .branches) [] (2 + h .buses) left) in
       ap (λ x. busCheck buses andThen x) read
       ∙ from-branches buses (r .records) (r .left) (r .stopped) (c .full refl) (pass-counted branch branchFrom branchBytes (h .branches) (2 + h .buses) left)
-  from-buses buses left (refused n p) c = sym (settled buses [] [] (accepted tt) (accepted tt) (refused n p) (c .within) (omega arith) (omega arith) refl refl)
+  from-buses buses left (refused n p) c = sym (settled buses [] [] [] (accepted tt) (accepted tt) (accepted tt) (refused n p) (c .within) (omega arith) (omega arith) refl refl refl)
 
   body-split : (ls : List Line) → without (behindHead h ls) ≡ settle (collect h ls)
   unfolding behindHead collect _andThen_ busCheck checkRun whole checked

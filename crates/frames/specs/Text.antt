@@ -1,13 +1,19 @@
--- Document 01's frame text: the reader takes its lines, kind after kind, and what a text means.
+-- Document 01's frame text, with document 02's last line: the reader takes its lines, kind after kind, and what a text means.
 use mathlib.Core.Bool.{false}
 use mathlib.Core.List.{List, [], _∷_, _++_}
+use mathlib.Core.Option.{Option, none, some}
 use Prim.Native.Nat.{ℕ, zero, suc, _+_}
+use Rattle.network.specs.declared.bus.Bus.{Bus}
+use Rattle.network.specs.declared.branch.Branch.{Branch}
+use Rattle.network.specs.declared.switch.Switch.{Switch}
 use Rattle.network.specs.Answers.{Answer, accepted, refused, _andThen_, Fault, judge}
+use Rattle.network.specs.Limits.{Head}
 use Rattle.network.specs.Records.{Network}
 use Rattle.lines.specs.Hex.{Fields}
 use Rattle.lines.specs.Lines.{Line, cut, lineFaults}
 use Rattle.lines.specs.Frames.{Frame}
-use Rattle.record_lines.specs.Kinds.{head, bus, branch, switch, headFrom, busFrom, branchFrom, switchFrom, headLineFaults, busLineFaults, branchLineFaults, switchLineFaults, Reader, readOne, without}
+use Rattle.record_lines.specs.Kinds.{head, bus, branch, switch, supply, headFrom, busFrom, branchFrom, switchFrom, supplyFrom, headLineFaults, busLineFaults, branchLineFaults, switchLineFaults, supplyBytes, Reader, readOne, without}
+use Rattle.feeders.specs.Supply.{supplyFaults}
 
 -- after what was read, go on with the lines left; a refusal stays
 unfoldable pub follow : {A B : Type 0} → Answer (A × List Line) → (A → Reader B) → Answer (B × List Line)
@@ -35,7 +41,29 @@ unfoldable pub readEnd : ℕ → Reader (Unit {0})
 readEnd place [] = accepted (tt, [])
 readEnd place (l ∷ ls) = judge (lineFaults false l) place andThen accepted (tt, ls)
 
--- "Lines come in this order, as many as the head says"
+-- ---- document 02: "One optional last line"
+-- as many lines as are left, at most one
+unfoldable pub atMostOne : List Line → ℕ
+atMostOne [] = 0
+atMostOne (l ∷ ls) = 1
+
+-- the supply that a run of at most one line gives
+unfoldable pub asOption : List ℕ → Option ℕ
+asOption [] = none
+asOption (id ∷ ids) = some id
+
+-- refusals of the line behind 1 and 2: "14, bus not listed; 15, base not radial"
+abbrev pub supplyLineFaults : List Bus → List Branch → List Switch → Fields (supply .widths) → List Fault
+supplyLineFaults buses branches switches f = supplyBytes f ++ supplyFaults buses branches switches (supplyFrom f)
+
+-- its place, behind the lines that the head counts
+abbrev pub supplyPlace : Head → ℕ
+supplyPlace h = 2 + h .buses + h .branches + h .switches
+
+abbrev pub readSupply : List Bus → List Branch → List Switch → ℕ → Reader (List ℕ)
+readSupply buses branches switches place ls = readRun supply supplyFrom (λ before. supplyLineFaults buses branches switches) [] (atMostOne ls) place ls
+
+-- "Lines come in this order, as many as the head says", then the supply's line, if a line is left
 unfoldable pub readLines : Reader Network
 readLines =
     do
@@ -43,8 +71,9 @@ readLines =
       buses ← readRun bus busFrom busLineFaults [] (h .buses) 2
       branches ← readRun branch branchFrom (λ before. branchLineFaults buses) [] (h .branches) (2 + h .buses)
       switches ← readRun switch switchFrom (switchLineFaults h) [] (h .switches) (2 + h .buses + h .branches)
-      _ ← readEnd (2 + h .buses + h .branches + h .switches)
-      pure (record { base = h .base; algorithm = h .algorithm; iterations = h .iterations; buses = buses; branches = branches; switches = switches })
+      ids ← readSupply buses branches switches (supplyPlace h)
+      _ ← readEnd (supplyPlace h + 1)
+      pure (record { base = h .base; algorithm = h .algorithm; iterations = h .iterations; buses = buses; branches = branches; switches = switches; supply = asOption ids })
 
 -- what a text means: its records, or the first refusal with its place
 unfoldable pub readText : List ℕ → Answer Network

@@ -42,6 +42,7 @@ value-typed n vs o =
       counts = (g .0 .1, g .1 .0 .1, g .1 .1 .0 .1);
       base = passes _ (g .1 .1 .1 .0 .1);
       iterations = g .1 .1 .1 .1 .1 .0 .1;
+      supply = g .1 .1 .1 .1 .1 .1 .1 .0 .1;
       buses = each-element BusRoom (BusType.the-field .into) (BusType.the-field .row .own) bus-typed (n .buses) (f .0 .0) (f .0 .1 .1);
       branches = each-element BranchRoom (BranchType.the-field .into) (BranchType.the-field .row .own) branch-typed (n .branches) (f .1 .0 .0) (f .1 .0 .1 .1);
       switches = each-element SwitchRoom (SwitchType.the-field .into) (SwitchType.the-field .row .own) switch-typed (n .switches) (f .1 .1 .0 .0) (f .1 .1 .0 .1 .1);

@@ -3,4 +3,5 @@ mod branch;
 mod bus;
 mod pass;
 pub mod reader;
+mod supply;
 mod switch;

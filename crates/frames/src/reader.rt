@@ -3,19 +3,20 @@ ghost use mathlib.Core.Path.{_≡_};
 ghost use Prim.Native.Nat.{_≤_};
 ghost use lib.ListN.{length, drop};
 ghost use Rattle.network.specs.Answers.{accepted, refused, answerOf, _andThen_};
-ghost use Rattle.network.specs.Check.{checkRecords};
 ghost use Rattle.network.specs.Records.{networkOf, recordsOf};
 ghost use Rattle.lines.specs.Lines.{cut};
+ghost use Rattle.feeders.specs.Supply.{checkNetwork};
 ghost use Rattle.frames.specs.Text.{readText};
 ghost use Rattle.frames.specs.Passes.{collect};
 ghost use Rattle.record_lines.specs.LineAnswers.{headOfCode};
-ghost use Rattle.frames.specs.FrameReads.{IsCollected};
+ghost use Rattle.frames.specs.FrameReads.{AreRecords, IsCollected};
 ghost use Rattle.frames.specs.Reading.{readingOf};
 use crate::branch;
 use crate::bus;
 use crate::pass::Pass;
+use crate::supply;
 use crate::switch;
-use checks::check;
+use feeders::supply::check_network;
 use lines::line::judge_end;
 use network::error::Verdict;
 use network::switch::ReconfigAlgorithm;
@@ -30,10 +31,10 @@ pub struct Reading {
     pub network: PowerNetwork,
 }
 
-// The records of the lines behind the head line, up to the first line that is refused for its text or a byte without a meaning.
-fn read_body(text: &[u8], head: Head) -> Pass
+// The buses, branches and switches of the lines behind the head line, up to the first line that is refused for its text or a byte without a meaning.
+fn read_records(text: &[u8], head: Head) -> Pass
     requires { ⌜ (37 ≤ length (now text)) × (head .buses ≤ 256) × (head .branches ≤ 512) × (head .switches ≤ 512) ⌝ }
-    ensures { λ r. ⌜ IsCollected (collect (headOfCode head) (cut (drop 37 (now (text .entry))))) r ⌝ }
+    ensures { λ r. ⌜ AreRecords (headOfCode head) (now (text .entry)) r ⌝ }
 {
     let algorithm = head.algorithm;
     let empty = PowerNetwork::new(head.base_mva, algorithm, head.max_iterations);
@@ -51,14 +52,29 @@ fn read_body(text: &[u8], head: Head) -> Pass
     };
     let listed = branches.network;
     let place = place + head.branches;
-    let switches = switch::read_switches(text, listed, branches.at, place, head.switches);
-    let stopped = switches.stopped;
+    switch::read_switches(text, listed, branches.at, place, head.switches)
+}
+
+// The records of all lines behind the head line: behind the switches the supply, if a line is left, and then no line more.
+fn read_body(text: &[u8], head: Head) -> Pass
+    requires { ⌜ (37 ≤ length (now text)) × (head .buses ≤ 256) × (head .branches ≤ 512) × (head .switches ≤ 512) ⌝ }
+    ensures { λ r. ⌜ IsCollected (collect (headOfCode head) (cut (drop 37 (now (text .entry))))) r ⌝ }
+{
+    let records = read_records(text, head);
+    let stopped = records.stopped;
     let Verdict::Accepted = stopped else {
-        return switches;
+        return records;
     };
-    let network = switches.network;
-    let at = switches.at;
-    let stopped = judge_end(text, at, place + head.switches);
+    let listed = records.network;
+    let place = 2 + head.buses + head.branches + head.switches;
+    let last = supply::read_supply(text, listed, records.at, place);
+    let stopped = last.stopped;
+    let Verdict::Accepted = stopped else {
+        return last;
+    };
+    let network = last.network;
+    let at = last.at;
+    let stopped = judge_end(text, at, place + 1);
     Pass {
         network,
         at,
@@ -80,10 +96,10 @@ fn refusal(number: u8, place: u16) -> Reading
 // The records decide first: their lines stand before the line at which reading stopped.
 fn settle(pass: Pass) -> Reading
     requires { ⌜ pass .network ≡ networkOf (recordsOf (pass .network)) ⌝ }
-    ensures { λ r. ⌜ r ≡ readingOf (checkRecords (recordsOf (pass .network)) andThen answerOf (pass .stopped) andThen accepted (recordsOf (pass .network))) ⌝ }
+    ensures { λ r. ⌜ r ≡ readingOf (checkNetwork (recordsOf (pass .network)) andThen answerOf (pass .stopped) andThen accepted (recordsOf (pass .network))) ⌝ }
 {
     let network = pass.network;
-    let v = check::check(network);
+    let v = check_network(network);
     if let Verdict::Refused { number, place } = v {
         return refusal(number, place);
     }

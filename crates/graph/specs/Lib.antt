@@ -22,3 +22,6 @@ pub mod RowsNeighbours
 pub mod RowsWalk
 pub mod Filled
 pub mod Walking
+pub mod Sides
+pub mod SideLaws
+pub mod WalkOrder

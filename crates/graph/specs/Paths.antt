@@ -29,7 +29,7 @@ module _ {N : Net} {S : Branches} where
   starts (step s e c) = List·Memᴰ·head refl
 
   -- the ends of a branch on a chain are visited
-  visits : {a b k u v : ℕ} {l : List ℕ} (c : Chain N S a b l) → List·Memᴰ k l → Ends N k u v → List·Memᴰ u (visited c)
+  pub visits : {a b k u v : ℕ} {l : List ℕ} (c : Chain N S a b l) → List·Memᴰ k l → Ends N k u v → List·Memᴰ u (visited c)
   unfolding visited
   visits (stay e) m n = absurd (List·Memᴰ·not-nil m)
   visits {a} {u = u} {v = v} (step {c = c} s e r) (List·Memᴰ·head p) n = go (ends-same e (rw p at n))
@@ -40,7 +40,7 @@ module _ {N : Net} {S : Branches} where
   visits (step s e r) (List·Memᴰ·tail m) n = List·Memᴰ·tail (visits r m n)
 
   -- what a chain visits is joined with its start
-  visited-joined : {a b x : ℕ} {l : List ℕ} (c : Chain N S a b l) → List·Memᴰ x (visited c) → Joined N S a x
+  pub visited-joined : {a b x : ℕ} {l : List ℕ} (c : Chain N S a b l) → List·Memᴰ x (visited c) → Joined N S a x
   unfolding visited
   visited-joined (stay e) m = joined-same (sym (List·Memᴰ·eq-of-singleton m))
   visited-joined (step s e c) (List·Memᴰ·head p) = joined-same (sym p)

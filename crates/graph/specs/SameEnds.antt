@@ -9,6 +9,7 @@ use Rattle.numbers.specs.Counts.{count-cong}
 use Rattle.graph.specs.Graph.{Net}
 use Rattle.graph.specs.Walk.{far, neighbours, reached, walkBy, walk, back, bfsPath}
 use Rattle.graph.specs.Radial.{radial}
+use Rattle.graph.specs.Sides.{towards, away}
 use Rattle.graph.specs.WalkLaws.{walk-walked}
 use Rattle.graph.specs.WayBack.{back-same}
 
@@ -25,6 +26,11 @@ module _ (N M : Net) (E F : ℕ → Bool) (buses : N .buses ≡ M .buses) (branc
   pub radial-same : radial N E ≡ radial M F
   unfolding radial
   radial-same = rw (fun-ext neighbours-same, count-cong E F (N .branches) live, branches, buses)
+
+  -- so too where they are drawn away from a bus
+  pub away-same : (z k : ℕ) → k < N .branches → (away N E z .from k ≡ away M F z .from k) × (away N E z .to k ≡ away M F z .to k)
+  unfolding away towards
+  away-same z k h = rw (live k h, ends k h .0, ends k h .1, walk-same (M .to k) (M .from k)) (refl, refl)
 
   pub path-same : (a b : ℕ) → bfsPath N E a b ≡ bfsPath M F a b
   unfolding bfsPath walk

@@ -21,7 +21,7 @@ pub data Walked (N : Net) (S : Branches) (start : ℕ) : List Visit → Type 0 w
   entered : {o : List Visit} (u : ℕ) {y k : ℕ} → Walked N S start o → S k → Ends N k u y → reached u o ≡ true → reached y o ≡ false
       → Walked N S start (o ++ (visit y k ∷ []))
 
-buses-last : (o : List Visit) (v : Visit) → busesOf (o ++ (v ∷ [])) ≡ busesOf o ++ (v .bus ∷ [])
+pub buses-last : (o : List Visit) (v : Visit) → busesOf (o ++ (v ∷ [])) ≡ busesOf o ++ (v .bus ∷ [])
 buses-last [] v = refl
 buses-last (w ∷ o) v = ap (_∷_ (w .bus)) (buses-last o v)
 

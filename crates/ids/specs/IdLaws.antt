@@ -15,9 +15,10 @@ use borrow.Author.Tests.{lt-ltb, le-ltb, eq-eqb, ne-eqb, ltb-true}
 use Rattle.numbers.specs.UpTo.{upTo, upTo-more, table}
 use Rattle.numbers.specs.TableLaws.{getD-table, replicate-table, filled, filled-none, filled-more, filled-all}
 use Rattle.numbers.specs.Choose.{indexOf}
+use Rattle.numbers.specs.ChooseLaws.{index-here, index-behind}
 use Rattle.numbers.specs.Parts.{take-within}
 use Rattle.ids.specs.declared.rows.IdRows.{IdRows}
-use Rattle.network.specs.LookupLaws.{index-here, index-behind, key-at}
+use Rattle.network.specs.LookupLaws.{key-at}
 use Rattle.ids.specs.Ids.{bucketOf, idArray, rows, putId, rowsFrom, rowsOf, idRows, seek, positionOf}
 
 bucket-small : (id : ℕ) → bucketOf id < 256

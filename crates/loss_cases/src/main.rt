@@ -1,6 +1,6 @@
 // Reads the feeders and states on standard input and prints the bits of each loss. A case is a line 'LENGTH NAME', a frame text, a line
-// feed, and a line 'CHANGE STATE'. CHANGE is A (65) for 1,001 iterations or F (70) for a tie in place of the eleventh switch, which the
-// records get once they are read, or a hyphen for none. STATE has a digit for each byte.
+// feed, and a line 'CHANGE STATE'. CHANGE is A (65) for 1,001 iterations, F (70) for a tie in place of the eleventh switch or W (87) for no
+// supply beside the number of one, which the records get once they are read, or a hyphen for none. STATE has a digit for each byte.
 ghost use mathlib.Core.Path.{_≡_};
 ghost use Prim.Native.Nat.{_≤_};
 ghost use lib.ListN.{length};
@@ -17,7 +17,7 @@ use network::switch::Switch;
 use network::topology::PowerNetwork;
 use numbers::at_most;
 
-// A fault that the records get once they are read: a text with it would not be.
+// What the records get once they are read: a fault, with which a text would not be, or no supply, whose number then decides nothing.
 fn changed(mut network: PowerNetwork, change: u8) -> PowerNetwork {
     if change == 65 {
         network.max_iterations = 1001;
@@ -29,6 +29,9 @@ fn changed(mut network: PowerNetwork, change: u8) -> PowerNetwork {
             normally_open: true,
             can_operate: true,
         };
+    }
+    if change == 87 {
+        network.has_supply = false;
     }
     network
 }
@@ -93,10 +96,10 @@ fn print_cases(input: &[u8]) {
 }
 
 // Room for all cases.
-fn buffer() -> [u8; 131072]
-    ensures { λ r. ⌜ 131072 ≡ length r ⌝ }
+fn buffer() -> [u8; 147456]
+    ensures { λ r. ⌜ 147456 ≡ length r ⌝ }
 {
-    [0; 131072]
+    [0; 147456]
 }
 
 fn main() {

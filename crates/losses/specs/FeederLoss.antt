@@ -1,6 +1,7 @@
--- The loss by the lists of a feeder that is accepted is the feeder's loss: for any flags of its branches, and so for the live branches of a state.
+-- The loss by the lists of a feeder that is accepted is the feeder's loss, for the live branches of a state: as they were drawn, and drawn away from the supply where one
+-- is named and the state is radial.
 use mathlib.Core.Path.{_≡_, refl, sym, ap, _∙_}
-use mathlib.Core.Bool.{Bool}
+use mathlib.Core.Bool.{Bool, true, false, cond}
 use mathlib.Core.List.{List}
 use Prim.Native.Nat.{ℕ, _<_, _≤_}
 use native.Mathlib.Omega.{arith}
@@ -13,60 +14,163 @@ use Rattle.network.specs.Answers.{accepted}
 use Rattle.network.specs.Check.{checkRecords}
 use Rattle.network.specs.Inside.{Inside}
 use Rattle.network.specs.InsideLaws.{check-inside}
+use Rattle.network.specs.Records.{Network, noBus, noBranch, recordsOf}
 use Rattle.states.specs.Live.{live}
-use Rattle.network.specs.Records.{noBus, noBranch, recordsOf}
+use Rattle.states.specs.Switches.{State}
 use Rattle.graph.specs.declared.rows.Graph.{Graph}
-use Rattle.graph.specs.Graph.{Sound}
-use Rattle.radiality.specs.Feeder.{feeder}
-use Rattle.radiality.specs.FeederLaws.{feeder-sound, feeder-small}
-use Rattle.radiality.specs.FeederRowLaws.{flags-live, same-buses, same-branches, feeder-ends}
-use Rattle.radiality.specs.FeederRows.{feederGraph, liveFlags, fromEnds, toEnds}
-use Rattle.graph.specs.Rows.{flag, netOf}
-use Rattle.losses.specs.Loss.{lossWith, lossIn}
+use Rattle.graph.specs.Graph.{Net, Sound, Live, Tree}
+use Rattle.graph.specs.Radial.{radial}
+use Rattle.graph.specs.RadialLaws.{radial-tree}
+use Rattle.graph.specs.Rows.{flag, netOf, graphOf}
+use Rattle.graph.specs.SameEnds.{radial-same, away-same}
+use Rattle.graph.specs.Sides.{away}
+use Rattle.graph.specs.SideLaws.{away-sound}
+use Rattle.drawing.specs.Drawing.{drawnGraph}
+use Rattle.drawing.specs.DrawingLaws.{drawnFroms, drawnTos, drawn-graph, drawn-ends}
+use Rattle.feeders.specs.Feeder.{position, feeder, radialIn}
+use Rattle.feeders.specs.FeederLaws.{feeder-sound, feeder-small, feeder-few}
+use Rattle.feeders.specs.FeederRowLaws.{flags-live, same-buses, same-branches, end-position, feeder-ends}
+use Rattle.feeders.specs.FeederRows.{listedIds, endAt, feederGraph, liveFlags, fromEnds, toEnds, endsNet}
+use Rattle.feeders.specs.Supply.{checkNetwork}
+use Rattle.feeders.specs.SupplyLaws.{network-inside, network-records, supply-listed, value-supplied, value-unsupplied}
+use Rattle.losses.specs.declared.loads.Loads.{Loads}
+use Rattle.losses.specs.Loss.{loadAt, resistanceAt, loss, lossIn}
 use Rattle.losses.specs.LossSame.{loss-same}
-use Rattle.losses.specs.ListLoss.{megawattsOf, listLoss, loadsOf}
+use Rattle.losses.specs.ListLoss.{megawattsOf, listLoss, loadsAt}
+use Rattle.losses.specs.LiveLoss.{loadsOf, drawnGraphFor, liveLoss}
 use Rattle.losses.specs.ListLossLaws.{list-loss}
+use Rattle.losses.specs.SupplySide.{Fed, unsupplied-loss, supplied-loss}
 
+-- of records inside the limits
 module _ (n : PowerNetwork) (sized : length (n .buses) ≡ 256) (ok : checkRecords (recordsOf n) ≡ accepted tt) where
-  inside : Inside (recordsOf n)
-  inside = check-inside (recordsOf n) .0 ok
+  abbrev N : Network
+  N = recordsOf n
 
-  loads-there : (i : ℕ) → i < feeder (recordsOf n) .buses → getD (recordsOf n .buses) i noBus .pd .0 ≡ getD (megawattsOf (loadsOf n)) i nan
+  inside : Inside N
+  inside = check-inside N .0 ok
+
+  small : n .«bus_count» ≤ 256
+  small = omega (arith, feeder-small N inside, same-buses n sized ok)
+
+  few : n .«branch_count» ≤ 512
+  few = omega (arith, feeder-few N inside, same-branches n sized ok)
+
+  loads-there : (i : ℕ) → i < n .«bus_count» → loadAt N i ≡ getD (megawattsOf (loadsAt (n .buses))) i nan
   unfolding recordsOf megawattsOf
   loads-there i h =
-      ap (λ b. b .pd .0) (getD-table (λ i. getD (n .buses) i noBus) (n .«bus_count») i noBus (omega (arith, same-buses n sized ok)))
+      ap (λ b. b .pd .0) (getD-table (λ i. getD (n .buses) i noBus) (n .«bus_count») i noBus h)
       ∙ sym
       (ap (λ (l : List Float). getD l i nan) (map-table (λ (p : Power). p .0) (λ i. getD (n .buses) i noBus .pd) 256)
-      ∙ getD-table (λ i. getD (n .buses) i noBus .pd .0) 256 i nan (omega (arith, feeder-small (recordsOf n) inside)))
+      ∙ getD-table (λ i. getD (n .buses) i noBus .pd .0) 256 i nan (omega (arith, small)))
 
-  resistances-there : (k : ℕ) → k < feeder (recordsOf n) .branches → getD (recordsOf n .branches) k noBranch .r ≡ getD (n .branches) k noBranch .r
+  resistances-there : (k : ℕ) → k < n .«branch_count» → resistanceAt N k ≡ getD (n .branches) k noBranch .r
   unfolding recordsOf
-  resistances-there k h = ap (λ b. b .r) (getD-table (λ i. getD (n .branches) i noBranch) (n .«branch_count») k noBranch (omega (arith, same-branches n sized ok)))
+  resistances-there k h = ap (λ b. b .r) (getD-table (λ i. getD (n .branches) i noBranch) (n .«branch_count») k noBranch h)
 
-  -- the ends that the arrays hold are buses
-  sound : Sound (netOf (n .«bus_count») (n .«branch_count») (fromEnds n) (toEnds n))
-  sound k l =
-      let inner : k < feeder (recordsOf n) .branches = omega (arith, same-branches n sized ok) in
-      let s = feeder-sound (recordsOf n) inside k inner in
-      let e = feeder-ends n sized ok k inner in
-      (omega (arith, s .0, e .0, same-buses n sized ok), omega (arith, s .1, e .1, same-buses n sized ok))
+  -- arrays of the ends of a net that is sound make a sound net
+  module _ (from to : List ℕ) (M : Net) (m : M .branches ≡ n .«branch_count») (b : M .buses ≡ n .«bus_count») (good : Sound M)
+      (ends : (k : ℕ) → k < M .branches → (M .from k ≡ getD from k 0) × (M .to k ≡ getD to k 0)) where
+    ends-sound : Sound (netOf (n .«bus_count») (n .«branch_count») from to)
+    ends-sound k l =
+        let inner : k < M .branches = omega arith in
+        let e = ends k inner in
+        let s = good k inner in
+        (omega (arith, s .0, e .0), omega (arith, s .1, e .1))
 
-  feeder-list-loss : (flags : List Bool) → length flags ≤ 512
-      → listLoss (feederGraph n) (loadsOf n) (n .branches) (n .«base_mva») flags ≡ lossWith (recordsOf n) (flag flags)
-  unfolding feederGraph recordsOf
-  feeder-list-loss flags short =
-      list-loss _ _ (fromEnds n) (toEnds n) flags (omega (arith, feeder-small (recordsOf n) inside, same-buses n sized ok)) short sound (loadsOf n) (n .branches) (n .«base_mva»)
-      ∙ sym
-      (loss-same (feeder (recordsOf n)) (netOf (n .«bus_count») (n .«branch_count») (fromEnds n) (toEnds n)) (flag flags) (flag flags) (same-buses n sized ok) (same-branches n sized ok) (λ k l. refl)
-      (feeder-ends n sized ok) _ _ _ _ (n .«base_mva») (feeder-sound (recordsOf n) inside) loads-there resistances-there)
+  module _ (flags : List Bool) (short : length flags ≤ 512) where
+    abbrev lossBy : Graph → Float
+    lossBy g = listLoss g (loadsAt (n .buses)) (n .branches) (n .«base_mva») flags
 
-  pub live-list-loss : (s : List ℕ) → listLoss (feederGraph n) (loadsOf n) (n .branches) (n .«base_mva») (liveFlags (recordsOf n) s) ≡ lossIn (recordsOf n) s
-  unfolding lossIn
-  live-list-loss s =
-      feeder-list-loss (liveFlags (recordsOf n) s) (omega (arith, length-table (live (recordsOf n) s) 512))
-      ∙ ap (lossWith (recordsOf n)) (flags-live (recordsOf n) s (inside .counts .1))
+    abbrev lossOf : Net → Float
+    lossOf M = loss M (flag flags) (loadAt N) (resistanceAt N) (N .base)
+
+    -- an array of ends has the loss of any net with these ends
+    ends-loss : (from to : List ℕ) (M : Net) → M .buses ≡ n .«bus_count» → M .branches ≡ n .«branch_count» → Sound M
+        → ((k : ℕ) → k < M .branches → (M .from k ≡ getD from k 0) × (M .to k ≡ getD to k 0)) → lossBy (graphOf (n .«bus_count») (n .«branch_count») from to) ≡ lossOf M
+    unfolding recordsOf
+    ends-loss from to M b m good ends =
+        list-loss _ _ from to flags small short (ends-sound from to M m b good ends) (loadsAt (n .buses)) (n .branches) (n .«base_mva»)
+        ∙ sym
+        (loss-same M (netOf (n .«bus_count») (n .«branch_count») from to) (flag flags) (flag flags) b m (λ k l. refl) ends _ _ _ _ (n .«base_mva») good
+        (λ i l. loads-there i (omega arith)) (λ k l. resistances-there k (omega arith)))
+
+    -- as the branches were drawn
+    plain-loss : lossBy (feederGraph n) ≡ lossOf (feeder N)
+    unfolding feederGraph
+    plain-loss = ends-loss (fromEnds n) (toEnds n) (feeder N) (same-buses n sized ok) (same-branches n sized ok) (feeder-sound N inside) (feeder-ends n sized ok)
+
+    -- and drawn away from a bus, where the flagged branches are radial
+    module _ (z : ℕ) (here : z < feeder N .buses) (tree : radial (feeder N) (flag flags) ≡ true) where
+      ends-net-sound : Sound (endsNet n)
+      ends-net-sound = ends-sound (fromEnds n) (toEnds n) (feeder N) (same-branches n sized ok) (same-buses n sized ok) (feeder-sound N inside) (feeder-ends n sized ok)
+
+      ends-net-tree : Tree (endsNet n) (Live (endsNet n) (flag flags))
+      ends-net-tree =
+          radial-tree (endsNet n) (flag flags) ends-net-sound small .0
+          (sym (radial-same (feeder N) (endsNet n) (flag flags) (flag flags) (same-buses n sized ok) (same-branches n sized ok) (λ k l. refl) (feeder-ends n sized ok)) ∙ tree)
+
+      drawn-loss : lossBy (drawnGraph (feederGraph n) flags z) ≡ lossOf (away (feeder N) (flag flags) z)
+      unfolding feederGraph
+      drawn-loss =
+          ap lossBy (drawn-graph _ _ (fromEnds n) (toEnds n) flags z)
+          ∙ ends-loss (drawnFroms _ _ (fromEnds n) (toEnds n) flags z) (drawnTos _ _ (fromEnds n) (toEnds n) flags z) (away (feeder N) (flag flags) z)
+          (unfold away in same-buses n sized ok) (unfold away in same-branches n sized ok) (away-sound (feeder N) (flag flags) z (feeder-sound N inside)) drawn-same
+        where
+          drawn-same : (k : ℕ) → k < away (feeder N) (flag flags) z .branches
+              → (away (feeder N) (flag flags) z .from k ≡ getD (drawnFroms (n .«bus_count») (n .«branch_count») (fromEnds n) (toEnds n) flags z) k 0)
+              × (away (feeder N) (flag flags) z .to k ≡ getD (drawnTos (n .«bus_count») (n .«branch_count») (fromEnds n) (toEnds n) flags z) k 0)
+          drawn-same k l =
+              let inner : k < feeder N .branches = unfold away in l in
+              let a = away-same (feeder N) (endsNet n) (flag flags) (flag flags) (same-buses n sized ok) (same-branches n sized ok) (λ j h. refl) (feeder-ends n sized ok) z k inner in
+              let d = drawn-ends _ _ (fromEnds n) (toEnds n) flags z small few short ends-net-sound ends-net-tree (omega (arith, same-buses n sized ok)) k (omega (arith, same-branches n sized ok)) in
+              (a .0 ∙ d .0, a .1 ∙ d .1)
+
+-- of an accepted feeder: in every state without a supply, in every radial one with it
+module _ (n : PowerNetwork) (sized : length (n .buses) ≡ 256) (passed : checkNetwork (recordsOf n) ≡ accepted tt) (s : State) (fed : Fed (recordsOf n) s) where
+  abbrev M : Network
+  M = recordsOf n
+
+  ok : checkRecords M ≡ accepted tt
+  ok = network-records M passed
+
+  abbrev flags : List Bool
+  flags = liveFlags M s
+
+  short : length flags ≤ 512
+  short = omega (arith, length-table (live M s) 512)
+
+  live-so : flag flags ≡ live M s
+  live-so = flags-live M s (check-inside M .0 ok .counts .1)
+
+  by-flags : (net : (ℕ → Bool) → Net)
+      → loss (net (flag flags)) (flag flags) (loadAt M) (resistanceAt M) (M .base) ≡ loss (net (live M s)) (live M s) (loadAt M) (resistanceAt M) (M .base)
+  by-flags net = ap (λ (E : ℕ → Bool). loss (net E) E (loadAt M) (resistanceAt M) (M .base)) live-so
+
+  unfed : n .«has_supply» ≡ false → listLoss (feederGraph n) (loadsAt (n .buses)) (n .branches) (n .«base_mva») flags ≡ lossIn M s
+  unfed e = plain-loss n sized ok flags short ∙ by-flags (λ E. feeder M) ∙ sym (unsupplied-loss M s (value-unsupplied n e))
+
+  from-supply : n .«has_supply» ≡ true
+      → listLoss (drawnGraph (feederGraph n) flags (endAt (listedIds n) (n .supply))) (loadsAt (n .buses)) (n .branches) (n .«base_mva») flags ≡ lossIn M s
+  unfolding radialIn
+  from-supply e =
+      let named = value-supplied n e in
+      let z = end-position n sized ok (n .supply) (network-inside M .0 passed .1 (n .supply) named .0) in
+      let tree = ap (radial (feeder M)) live-so ∙ fed (n .supply) named in
+      rw z (drawn-loss n sized ok flags short (position M (n .supply)) (supply-listed M passed (n .supply) named) tree)
+      ∙ by-flags (λ E. away (feeder M) E (position M (n .supply)))
+      ∙ sym (supplied-loss M s (n .supply) named)
+
+  live-feeder-loss : liveLoss (feederGraph n) (loadsOf n) (n .branches) (n .«base_mva») flags ≡ lossIn M s
+  unfolding liveLoss drawnGraphFor loadsOf
+  live-feeder-loss = go (n .«has_supply») refl
+    where
+      go : (b : Bool) → n .«has_supply» ≡ b
+          → listLoss (cond b (drawnGraph (feederGraph n) flags (cond b (endAt (listedIds n) (n .supply)) 0)) (feederGraph n))
+          (loadsAt (n .buses)) (n .branches) (n .«base_mva») flags ≡ lossIn M s
+      go true e = from-supply e
+      go false e = unfed e
 
   -- with what the code has for the graph, the loads and the flags
-  pub feeder-loss : (s : List ℕ) (graph : Graph) (loads : List Power) (flags : List Bool) → graph ≡ feederGraph n → loads ≡ loadsOf n → flags ≡ liveFlags (recordsOf n) s
-      → listLoss graph loads (n .branches) (n .«base_mva») flags ≡ lossIn (recordsOf n) s
-  feeder-loss s graph loads flags g l f = rw (g, l, f) (live-list-loss s)
+  pub feeder-loss : (graph : Graph) (loads : Loads) (live : List Bool) → graph ≡ feederGraph n → loads ≡ loadsOf n → live ≡ flags
+      → liveLoss graph loads (n .branches) (n .«base_mva») live ≡ lossIn M s
+  feeder-loss graph loads live g l f = rw (g, l, f) live-feeder-loss

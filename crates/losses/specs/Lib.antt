@@ -1,4 +1,5 @@
 pub mod Loss
+pub mod LossCall
 pub mod Answers
 pub mod InRange
 pub mod TermLaws
@@ -6,6 +7,9 @@ pub mod LossLaws
 pub mod PercentLaws
 pub mod Accepted
 pub mod ListLoss
+pub mod LiveLoss
 pub mod LossSame
 pub mod ListLossLaws
+pub mod SupplySide
+pub mod LossCallLaws
 pub mod FeederLoss

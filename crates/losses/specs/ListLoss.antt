@@ -13,7 +13,6 @@ use Rattle.numbers.specs.UpTo.{table}
 use Rattle.network.specs.declared.branch.Branch.{Branch}
 use Rattle.network.specs.declared.bus.Bus.{Bus}
 use Rattle.network.specs.declared.bus.Power.{Power}
-use Rattle.network.specs.declared.topology.PowerNetwork.{PowerNetwork}
 use Rattle.network.specs.Records.{noBus, noBranch}
 use Rattle.graph.specs.declared.rows.Graph.{Graph}
 use Rattle.graph.specs.Walk.{walkBy}
@@ -52,7 +51,3 @@ NetLoss g loads branches base live r =
 -- the loads of 256 buses
 abbrev pub loadsAt : List Bus → List Power
 loadsAt buses = table (λ i. getD buses i noBus .pd) 256
-
--- the loads of a feeder by bus position, as the code has them
-abbrev pub loadsOf : PowerNetwork → List Power
-loadsOf n = loadsAt (n .buses)

@@ -1,7 +1,8 @@
--- Document 01's loss, each operation rounded once. It is taken of a net, the flags of its live branches, the loads by bus position in megawatts,
+-- The loss, each operation rounded once. It is taken of a net, the flags of its live branches, the loads by bus position in megawatts,
 -- the resistances by branch position in per unit, and base_mva.
 use mathlib.Core.Bool.{Bool, cond}
 use mathlib.Core.List.{List}
+use mathlib.Core.Option.{Option, none, some}
 use Prim.Native.Nat.{ℕ}
 use lib.Dec.{eqb}
 use lib.Ieee.{Float, binary64, add, mul, div}
@@ -9,8 +10,9 @@ use lib.ListN.{length, getD}
 use Rattle.numbers.specs.Constants.{zero64}
 use Rattle.numbers.specs.UpTo.{upTo}
 use Rattle.graph.specs.Graph.{Net}
+use Rattle.graph.specs.Sides.{away}
 use Rattle.graph.specs.Walk.{Visit, startAt, walk}
-use Rattle.radiality.specs.Feeder.{feeder}
+use Rattle.feeders.specs.Feeder.{position, feeder}
 use Rattle.network.specs.Records.{Network, noBus, noBranch}
 use Rattle.states.specs.Live.{live}
 
@@ -34,9 +36,25 @@ totalOf E r load base n = upTo (λ t k. cond (E k) (add binary64 t (termOf (r k)
 unfoldable pub loss : Net → (ℕ → Bool) → (ℕ → Float) → (ℕ → Float) → Float → Float
 loss N E pd r base = cond (eqb (N .buses) 0) zero64 (totalOf E r (λ k. walkLoad pd (downstream N E k)) base (N .branches))
 
+-- the feeder as the loss takes it: as its cables were drawn; document 02: "With" a supply's line "downstream is the side of a live branch that does not hold the supply
+-- bus", so that each live branch is drawn away from it
+abbrev pub drawnFor : Network → Option ℕ → (ℕ → Bool) → Net
+drawnFor N none E = feeder N
+drawnFor N (some id) E = away (feeder N) E (position N id)
+
+unfoldable pub drawn : Network → (ℕ → Bool) → Net
+drawn N E = drawnFor N (N .supply) E
+
+-- the load of a bus and the resistance of a branch, by position
+abbrev pub loadAt : Network → ℕ → Float
+loadAt N i = getD (N .buses) i noBus .pd .0
+
+abbrev pub resistanceAt : Network → ℕ → Float
+resistanceAt N k = getD (N .branches) k noBranch .r
+
 -- the loss of a feeder with these branches live
 abbrev pub lossWith : Network → (ℕ → Bool) → Float
-lossWith N E = loss (feeder N) E (λ i. getD (N .buses) i noBus .pd .0) (λ k. getD (N .branches) k noBranch .r) (N .base)
+lossWith N E = loss (drawn N E) E (loadAt N) (resistanceAt N) (N .base)
 
 -- the loss of a feeder in a state of its switches, in MW
 unfoldable pub lossIn : Network → List ℕ → Float

@@ -41,6 +41,11 @@ unfolding _andThen_
 then-assoc (accepted u) w a = refl
 then-assoc (refused n p) w a = refl
 
+pub then-nothing : (v : Judgement) → (v andThen accepted tt) ≡ v
+unfolding _andThen_
+then-nothing (accepted u) = refl
+then-nothing (refused n p) = refl
+
 -- the value of an accepted answer
 abbrev value-of : {A : Type 0} → A → Answer A → A
 value-of d (accepted a) = a

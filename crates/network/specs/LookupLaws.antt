@@ -1,14 +1,14 @@
 -- Lookups by rising position: what is left to look at from position i on, where `bus_index` stops, and that the first records of an array are the listed ones.
 use mathlib.Core.Path.{_≡_, sym, ap, _∙_}
 use mathlib.Core.List.{List, map}
-use Prim.Native.Nat.{ℕ, suc, _+_, _≤_, _<_}
+use Prim.Native.Nat.{ℕ, _+_, _≤_, _<_}
 use native.Mathlib.Nat.{add-zero, zero-add}
-use native.Mathlib.Numerals.{add-one}
 use native.Mathlib.Omega.{arith}
 use lib.ListN.{length, getD, take, drop, length-take, drop-of-length-le, List·getD-map}
-use lib.Seq.{drop-cons, getD-take}
-use borrow.Author.Tests.{eq-eqb, ne-eqb, lt-ltb, le-ltb}
+use lib.Seq.{getD-take}
+use borrow.Author.Tests.{lt-ltb, le-ltb}
 use Rattle.numbers.specs.Choose.{indexOf}
+use Rattle.numbers.specs.ChooseLaws.{index-here, index-behind}
 use Rattle.numbers.specs.TableLaws.{as-table}
 use Rattle.network.specs.declared.bus.Bus.{Bus}
 use Rattle.network.specs.declared.topology.BusIndex.the-variants.{At, NotFound}
@@ -16,18 +16,6 @@ use Rattle.network.specs.declared.topology.PowerNetwork.{PowerNetwork}
 use Rattle.network.specs.Limits.{busId}
 use Rattle.network.specs.Lookups.{busIndex}
 use Rattle.network.specs.Records.{noBus, listed, recordsOf}
-
--- the first position from i on: i itself, or one behind it
-module _ (x : ℕ) (l : List ℕ) (i : ℕ) (h : i < length l) where
-  pub index-here : getD l i 0 ≡ x → i + indexOf x (drop i l) ≡ i
-  unfolding indexOf
-  index-here q = rw (drop-cons l i 0 h, eq-eqb x (getD l i 0) (sym q)) (add-zero i)
-
-  pub index-behind : (getD l i 0 ≡ x → ⊥) → i + indexOf x (drop i l) ≡ i + 1 + indexOf x (drop (i + 1) l)
-  unfolding indexOf
-  index-behind n =
-      let e : indexOf x (drop i l) ≡ suc (indexOf x (drop (i + 1) l)) = rw (drop-cons l i 0 h, ne-eqb x (getD l i 0) (λ q. n (sym q)), add-one) in
-      omega arith
 
 module _ (x : ℕ) (l : List ℕ) where
   -- x stands at none of the first i positions

@@ -1,5 +1,6 @@
 -- The records as lists, as long as their counts say.
-use mathlib.Core.Bool.{false}
+use mathlib.Core.Bool.{Bool, true, false}
+use mathlib.Core.Option.{Option, none, some}
 use mathlib.Core.List.{List, []}
 use Prim.Native.Nat.{ℕ}
 use lib.ListN.{length, getD}
@@ -31,10 +32,25 @@ pub record Network : Type 0 where
   pub buses : List Bus
   pub branches : List Branch
   pub switches : List Switch
+  -- document 02: the id of the supply bus, where one is named
+  pub supply : Option ℕ
+
+-- a supply as the code holds it: whether one is named, and its id
+abbrev pub supplyOf : Bool → ℕ → Option ℕ
+supplyOf false id = none
+supplyOf true id = some id
+
+abbrev pub hasSupply : Option ℕ → Bool
+hasSupply none = false
+hasSupply (some id) = true
+
+abbrev pub supplyId : Option ℕ → ℕ
+supplyId none = 0
+supplyId (some id) = id
 
 -- the first n of an array, also where it has fewer
 abbrev pub listed : {A : Type 0} → A → List A → ℕ → List A
-listed none l n = table (λ i. getD l i none) n
+listed empty l n = table (λ i. getD l i empty) n
 
 -- the listed records of a value handed over: as many of each kind as its count says, also where that is over the limit
 unfoldable pub recordsOf : PowerNetwork → Network
@@ -46,6 +62,7 @@ recordsOf n =
       buses = listed noBus (n .buses) (n .«bus_count»);
       branches = listed noBranch (n .branches) (n .«branch_count»);
       switches = listed noSwitch (n .switches) (n .«switch_count»);
+      supply = supplyOf (n .«has_supply») (n .supply);
     }
 
 -- the value that holds a feeder inside the limits: the first entries of each array are listed, the others empty
@@ -61,7 +78,9 @@ networkOf N =
       «base_mva» = N .base;
       algorithm = N .algorithm;
       «max_iterations» = N .iterations;
+      «has_supply» = hasSupply (N .supply);
+      supply = supplyId (N .supply);
     }
 
 abbrev pub emptyNetwork : Float → ReconfigAlgorithm → ℕ → PowerNetwork
-emptyNetwork base algorithm iterations = networkOf (record { base = base; algorithm = algorithm; iterations = iterations; buses = []; branches = []; switches = [] })
+emptyNetwork base algorithm iterations = networkOf (record { base = base; algorithm = algorithm; iterations = iterations; buses = []; branches = []; switches = []; supply = none })

@@ -17,7 +17,8 @@ pub enum BusIndex {
     NotFound,
 }
 
-// A feeder and what is asked of it. Only the first `bus_count` buses are listed, and so for branches and switches.
+// A feeder and what is asked of it. Only the first `bus_count` buses are listed, and so for branches and switches. The bus with the id `supply` feeds it where
+// `has_supply` says so; else the number decides nothing.
 pub struct PowerNetwork {
     pub buses: [Bus; PowerNetwork::MAX_BUSES],
     pub branches: [Branch; PowerNetwork::MAX_BRANCHES],
@@ -28,6 +29,8 @@ pub struct PowerNetwork {
     pub base_mva: f64,
     pub algorithm: ReconfigAlgorithm,
     pub max_iterations: u16,
+    pub has_supply: bool,
+    pub supply: u16,
 }
 
 impl PowerNetwork {
@@ -42,7 +45,7 @@ impl PowerNetwork {
     // With method 02, at most ten switches are normally open.
     pub const MAX_TIES: usize = 10;
 
-    // A network in which nothing is listed yet.
+    // A network in which nothing is listed yet, and no supply is named.
     pub fn new(base_mva: f64, algorithm: ReconfigAlgorithm, max_iterations: u16) -> PowerNetwork
         ensures { λ r. ⌜ r ≡ emptyNetwork «base_mva» algorithm «max_iterations» ⌝ }
     {
@@ -75,6 +78,8 @@ impl PowerNetwork {
             base_mva,
             algorithm,
             max_iterations,
+            has_supply: false,
+            supply: 0,
         }
     }
 

@@ -3,12 +3,14 @@ use mathlib.Core.Path.{_≡_, refl, sym, ap, _∙_}
 use mathlib.Core.Logic.{_⊎_, inl, inr, _≢_}
 use mathlib.Core.Bool.{Bool, true, false, cond, true≢false}
 use mathlib.Core.List.{List, [], _∷_, _++_, List·Memᴰ, List·Memᴰ·head, List·Memᴰ·tail, List·Memᴰ·not-nil, List·Memᴰ·cases-cons, List·Memᴰ·append-cases, List·Memᴰ·eq-of-singleton, Memᴰ·append-left, Memᴰ·append-right}
-use Prim.Native.Nat.{ℕ, zero, suc, _<_}
+use Prim.Native.Nat.{ℕ, zero, suc, _+_, _<_}
+use native.Mathlib.Nat.{add-zero}
+use native.Mathlib.Numerals.{add-one}
 use native.Mathlib.Decide.{ℕ-discrete}
 use native.Mathlib.Omega.{arith}
 use lib.Dec.{eqb}
-use lib.ListN.{length, getD, length-append, List·getD-append}
-use lib.Seq.{getD-at}
+use lib.ListN.{length, getD, drop, length-append, List·getD-append}
+use lib.Seq.{drop-cons, getD-at}
 use borrow.Author.Tests.{eq-eqb, ne-eqb}
 use Rattle.numbers.specs.Counts.{count}
 use Rattle.numbers.specs.CountLaws.{counted-before}
@@ -101,3 +103,50 @@ index-at [] d i l h = absurd (omega arith)
 index-at (y ∷ xs) d zero l h = rw (eq-eqb y _ refl)
 index-at (y ∷ xs) d (suc i) l h =
     rw (ne-eqb (getD xs i d) y (λ e. h zero (omega arith) (sym e)), index-at xs d i (omega arith) (λ j k. h (suc j) (omega arith)))
+
+module _ (x : ℕ) where
+  -- what does not stand in the list is behind it
+  pub index-none : (l : List ℕ) → ¬ List·Memᴰ x l → indexOf x l ≡ length l
+  unfolding indexOf
+  index-none [] n = refl
+  index-none (y ∷ l) n = rw (ne-eqb x y (λ e. n (List·Memᴰ·head e)), index-none l (λ m. n (List·Memᴰ·tail m)))
+
+  -- with more behind the list: what stands in it stays, and what does not is looked for in what is behind
+  pub index-still : (l r : List ℕ) → List·Memᴰ x l → indexOf x (l ++ r) ≡ indexOf x l
+  unfolding indexOf
+  index-still [] r m = absurd (List·Memᴰ·not-nil m)
+  index-still (y ∷ l) r m = go (ℕ-discrete x y) (List·Memᴰ·cases-cons m) (index-still l r)
+    where
+      go : Dec (x ≡ y) → (x ≡ y) ⊎ List·Memᴰ x l → (List·Memᴰ x l → indexOf x (l ++ r) ≡ indexOf x l)
+          → cond (eqb x y) zero (suc (indexOf x (l ++ r))) ≡ cond (eqb x y) zero (suc (indexOf x l))
+      go (yes e) c ih = rw (eq-eqb x y e)
+      go (no n) (inl e) ih = absurd (n e)
+      go (no n) (inr m) ih = rw (ih m)
+
+  pub index-past : (l r : List ℕ) → ¬ List·Memᴰ x l → indexOf x (l ++ r) ≡ length l + indexOf x r
+  unfolding indexOf
+  index-past [] r n = omega arith
+  index-past (y ∷ l) r n = rw (ne-eqb x y (λ e. n (List·Memᴰ·head e)), index-past l r (λ m. n (List·Memᴰ·tail m))) (omega arith)
+
+  -- where it is found it stands
+  pub index-holds : (l : List ℕ) (d : ℕ) → List·Memᴰ x l → getD l (indexOf x l) d ≡ x
+  unfolding indexOf
+  index-holds [] d m = absurd (List·Memᴰ·not-nil m)
+  index-holds (y ∷ l) d m = go (ℕ-discrete x y) (List·Memᴰ·cases-cons m) (index-holds l d)
+    where
+      go : Dec (x ≡ y) → (x ≡ y) ⊎ List·Memᴰ x l → (List·Memᴰ x l → getD l (indexOf x l) d ≡ x) → getD (y ∷ l) (cond (eqb x y) zero (suc (indexOf x l))) d ≡ x
+      go (yes e) c ih = rw (eq-eqb x y e) (sym e)
+      go (no n) (inl e) ih = absurd (n e)
+      go (no n) (inr m) ih = rw (ne-eqb x y n) (ih m)
+
+-- the first position from i on: i itself, or one behind it
+module _ (x : ℕ) (l : List ℕ) (i : ℕ) (h : i < length l) where
+  pub index-here : getD l i 0 ≡ x → i + indexOf x (drop i l) ≡ i
+  unfolding indexOf
+  index-here q = rw (drop-cons l i 0 h, eq-eqb x (getD l i 0) (sym q)) (add-zero i)
+
+  pub index-behind : (getD l i 0 ≡ x → ⊥) → i + indexOf x (drop i l) ≡ i + 1 + indexOf x (drop (i + 1) l)
+  unfolding indexOf
+  index-behind n =
+      let e : indexOf x (drop i l) ≡ suc (indexOf x (drop (i + 1) l)) = rw (drop-cons l i 0 h, ne-eqb x (getD l i 0) (λ q. n (sym q)), add-one) in
+      omega arith

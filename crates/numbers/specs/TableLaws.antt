@@ -3,7 +3,7 @@ use mathlib.Core.Path.{_≡_, refl, sym, ap, _∙_}
 use mathlib.Core.Logic.{_≢_}
 use mathlib.Core.Bool.{Bool, true, false, cond}
 use mathlib.Core.List.{List, [], _∷_, _++_, map}
-use Prim.Native.Nat.{ℕ, zero, suc, _+_, _≤_, _<_}
+use Prim.Native.Nat.{ℕ, zero, suc, _+_, _≤_, _<_, min}
 use native.Mathlib.Decide.{ℕ-discrete}
 use native.Mathlib.Numerals.{add-one}
 use native.Mathlib.Omega.{arith}
@@ -96,6 +96,15 @@ module _ {A : Type 0} (f : ℕ → A) (d : A) where
       same : (j : ℕ) → j ≢ i → (b : Bool) → ltb j i ≡ b → ltb j i ≡ ltb j (i + 1)
       same j m true e = e ∙ sym (lt-ltb j (i + 1) (let l = ltb-true j i e in omega arith))
       same j m false e = e ∙ sym (le-ltb j (i + 1) (let l = ltb-false j i e in omega arith))
+
+  -- no more than n are filled
+  pub filled-within : (n i : ℕ) → filled n (min i n) ≡ filled n i
+  unfolding filled
+  filled-within n i = table-cong _ _ n (λ j h. ap (λ b. cond b (f j) d) (same j h (ltb j i) refl))
+    where
+      same : (j : ℕ) → j < n → (b : Bool) → ltb j i ≡ b → ltb j (min i n) ≡ ltb j i
+      same j h true e = lt-ltb j (min i n) (let l = ltb-true j i e in omega arith) ∙ sym e
+      same j h false e = le-ltb j (min i n) (let l = ltb-false j i e in omega arith) ∙ sym e
 
   -- the others are d in the table too
   pub filled-all : (n i : ℕ) → ((j : ℕ) → j < n → i ≤ j → f j ≡ d) → filled n i ≡ table f n

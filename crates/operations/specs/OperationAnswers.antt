@@ -11,7 +11,8 @@ use Rattle.network.specs.declared.topology.PowerNetwork.{PowerNetwork}
 use Rattle.network.specs.Records.{Network, recordsOf}
 use Rattle.network.specs.Answers.{accepted, refused, answerOf, _andThen_, Judgement}
 use Rattle.network.specs.AnswerLaws.{then-iff}
-use Rattle.network.specs.Check.{checkRecords}
+use Rattle.feeders.specs.Supply.{checkNetwork}
+use Rattle.feeders.specs.SupplyLaws.{network-records}
 use Rattle.states.specs.Live.{checkState}
 use Rattle.slices.specs.Written.{written}
 use Rattle.printing.specs.Lengths.{operationLength}
@@ -27,7 +28,7 @@ module _ (n : PowerNetwork) (from to : State) where
   N = recordsOf n
 
   abbrev tests : Judgement
-  tests = checkRecords N andThen checkState N from 0 andThen checkState N to 1
+  tests = checkNetwork N andThen checkState N from 0 andThen checkState N to 1
 
   pub not-listed : (out : List ℕ) {v : Verdict} {number place : ℕ} → v ≡ Refused number place → answerOf v ≡ tests → record { answer = refused number place; out = out } ≡ operationsCall N from to out
   unfolding operationsCall
@@ -36,9 +37,9 @@ module _ (n : PowerNetwork) (from to : State) where
   module _ (passed : tests ≡ accepted tt) where
     pub stated : Stated n from to
     stated =
-        let network = then-iff (checkRecords N) _ .0 passed in
+        let network = then-iff (checkNetwork N) _ .0 passed in
         let states = then-iff (checkState N from 0) (checkState N to 1) .0 (network .1) in
-        (state-accepted N from 0 .0 (states .0) .long ∙ switches-listed n, state-accepted N to 1 .0 (states .1) .long ∙ switches-listed n, few-switches n (network .0))
+        (state-accepted N from 0 .0 (states .0) .long ∙ switches-listed n, state-accepted N to 1 .0 (states .1) .long ∙ switches-listed n, few-switches n (network-records N (network .0)))
 
     module _ (total : ℕ) (k : total ≡ count (differs from to) (length from)) where
       total-operations : total ≡ length (operations N from to)

@@ -7,7 +7,7 @@ use lib.ListN.{length}
 use Rattle.numbers.specs.UpTo.{upTo}
 use Rattle.network.specs.Records.{Network}
 use Rattle.network.specs.Answers.{Answer, accepted, refused, _andThen_}
-use Rattle.network.specs.Check.{checkRecords}
+use Rattle.feeders.specs.Supply.{checkNetwork}
 use Rattle.states.specs.Live.{checkState}
 use Rattle.network.specs.declared.switch.Switch.{Switch}
 use Rattle.states.specs.Switches.{State, byte, size, switch}
@@ -37,7 +37,7 @@ operationsText operations = flatMap operationText operations
 unfoldable pub operationsCall : Network → State → State → List ℕ → Call ℕ
 operationsCall N from to out =
     let l = operations N from to in
-    called (checkRecords N andThen checkState N from 0 andThen checkState N to 1) (length l) (operationsText l) out
+    called (checkNetwork N andThen checkState N from 0 andThen checkState N to 1) (length l) (operationsText l) out
 
 -- document 01's number and place for each case of the code's answer
 abbrev pub operationsAnswerOf : OperationsAnswer → Answer ℕ

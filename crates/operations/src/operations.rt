@@ -7,13 +7,13 @@ ghost use lib.Seq.{sets};
 ghost use Rattle.numbers.specs.Counts.{count};
 ghost use Rattle.slices.specs.Written.{written};
 ghost use Rattle.network.specs.Answers.{answerOf, _andThen_};
-ghost use Rattle.network.specs.Check.{checkRecords};
 ghost use Rattle.states.specs.Live.{checkState};
+ghost use Rattle.feeders.specs.Supply.{checkNetwork};
 ghost use Rattle.printing.specs.Lengths.{operationLength};
 ghost use Rattle.network.specs.Records.{recordsOf};
 ghost use Rattle.operations.specs.Operations.{operationTo, operations, operationsText, operationsCall, operationsAnswerOf};
 ghost use Rattle.operations.specs.OperationValues.{Stated, differs, lineOf};
-use checks::check::check;
+use feeders::supply::check_network;
 use network::error::Verdict;
 use network::switch::Switch;
 use network::topology::PowerNetwork;
@@ -33,13 +33,13 @@ pub enum OperationsAnswer {
 
 // The network's refusals, then 10, that of the first state before that of the second.
 fn check_states(network: PowerNetwork, from: &[u8], to: &[u8]) -> Verdict
-    ensures { λ r. ⌜ answerOf r ≡ (checkRecords (recordsOf network)
+    ensures { λ r. ⌜ answerOf r ≡ (checkNetwork (recordsOf network)
         andThen checkState (recordsOf network) (now (from .entry)) 0
         andThen checkState (recordsOf network) (now (to .entry)) 1) ⌝ }
 {
-    let records = check(network);
-    let Verdict::Accepted = records else {
-        return records;
+    let tested = check_network(network);
+    let Verdict::Accepted = tested else {
+        return tested;
     };
     let first = check_state(network, from, 0);
     let Verdict::Accepted = first else {

@@ -18,11 +18,12 @@ use Rattle.network.specs.Answers.{accepted}
 use Rattle.network.specs.Check.{checkRecords}
 use Rattle.states.specs.Live.{live}
 use Rattle.graph.specs.declared.rows.Graph.{Graph}
-use Rattle.radiality.specs.Feeder.{feeder}
-use Rattle.radiality.specs.FeederLaws.{feeder-few}
+use Rattle.feeders.specs.SupplyLaws.{network-records}
+use Rattle.feeders.specs.Feeder.{feeder}
+use Rattle.feeders.specs.FeederLaws.{feeder-few}
 use Rattle.graph.specs.Rows.{flag}
-use Rattle.radiality.specs.FeederRows.{feederGraph, liveFlags}
-use Rattle.radiality.specs.FeederRowLaws.{flags-live}
+use Rattle.feeders.specs.FeederRows.{feederGraph, liveFlags}
+use Rattle.feeders.specs.FeederRowLaws.{flags-live}
 use Rattle.plan.specs.declared.pairs.PairList.{PairList}
 use Rattle.states.specs.Switches.{State, branchOf}
 use Rattle.states.specs.Listed.{switches-listed, few-switches, switch-at}
@@ -83,7 +84,7 @@ module _ (n : PowerNetwork) (present wanted : State) where
 
   module _ {change : Change} (given : Passed n change present wanted) where
     pub passed : checkRecords N ≡ accepted tt
-    passed = plan-accepted N present wanted .0 (given .ok) .0
+    passed = network-records N (plan-accepted N present wanted .0 (given .ok) .0)
 
     all-left : pairs N present wanted ≡ left (liveFlags N present) 0
     unfolding pairs closings left closes

@@ -14,17 +14,19 @@ use Rattle.numbers.specs.Tests.{both, which, clash}
 use Rattle.network.specs.Records.{Network, noSwitch}
 use Rattle.network.specs.Answers.{accepted}
 use Rattle.network.specs.Limits.{switchId}
-use Rattle.network.specs.Check.{checkRecords}
-use Rattle.network.specs.AnswerLaws.{judge-accepted, then-iff, no-refusal}
+use Rattle.network.specs.AnswerLaws.{then-iff, no-refusal}
 use Rattle.network.specs.InsideLaws.{check-inside}
 use Rattle.network.specs.Positions.{on-a-branch, index-own}
 use Rattle.network.specs.Inside.{Inside}
 use Rattle.states.specs.Live.{live}
 use Rattle.states.specs.Listed.{state-accepted}
 use Rattle.states.specs.Switches.{State, byte, branchOf, operable, GoodState}
-use Rattle.radiality.specs.Feeder.{feeder, radialIn}
-use Rattle.radiality.specs.FeederLaws.{feeder-sound, feeder-small, radial-in-tree}
-use Rattle.changes.specs.Change.{checkRadial, differing, lockedDifference, lockedDifferences, checkLocked, refuseLocked, checkPlan}
+use Rattle.feeders.specs.Feeder.{feeder, radialIn}
+use Rattle.feeders.specs.FeederLaws.{feeder-sound, feeder-small, radial-in-tree}
+use Rattle.feeders.specs.StateCallLaws.{radial-accepted}
+use Rattle.feeders.specs.Supply.{checkNetwork}
+use Rattle.feeders.specs.SupplyLaws.{network-records}
+use Rattle.changes.specs.Change.{differing, lockedDifference, lockedDifferences, checkLocked, refuseLocked, checkPlan}
 use Rattle.plan.specs.Plan.{switchOn}
 use Rattle.plan.specs.Claim.{switchAt}
 use Rattle.states.specs.LiveBytes.{on-found, one-switch}
@@ -42,10 +44,6 @@ module _ (N : Network) (inside : Inside N) where
   }
 
 module _ (N : Network) where
-  radial-accepted : (s : State) (place : ℕ) → (checkRadial N s place ≡ accepted tt) ↔ (radialIn N s ≡ true)
-  unfolding checkRadial
-  radial-accepted s place = judge-accepted 11 (radialIn N s) place
-
   module _ (present wanted : State) where
     abbrev locked : ℕ → Bool
     locked = lockedDifference N present wanted
@@ -84,7 +82,7 @@ module _ (N : Network) where
 
     -- the planner accepts exactly where its conditions hold, one after the other
     pub plan-accepted : (checkPlan N present wanted ≡ accepted tt)
-        ↔ ((checkRecords N ≡ accepted tt) × GoodState N present × GoodState N wanted × (radialIn N present ≡ true) × (radialIn N wanted ≡ true) × Free N present wanted)
+        ↔ ((checkNetwork N ≡ accepted tt) × GoodState N present × GoodState N wanted × (radialIn N present ≡ true) × (radialIn N wanted ≡ true) × Free N present wanted)
     unfolding checkPlan
     plan-accepted = (
       λ e.
@@ -93,7 +91,7 @@ module _ (N : Network) where
           let (w, e₃) = then-iff _ _ .0 e₂ in
           let (r, e₄) = then-iff _ _ .0 e₃ in
           let (v, e₅) = then-iff _ _ .0 e₄ in
-          (n, state-accepted N present 0 .0 p, state-accepted N wanted 1 .0 w, radial-accepted present 0 .0 r, radial-accepted wanted 1 .0 v, locked-accepted .0 e₅),
+          (n, state-accepted N present 0 .0 p, state-accepted N wanted 1 .0 w, radial-accepted N present 0 .0 r, radial-accepted N wanted 1 .0 v, locked-accepted .0 e₅),
       λ (n, p, w, r, v, f).
           then-iff _ _ .1 (
             n,
@@ -101,7 +99,7 @@ module _ (N : Network) where
               state-accepted N present 0 .1 p,
               then-iff _ _ .1 (
                 state-accepted N wanted 1 .1 w,
-                then-iff _ _ .1 (radial-accepted present 0 .1 r, then-iff _ _ .1 (radial-accepted wanted 1 .1 v, locked-accepted .1 f)),
+                then-iff _ _ .1 (radial-accepted N present 0 .1 r, then-iff _ _ .1 (radial-accepted N wanted 1 .1 v, locked-accepted .1 f)),
               ),
             ),
           ),
@@ -110,7 +108,8 @@ module _ (N : Network) where
 -- what the planner accepts a plan can be made for
 pub accepted-plannable : (N : Network) (present wanted : State) → checkPlan N present wanted ≡ accepted tt → Plannable N present wanted
 accepted-plannable N present wanted e =
-    let (n, p, w, r, v, f) = plan-accepted N present wanted .0 e in
+    let (a, p, w, r, v, f) = plan-accepted N present wanted .0 e in
+    let n = network-records N a in
     record {
       regular = inside-regular N (check-inside N .0 n);
       present-good = p;

@@ -16,7 +16,7 @@ use Rattle.network.specs.Limits.{switchId}
 use Rattle.states.specs.Live.{live, SameLive}
 use Rattle.states.specs.Switches.{State, byte, branchOf, operable, inService, GoodState}
 use Rattle.graph.specs.Graph.{Path, Connected, Loop, Tree}
-use Rattle.radiality.specs.Feeder.{feeder, LiveIn}
+use Rattle.feeders.specs.Feeder.{feeder, LiveIn}
 use Rattle.changes.specs.Change.{checkPlan}
 use Rattle.plan.specs.Plan.{Moves, plan}
 

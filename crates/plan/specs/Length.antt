@@ -10,7 +10,7 @@ use Rattle.network.specs.Answers.{accepted}
 use Rattle.states.specs.Live.{live}
 use Rattle.states.specs.Switches.{State}
 use Rattle.graph.specs.Pieces.{tree-few}
-use Rattle.radiality.specs.Feeder.{feeder}
+use Rattle.feeders.specs.Feeder.{feeder}
 use Rattle.printing.specs.Lengths.{pairLength}
 use Rattle.printing.specs.LineTexts.{length-pair, length-lines}
 use Rattle.changes.specs.Change.{onlyIn, checkPlan}

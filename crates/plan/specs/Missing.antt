@@ -18,7 +18,7 @@ use Rattle.network.specs.Records.{Network}
 use Rattle.states.specs.Live.{live}
 use Rattle.states.specs.Switches.{State, byte, branchOf}
 use Rattle.graph.specs.Graph.{Net}
-use Rattle.radiality.specs.Feeder.{feeder}
+use Rattle.feeders.specs.Feeder.{feeder}
 use Rattle.changes.specs.Change.{onlyIn}
 use Rattle.plan.specs.Plan.{Pair, exchanged}
 use Rattle.plan.specs.Claim.{OtherPair, otherCarriedOut, othersCarriedOut}

@@ -13,7 +13,7 @@ use Rattle.network.specs.Records.{Network}
 use Rattle.states.specs.Live.{live}
 use Rattle.states.specs.Switches.{State, byte, branchOf, operable, GoodState, inService}
 use Rattle.graph.specs.Graph.{Live, Plus, Path, Connected, Tree}
-use Rattle.radiality.specs.Feeder.{feeder, LiveIn}
+use Rattle.feeders.specs.Feeder.{feeder, LiveIn}
 use Rattle.graph.specs.Chains.{_⊆_, joined-more}
 use Rattle.graph.specs.Paths.{path-more}
 use Rattle.graph.specs.Forests.{path-unique}

@@ -12,7 +12,7 @@ use Rattle.network.specs.Limits.{on}
 use Rattle.states.specs.Live.{live}
 use Rattle.printing.specs.Printed.{pairText}
 use Rattle.printing.specs.Calls.{Call, called}
-use Rattle.radiality.specs.Feeder.{endsPath}
+use Rattle.feeders.specs.Feeder.{endsPath}
 use Rattle.changes.specs.Change.{onlyIn, checkPlan}
 use Rattle.openings.specs.Opening.{firstUnwanted}
 use Rattle.plan.specs.declared.planner.PlanAnswer.{PlanAnswer}

@@ -8,7 +8,7 @@ use Rattle.network.specs.Records.{Network}
 use Rattle.states.specs.Live.{live}
 use Rattle.states.specs.Switches.{State, byte, branchOf, operable, GoodState}
 use Rattle.graph.specs.Graph.{Sound, Tree}
-use Rattle.radiality.specs.Feeder.{feeder, LiveIn}
+use Rattle.feeders.specs.Feeder.{feeder, LiveIn}
 use Rattle.plan.specs.Plan.{switchOn}
 use Rattle.plan.specs.Claim.{switchAt}
 use Rattle.states.specs.LiveBytes.{On}

@@ -16,7 +16,7 @@ use Rattle.network.specs.Records.{Network}
 use Rattle.states.specs.Live.{live}
 use Rattle.states.specs.Switches.{State, branchOf}
 use Rattle.graph.specs.Graph.{Net, Live, Path, Connected, Tree}
-use Rattle.radiality.specs.Feeder.{feeder, endsPath}
+use Rattle.feeders.specs.Feeder.{feeder, endsPath}
 use Rattle.graph.specs.Chains.{chain-within}
 use Rattle.graph.specs.Trees.{tree-forest, live-part-is-whole}
 use Rattle.graph.specs.WalkLaws.{bfs-path}

@@ -12,7 +12,7 @@ use Rattle.numbers.specs.Tests.{clash, not-so, same-test}
 use Rattle.network.specs.Records.{Network}
 use Rattle.states.specs.Live.{live, SameLive}
 use Rattle.states.specs.Switches.{State, byte, branchOf, inService}
-use Rattle.radiality.specs.Feeder.{feeder}
+use Rattle.feeders.specs.Feeder.{feeder}
 use Rattle.plan.specs.Plan.{Pair, pairs, Moves, movesOf, plan}
 use Rattle.plan.specs.Claim.{turned, turnedIf, Step, forward, back, found, Point, carriedOut, taken, run, after, SwitchingPlan, Demand3}
 use Rattle.states.specs.LiveBytes.{live-so, live-listed}

@@ -11,9 +11,9 @@ use Rattle.network.specs.Check.{checkRecords}
 use Rattle.network.specs.InsideLaws.{check-inside}
 use Rattle.states.specs.Switches.{State}
 use Rattle.graph.specs.Rows.{flag}
-use Rattle.radiality.specs.Feeder.{feeder, endsPath}
-use Rattle.radiality.specs.FeederRows.{feederGraph, liveFlags}
-use Rattle.radiality.specs.FeederRowLaws.{flags-live, feeder-row-ends-path}
+use Rattle.feeders.specs.Feeder.{feeder, endsPath}
+use Rattle.feeders.specs.FeederRows.{feederGraph, liveFlags}
+use Rattle.feeders.specs.FeederRowLaws.{flags-live, feeder-row-ends-path}
 use Rattle.openings.specs.Opening.{firstUnwanted, rowOpening}
 use Rattle.plan.specs.Plan.{opening}
 

@@ -12,7 +12,7 @@ use Rattle.numbers.specs.Tests.{clash}
 use Rattle.network.specs.Records.{Network}
 use Rattle.states.specs.Switches.{State, byte, branchOf}
 use Rattle.graph.specs.Graph.{Live, Tree}
-use Rattle.radiality.specs.Feeder.{feeder}
+use Rattle.feeders.specs.Feeder.{feeder}
 use Rattle.plan.specs.Plan.{Pair, exchanged, Moves, movesOf}
 use Rattle.plan.specs.Claim.{carriedOut, turned, turnedIf, Step, forward, back, found, Point, taken, run}
 use Rattle.plan.specs.Plannable.{Regular}

@@ -1,5 +1,1 @@
-pub mod Feeder
 pub mod Answers
-pub mod FeederRows
-pub mod FeederLaws
-pub mod FeederRowLaws

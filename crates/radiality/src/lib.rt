@@ -1,3 +1,2 @@
-// A feeder as a graph of its buses, and its radiality.
-pub mod feeder;
+// The radiality of a state.
 pub mod radiality;

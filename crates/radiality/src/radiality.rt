@@ -1,13 +1,13 @@
 // Translated and changed from src/network/reconfiguration.rs of oxigrid. Copyright 2024-2026 COOLJAPAN OU (Team Kitasan), Apache License 2.0.
 // Document 01's radiality of a state: the reference for every search and plan.
 ghost use mathlib.Core.Path.{_≡_};
-ghost use Rattle.states.specs.Live.{onState};
 ghost use Rattle.network.specs.Records.{recordsOf};
 ghost use Rattle.radiality.specs.Answers.{radialityOf};
-ghost use Rattle.radiality.specs.Feeder.{radialIn};
-use crate::feeder::graph_of;
+ghost use Rattle.feeders.specs.Feeder.{radialIn};
+ghost use Rattle.feeders.specs.StateCalls.{onState};
 use bfs::radial::is_radial;
-use checks::check::check;
+use feeders::feeder::graph_of;
+use feeders::supply::check_network;
 use network::error::Verdict;
 use network::topology::PowerNetwork;
 use states::configuration::NetworkConfiguration;
@@ -24,7 +24,7 @@ pub enum Radiality {
 pub fn verify_radiality(network: PowerNetwork, state: &[u8]) -> Radiality
     ensures { λ r. ⌜ radialityOf r ≡ onState (recordsOf network) (now (state .entry)) (radialIn (recordsOf network) (now (state .entry))) ⌝ }
 {
-    if let Verdict::Refused { number, place } = check(network) {
+    if let Verdict::Refused { number, place } = check_network(network) {
         return Radiality::Refused { number, place };
     }
     if let Verdict::Refused { number, place } = check_state(network, state, 0) {

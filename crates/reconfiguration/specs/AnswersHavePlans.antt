@@ -10,20 +10,21 @@ use Rattle.network.specs.Records.{Network}
 use Rattle.network.specs.declared.switch.ReconfigAlgorithm.{ReconfigAlgorithm}
 use Rattle.network.specs.declared.switch.ReconfigAlgorithm.the-variants.{BranchExchange, TabuSearch, Exhaustive}
 use Rattle.network.specs.Answers.{accepted, refused}
-use Rattle.network.specs.Check.{checkRecords}
 use Rattle.network.specs.Inside.{Inside}
 use Rattle.network.specs.InsideLaws.{check-inside}
 use Rattle.states.specs.Live.{baseState}
 use Rattle.states.specs.Switches.{State, branchOf, GoodState}
 use Rattle.printing.specs.CallLaws.{call-passed}
-use Rattle.radiality.specs.Feeder.{radialIn}
+use Rattle.feeders.specs.Feeder.{radialIn}
+use Rattle.feeders.specs.Supply.{checkNetwork}
+use Rattle.feeders.specs.SupplyLaws.{network-records}
 use Rattle.changes.specs.Change.{checkPlan}
 use Rattle.plan.specs.Plan.{plan, planText, planned}
 use Rattle.plan.specs.Claim.{SwitchingPlan}
 use Rattle.plan.specs.Plannable.{Free}
 use Rattle.plan.specs.Accepted.{plan-accepted}
 use Rattle.plan.specs.Proof.{demand3}
-use Rattle.searches.specs.FromBase.{base-good}
+use Rattle.states.specs.BaseLaws.{base-good}
 use Rattle.searches.specs.LiveBranches.{radial-part-same}
 use Rattle.searches.specs.Results.{SoundBest}
 use Rattle.exchange.specs.Exchange.{exchangeBest}
@@ -53,14 +54,14 @@ module _ (N : Network) where
     search-free Exhaustive inside = λ i l n d. let h = exhaustive-closes N in absurd (d (radial-part-same N inside (baseState N) _ r (h .radial r) (h .more) (branchOf N i)))
 
 -- planned for a search's answer from a radial base, no refusal comes before 13
-pub search-plan-accepted : (N : Network) (a : ReconfigAlgorithm) → checkRecords N ≡ accepted tt → radialIn N (baseState N) ≡ true
+pub search-plan-accepted : (N : Network) (a : ReconfigAlgorithm) → checkNetwork N ≡ accepted tt → radialIn N (baseState N) ≡ true
     → checkPlan N (baseState N) (bestBy a N .state) ≡ accepted tt
 search-plan-accepted N a ok r =
     let sound = search-sound N a in
-    plan-accepted N (baseState N) (bestBy a N .state) .1 (ok, base-good N, sound .good, r, sound .radial r, search-free N r a (check-inside N .0 ok))
+    plan-accepted N (baseState N) (bestBy a N .state) .1 (ok, base-good N, sound .good, r, sound .radial r, search-free N r a (check-inside N .0 (network-records N ok)))
 
 -- so a search's answer from a radial base has a plan, and all of demand 3 holds of it
-pub search-has-plan : (N : Network) (a : ReconfigAlgorithm) → checkRecords N ≡ accepted tt → radialIn N (baseState N) ≡ true
+pub search-has-plan : (N : Network) (a : ReconfigAlgorithm) → checkNetwork N ≡ accepted tt → radialIn N (baseState N) ≡ true
     → SwitchingPlan N (baseState N) (bestBy a N .state)
 search-has-plan N a ok r = demand3 N (baseState N) (bestBy a N .state) (search-plan-accepted N a ok r)
 
@@ -71,7 +72,7 @@ Only13 N wanted =
     planned N (baseState N) wanted out
     ≡ cond (ltb (length out) (length (planText moves))) (record { answer = refused 13 0; out = out }) (record { answer = accepted (length moves); out = planText moves ++ drop (length (planText moves)) out })
 
-pub only-13 : (N : Network) (a : ReconfigAlgorithm) → checkRecords N ≡ accepted tt → radialIn N (baseState N) ≡ true → Only13 N (bestBy a N .state)
+pub only-13 : (N : Network) (a : ReconfigAlgorithm) → checkNetwork N ≡ accepted tt → radialIn N (baseState N) ≡ true → Only13 N (bestBy a N .state)
 unfolding planned
 only-13 N a ok r out = let moves = plan N (baseState N) (bestBy a N .state) in call-passed (length moves) (planText moves) out (search-plan-accepted N a ok r)
 
@@ -86,7 +87,7 @@ module _ (N : Network) where
   best-good = best-sound .good
 
   -- the three laws above, of it
-  module _ (ok : checkRecords N ≡ accepted tt) (r : radialIn N (baseState N) ≡ true) where
+  module _ (ok : checkNetwork N ≡ accepted tt) (r : radialIn N (baseState N) ≡ true) where
     pub solve-plan-accepted : checkPlan N (baseState N) (best N .state) ≡ accepted tt
     unfolding best
     solve-plan-accepted = search-plan-accepted N (N .algorithm) ok r

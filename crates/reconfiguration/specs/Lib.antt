@@ -1,3 +1,4 @@
 pub mod Solve
 pub mod AnswersHavePlans
 pub mod SolveLaws
+pub mod AnswersHaveLosses

@@ -9,22 +9,23 @@ use lib.Arith.{mod-mul, digits-div, digits-mod}
 use lib.Dec.{lit<}
 use lib.ListN.{length, length-append}
 use Rattle.network.specs.Answers.{accepted}
-use Rattle.network.specs.Check.{headOf, checkRecords}
+use Rattle.network.specs.Check.{headOf}
 use Rattle.network.specs.Inside.{Each}
 use Rattle.network.specs.EachLaws.{each-append}
 use Rattle.network.specs.Records.{Network}
-use Rattle.lines.specs.Hex.{digit, digits, Fields, writeFields, Fit, total}
+use Rattle.lines.specs.Hex.{digits, Fields, writeFields, Fit, total}
 use Rattle.lines.specs.HexLaws.{pow-pos, length-digits, length-fields}
 use Rattle.lines.specs.Frames.{Frame, layout, frameText}
-use Rattle.record_lines.specs.Kinds.{head, bus, branch, switch}
-use Rattle.frames.specs.Acceptable.{headFields, busFields, branchFields, switchFields, textOf, Writable}
+use Rattle.record_lines.specs.Kinds.{head, bus, branch, switch, supply}
+use Rattle.feeders.specs.Supply.{supplies, checkNetwork}
+use Rattle.frames.specs.Acceptable.{headFields, busFields, branchFields, switchFields, supplyFields, textOf, Writable}
 use Rattle.frames.specs.Conditions.{judgementOf}
 use Rattle.frames.specs.FirstFault.{judgement-then}
 use Rattle.frames.specs.Proof.{claim, passed}
-use Rattle.frames.specs.RecordLaws.{Kind, headKind, busKind, branchKind, switchKind}
+use Rattle.frames.specs.RecordLaws.{Kind, headKind, busKind, branchKind, switchKind, supplyKind}
 use Rattle.frames.specs.Text.{readText}
 use Rattle.printing.specs.LineTexts.{length-lines}
-use Rattle.record_bytes.specs.RecordBytes.{bytesOf, frameBytes, lineOfBytes, textOfBytes, writtenRecords, numberBytes, fieldBytes, recordBytes, bytesOfRecords}
+use Rattle.record_bytes.specs.RecordBytes.{bytesOf, frameBytes, textOfBytes, writtenRecords, numberBytes, fieldBytes, recordBytes, bytesOfRecords}
 use Rattle.record_bytes.specs.RecordSteps.{textFrom, text-from, frame-from}
 use Rattle.texts.specs.Texts.{writtenText}
 
@@ -95,6 +96,10 @@ switch-known : Known switch
 unfolding frameBytes
 switch-known = record { even = (refl, (refl, (refl, tt))); known = λ rest h. omega arith }
 
+supply-known : Known supply
+unfolding frameBytes
+supply-known = record { even = (refl, tt); known = λ rest h. omega arith }
+
 module _ (F : Frame) (k : Known F) where
   record-from : (f : Fields (F .widths)) (rest : List ℕ) → textFrom 0 (recordBytes F f ++ rest) ≡ frameText F f ++ textFrom 0 rest
   unfolding frameText fieldBytes numberBytes writeFields flatMap
@@ -120,19 +125,22 @@ module _ (F : Frame) (k : Known F) where
 pub records-of : (N : Network) → textOfBytes (bytesOfRecords N) ≡ textOf N
 unfolding bytesOfRecords textOf textFrom
 records-of N =
+    let supply-bytes = flatMap (λ id. recordBytes supply (supplyFields id)) (supplies (N .supply)) in
     let switches = flatMap (λ s. recordBytes switch (switchFields s)) (N .switches) in
     let branches = flatMap (λ b. recordBytes branch (branchFields b)) (N .branches) in
     let buses = flatMap (λ b. recordBytes bus (busFields b)) (N .buses) in
-    let last : textFrom 0 switches ≡ flatMap (λ s. frameText switch (switchFields s)) (N .switches) =
-    ap (textFrom 0) (sym (append-nil switches)) ∙ records-from switch switch-known switchFields (N .switches) [] ∙ append-nil _ in
+    let last : textFrom 0 supply-bytes ≡ flatMap (λ id. frameText supply (supplyFields id)) (supplies (N .supply)) =
+    ap (textFrom 0) (sym (append-nil supply-bytes)) ∙ records-from supply supply-known supplyFields (supplies (N .supply)) [] ∙ append-nil _ in
+    let on : textFrom 0 (switches ++ supply-bytes) ≡ flatMap (λ s. frameText switch (switchFields s)) (N .switches) ++ flatMap (λ id. frameText supply (supplyFields id)) (supplies (N .supply)) =
+    records-from switch switch-known switchFields (N .switches) supply-bytes ∙ rw last in
     sym (text-from (bytesOfRecords N))
-    ∙ record-from head head-known (headFields (headOf N)) (buses ++ (branches ++ switches))
-    ∙ rw (records-from bus bus-known busFields (N .buses) (branches ++ switches), records-from branch branch-known branchFields (N .branches) switches, last)
+    ∙ record-from head head-known (headFields (headOf N)) (buses ++ (branches ++ (switches ++ supply-bytes)))
+    ∙ rw (records-from bus bus-known busFields (N .buses) (branches ++ (switches ++ supply-bytes)), records-from branch branch-known branchFields (N .branches) (switches ++ supply-bytes), on)
 
 -- so a network's records in bytes are answered as the network is, with the same refusals
 pub records-alike : (N : Network) → Writable N → (out : List ℕ) → writtenRecords (bytesOfRecords N) out ≡ writtenText N out
 unfolding writtenRecords writtenText
-records-alike N w out = rw (records-of N, claim .alike N w, judgement-then (checkRecords N) N)
+records-alike N w out = rw (records-of N, claim .alike N w, judgement-then (checkNetwork N) N)
 
 -- ---- and they are bytes, where each field has room in its digits
 abbrev pub Byte : ℕ → Type 0
@@ -167,4 +175,5 @@ records-bytes N w =
     each-append Byte (recordBytes head (headFields (headOf N))) _ (record-bytes headKind head-known (headOf N) (w .head-room))
     (each-append Byte (flatMap (λ b. recordBytes bus (busFields b)) (N .buses)) _ (all-bytes busKind bus-known (N .buses) (w .bus-room))
     (each-append Byte (flatMap (λ b. recordBytes branch (branchFields b)) (N .branches)) _ (all-bytes branchKind branch-known (N .branches) (w .branch-room))
-    (all-bytes switchKind switch-known (N .switches) (w .switch-room))))
+    (each-append Byte (flatMap (λ s. recordBytes switch (switchFields s)) (N .switches)) _ (all-bytes switchKind switch-known (N .switches) (w .switch-room))
+    (all-bytes supplyKind supply-known (supplies (N .supply)) (w .supply-room)))))

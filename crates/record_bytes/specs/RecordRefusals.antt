@@ -1,11 +1,11 @@
--- Records in bytes are refused by 2 to 9, or by 13, and never by 1: each line of their text is ended, and has two digits for each byte and nothing else.
+-- Records in bytes are refused by 2 to 9, 14 or 15, or by 13, and never by 1: each line of their text is ended, and has two digits for each byte and nothing else.
 use mathlib.Core.Path.{_≡_, refl, sym, ap, subst, _∙_}
 use mathlib.Core.Logic.{_⊎_, inl, inr}
 use mathlib.Core.Bool.{Bool, true, false}
 use mathlib.Core.List.{List, [], _∷_, _++_, flatMap, append-assoc, append-nil}
 use Prim.Native.Nat.{ℕ, zero, suc, _*_, _%_, _≤_, _<_}
 use native.Mathlib.Omega.{arith}
-use lib.Dec.{ltb, lit≤}
+use lib.Dec.{lit≤}
 use lib.ListN.{length, take, drop}
 use borrow.Author.Tests.{ne-eqb}
 use Rattle.numbers.specs.Every.{every, every-append}
@@ -16,17 +16,19 @@ use Rattle.network.specs.Inside.{Each}
 use Rattle.network.specs.Limits.{Head}
 use Rattle.network.specs.Records.{Network}
 use Rattle.network.specs.declared.bus.Bus.{Bus}
+use Rattle.network.specs.declared.branch.Branch.{Branch}
 use Rattle.network.specs.declared.switch.Switch.{Switch}
 use Rattle.network.specs.Faults.{headFaults, busFaults, branchFaults, switchFaults}
+use Rattle.feeders.specs.Supply.{supplyFaults}
 use Rattle.lines.specs.Hex.{isDigit, digits, Fields, writeFields}
 use Rattle.lines.specs.HexLaws.{length-digits, every-fields}
 use Rattle.lines.specs.Lines.{Line, cut, isMiswritten}
 use Rattle.lines.specs.CutLaws.{cut-ended, digit-lines}
 use Rattle.lines.specs.Frames.{Frame}
-use Rattle.record_lines.specs.Kinds.{head, bus, branch, switch, fieldsOf, headFrom, busFrom, branchFrom, switchFrom, headLineFaults, busLineFaults, branchLineFaults, switchLineFaults}
-use Rattle.frames.specs.Conditions.{LineConditions, kindConditions, surplusConditions, busesOf, bodyConditions, conditions, judgeLines, judgementOf}
+use Rattle.record_lines.specs.Kinds.{head, bus, branch, switch, supply, fieldsOf, headFrom, busFrom, branchFrom, switchFrom, supplyFrom, headLineFaults, busLineFaults, branchLineFaults, switchLineFaults}
+use Rattle.frames.specs.Conditions.{LineConditions, kindConditions, surplusConditions, busesOf, branchesOf, switchesOf, bodyConditions, conditions, judgeLines, judgementOf}
 use Rattle.frames.specs.Proof.{claim}
-use Rattle.frames.specs.Text.{readText}
+use Rattle.frames.specs.Text.{atMostOne, supplyLineFaults, readText}
 use Rattle.frames.specs.Lengths.{longestText}
 use Rattle.printing.specs.CallLaws.{call-refusals}
 use Rattle.printing.specs.LineTexts.{length-lines}
@@ -81,9 +83,9 @@ lines-well (suc more) (kind ∷ bytes) h =
     (line-well frame small, lines-well more (drop n (kind ∷ bytes)) (each-drop Byte n (kind ∷ bytes) h))
 
 -- ---- the refusals of such lines
--- rows 2 to 9 of document 01's table
+-- rows 2 to 9 of document 01's table, and document 02's two
 abbrev Row : ℕ → Type 0
-Row n = (2 ≤ n) × (n ≤ 9)
+Row n = ((2 ≤ n) × (n ≤ 9)) ⊎ ((14 ≤ n) × (n ≤ 15))
 
 abbrev ByRow : Judgement → Type 0
 ByRow (accepted u) = Unit {0}
@@ -108,11 +110,11 @@ then-rows (refused n p) w h k = h
 lines-rows : (p : ℕ) (cs : List LineConditions) → Each (λ c. Rows (c .others)) cs → ByRow (judgeLines p cs)
 unfolding judgeLines
 lines-rows p [] h = tt
-lines-rows p (c ∷ cs) h = then-rows _ _ (judge-rows ((2 if c .over) ∷ c .others) p (λ e. (lit≤ tt, lit≤ tt), h .0)) (lines-rows (suc p) cs (h .1))
+lines-rows p (c ∷ cs) h = then-rows _ _ (judge-rows ((2 if c .over) ∷ c .others) p (λ e. inl (lit≤ tt, lit≤ tt), h .0)) (lines-rows (suc p) cs (h .1))
 
 -- a line that is not miswritten, with the conditions of its fields
 others-rows : (l : Line) (wrong : Bool) (fields : List Fault) → Well l → Rows fields → Rows ((1 if isMiswritten l) ∷ (2 if wrong) ∷ fields)
-others-rows l wrong fields w h = (λ e. clash e w, (λ e. (lit≤ tt, lit≤ tt), h))
+others-rows l wrong fields w h = (λ e. clash e w, (λ e. inl (lit≤ tt, lit≤ tt), h))
 
 module _ {A : Type 0} (F : Frame) (make : Fields (F .widths) → A) (faults : List A → Fields (F .widths) → List Fault)
     (rows : (before : List A) (f : Fields (F .widths)) → Rows (faults before f)) where
@@ -120,7 +122,7 @@ module _ {A : Type 0} (F : Frame) (make : Fields (F .widths) → A) (faults : Li
       → Each (λ c. Rows (c .others)) (kindConditions F make faults before n ls ++ rest)
   unfolding kindConditions
   kind-rows before zero ls rest w h = h
-  kind-rows before (suc n) [] rest w h = ((λ e. (lit≤ tt, lit≤ tt), tt), kind-rows before n [] rest tt h)
+  kind-rows before (suc n) [] rest w h = ((λ e. inl (lit≤ tt, lit≤ tt), tt), kind-rows before n [] rest tt h)
   kind-rows before (suc n) (l ∷ ls) rest w h = (
     others-rows l _ (faults before (fieldsOf F l)) (w .0) (rows before (fieldsOf F l)),
     kind-rows (before ++ (make (fieldsOf F l) ∷ [])) n ls rest (w .1) h,
@@ -128,19 +130,23 @@ module _ {A : Type 0} (F : Frame) (make : Fields (F .widths) → A) (faults : Li
 
 head-rows : (f : Fields (head .widths)) → Rows (headLineFaults f)
 unfolding headFaults
-head-rows f = (λ e. (lit≤ tt, lit≤ tt), (λ e. (lit≤ tt, lit≤ tt), (λ e. (lit≤ tt, lit≤ tt), (λ e. (lit≤ tt, lit≤ tt), tt))))
+head-rows f = (λ e. inl (lit≤ tt, lit≤ tt), (λ e. inl (lit≤ tt, lit≤ tt), (λ e. inl (lit≤ tt, lit≤ tt), (λ e. inl (lit≤ tt, lit≤ tt), tt))))
 
 bus-rows : (before : List Bus) (f : Fields (bus .widths)) → Rows (busLineFaults before f)
 unfolding busFaults
-bus-rows before f = (λ e. (lit≤ tt, lit≤ tt), (λ e. (lit≤ tt, lit≤ tt), tt))
+bus-rows before f = (λ e. inl (lit≤ tt, lit≤ tt), (λ e. inl (lit≤ tt, lit≤ tt), tt))
 
 branch-rows : (buses : List Bus) (f : Fields (branch .widths)) → Rows (branchLineFaults buses f)
 unfolding branchFaults
-branch-rows buses f = (λ e. (lit≤ tt, lit≤ tt), (λ e. (lit≤ tt, lit≤ tt), (λ e. (lit≤ tt, lit≤ tt), tt)))
+branch-rows buses f = (λ e. inl (lit≤ tt, lit≤ tt), (λ e. inl (lit≤ tt, lit≤ tt), (λ e. inl (lit≤ tt, lit≤ tt), tt)))
 
 switch-rows : (h : Head) (before : List Switch) (f : Fields (switch .widths)) → Rows (switchLineFaults h before f)
 unfolding switchFaults
-switch-rows h before f = (λ e. (lit≤ tt, lit≤ tt), (λ e. (lit≤ tt, lit≤ tt), (λ e. (lit≤ tt, lit≤ tt), (λ e. (lit≤ tt, lit≤ tt), (λ e. (lit≤ tt, lit≤ tt), tt)))))
+switch-rows h before f = (λ e. inl (lit≤ tt, lit≤ tt), (λ e. inl (lit≤ tt, lit≤ tt), (λ e. inl (lit≤ tt, lit≤ tt), (λ e. inl (lit≤ tt, lit≤ tt), (λ e. inl (lit≤ tt, lit≤ tt), tt)))))
+
+supply-rows : (buses : List Bus) (branches : List Branch) (switches : List Switch) (f : Fields (supply .widths)) → Rows (supplyLineFaults buses branches switches f)
+unfolding supplyFaults
+supply-rows buses branches switches f = (λ e. inr (lit≤ tt, lit≤ tt), (λ e. inr (lit≤ tt, lit≤ tt), tt))
 
 surplus-rows : (ls : List Line) → Each Well ls → Each (λ c. Rows (c .others)) (surplusConditions ls)
 unfolding surplusConditions
@@ -152,17 +158,22 @@ unfolding bodyConditions
 body-rows h ls w =
     let after-buses = drop (h .buses) ls in
     let after-branches = drop (h .branches) after-buses in
+    let after-switches = drop (h .switches) after-branches in
     let buses = busesOf (h .buses) ls in
+    let branches = branchesOf (h .branches) after-buses in
+    let switches = switchesOf (h .switches) after-branches in
     let b = each-drop Well (h .buses) ls w in
     let s = each-drop Well (h .branches) after-buses b in
+    let z = each-drop Well (h .switches) after-branches s in
     kind-rows bus busFrom busLineFaults bus-rows [] (h .buses) ls _ w
     (kind-rows branch branchFrom (λ before. branchLineFaults buses) (λ before. branch-rows buses) [] (h .branches) after-buses _ b
     (kind-rows switch switchFrom (switchLineFaults h) (switch-rows h) [] (h .switches) after-branches _ s
-    (surplus-rows (drop (h .switches) after-branches) (each-drop Well (h .switches) after-branches s))))
+    (kind-rows supply supplyFrom (λ before. supplyLineFaults buses branches switches) (λ before. supply-rows buses branches switches) [] (atMostOne after-switches) after-switches _ z
+    (surplus-rows (drop (atMostOne after-switches) after-switches) (each-drop Well (atMostOne after-switches) after-switches z)))))
 
 all-rows : (ls : List Line) → Each Well ls → Each (λ c. Rows (c .others)) (conditions ls)
 unfolding conditions
-all-rows [] w = ((λ e. (lit≤ tt, lit≤ tt), tt), tt)
+all-rows [] w = ((λ e. inl (lit≤ tt, lit≤ tt), tt), tt)
 all-rows (l ∷ ls) w = (others-rows l _ (headLineFaults (fieldsOf head l)) (w .0) (head-rows (fieldsOf head l)), body-rows (headFrom (fieldsOf head l)) ls (w .1))
 
 -- ---- the answer
@@ -174,17 +185,17 @@ text-rows bytes h =
 
 -- a row of the table, or 13 where the slice is shorter than the text
 pub records-refusals : (bytes out : List ℕ) → Each Byte bytes → (number place : ℕ) → writtenRecords bytes out .answer ≡ refused number place
-    → ((2 ≤ number) × (number ≤ 9)) ⊎ ((number ≡ 13) × (place ≡ 0) × (length out < length (textOfBytes bytes)))
+    → (((2 ≤ number) × (number ≤ 9)) ⊎ ((14 ≤ number) × (number ≤ 15))) ⊎ ((number ≡ 13) × (place ≡ 0) × (length out < length (textOfBytes bytes)))
 unfolding writtenRecords
 records-refusals bytes out h number place e = go (call-refusals (judgementOf (readText (textOfBytes bytes))) (length (textOfBytes bytes)) (textOfBytes bytes) out e)
   where
     go : (judgementOf (readText (textOfBytes bytes)) ≡ refused number place)
         ⊎ ((judgementOf (readText (textOfBytes bytes)) ≡ accepted tt) × (number ≡ 13) × (place ≡ 0) × (length out < length (textOfBytes bytes)))
-        → ((2 ≤ number) × (number ≤ 9)) ⊎ ((number ≡ 13) × (place ≡ 0) × (length out < length (textOfBytes bytes)))
+        → (((2 ≤ number) × (number ≤ 9)) ⊎ ((14 ≤ number) × (number ≤ 15))) ⊎ ((number ≡ 13) × (place ≡ 0) × (length out < length (textOfBytes bytes)))
     go (inl tests) = inl (subst ByRow tests (text-rows bytes h))
     go (inr (passed, n, p, short)) = inr (n, p, short)
 
--- 27,429 bytes are room for every text: then only the text's own refusal can come
+-- 27,436 bytes are room for every text: then only the text's own refusal can come
 pub records-room : (bytes out : List ℕ) → longestText ≤ length out → (number place : ℕ) → writtenRecords bytes out .answer ≡ refused number place → readText (textOfBytes bytes) ≡ refused number place
 unfolding writtenRecords judgementOf
 records-room bytes out room number place e =

@@ -11,7 +11,7 @@ use lib.Seq.{drop-cons, take-append-seam, drop-append-seam}
 use borrow.Author.Tests.{ne-eqb}
 use Rattle.lines.specs.Hex.{digits}
 use Rattle.lines.specs.HexLaws.{length-digits}
-use Rattle.record_lines.specs.Kinds.{head, bus, branch, switch}
+use Rattle.record_lines.specs.Kinds.{head, bus, branch, switch, supply}
 use Rattle.record_bytes.specs.RecordBytes.{bytesOf, frameBytes, lineOfBytes, linesOfBytes, textOfBytes}
 
 -- how many bytes of a line there are from this byte on: so many are left of a line that was begun, or a frame begins here
@@ -33,16 +33,17 @@ textFrom left (byte ∷ bytes) =
 -- ---- a frame has a byte, and no more than there are
 pub frame-some : (kind rest : ℕ) → 0 < rest → (0 < frameBytes kind rest) × (frameBytes kind rest ≤ rest)
 unfolding frameBytes
-frame-some kind rest h = go (eqb kind (head .kind)) (eqb kind (bus .kind)) (eqb kind (branch .kind)) (eqb kind (switch .kind))
+frame-some kind rest h = go (eqb kind (head .kind)) (eqb kind (bus .kind)) (eqb kind (branch .kind)) (eqb kind (switch .kind)) (eqb kind (supply .kind))
   where
-    go : (a b c d : Bool)
-        → let n = cond a (min (bytesOf head) rest) (cond b (min (bytesOf bus) rest) (cond c (min (bytesOf branch) rest) (cond d (min (bytesOf switch) rest) rest))) in
+    go : (a b c d e : Bool)
+        → let n = cond a (min (bytesOf head) rest) (cond b (min (bytesOf bus) rest) (cond c (min (bytesOf branch) rest) (cond d (min (bytesOf switch) rest) (cond e (min (bytesOf supply) rest) rest)))) in
         (0 < n) × (n ≤ rest)
-    go true b c d = (omega arith, omega arith)
-    go false true c d = (omega arith, omega arith)
-    go false false true d = (omega arith, omega arith)
-    go false false false true = (omega arith, omega arith)
-    go false false false false = (h, omega arith)
+    go true b c d e = (omega arith, omega arith)
+    go false true c d e = (omega arith, omega arith)
+    go false false true d e = (omega arith, omega arith)
+    go false false false true e = (omega arith, omega arith)
+    go false false false false true = (omega arith, omega arith)
+    go false false false false false = (h, omega arith)
 
 pub line-begins : (left byte rest : ℕ) → left ≡ 0 → frameBytes byte rest ≡ lineBytes left byte rest
 unfolding lineBytes

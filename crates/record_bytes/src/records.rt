@@ -10,23 +10,17 @@ ghost use Rattle.record_bytes.specs.RecordSteps.{lineBytes, byteText};
 ghost use Rattle.record_bytes.specs.RecordCalls.{Decides};
 use frames::reader::read_text;
 use network::error::Verdict;
-use network::topology::PowerNetwork;
 use numbers::at_most;
 use record_lines::branch;
 use record_lines::bus;
 use record_lines::head;
+use record_lines::supply;
 use record_lines::switch;
 use slices::writer::write_bytes;
 use slices::writer::write_digits;
 use slices::writer::write_line;
+use texts::writer::LONGEST_TEXT;
 use texts::writer::WriteAnswer;
-
-// The longest text that is accepted.
-const LONGEST_TEXT: usize = head::SIZE
-    + 1
-    + PowerNetwork::MAX_BUSES * (bus::SIZE + 1)
-    + PowerNetwork::MAX_BRANCHES * (branch::SIZE + 1)
-    + PowerNetwork::MAX_SWITCHES * (switch::SIZE + 1);
 
 // "a line over 36 characters is 2 whatever they are": so many of its characters show it.
 const DECIDING_LINE: usize = 37;
@@ -38,7 +32,7 @@ const DECIDING_LENGTH: usize = LONGEST_TEXT + DECIDING_LINE;
 const ROOM: usize = DECIDING_LENGTH + 2;
 
 // How many bytes the frame has that begins with this kind byte, where so many are left: as many as its kind has, and all that are left where the kind is none
-// of the four or fewer are left.
+// of the five or fewer are left.
 fn frame_bytes(kind: u8, left: usize) -> usize
     ensures { λ r. ⌜ r ≡ frameBytes kind left ⌝ }
 {
@@ -53,6 +47,9 @@ fn frame_bytes(kind: u8, left: usize) -> usize
     }
     if kind == switch::KIND {
         return at_most(switch::SIZE / 2, left);
+    }
+    if kind == supply::KIND {
+        return at_most(supply::SIZE / 2, left);
     }
     left
 }

@@ -1,4 +1,4 @@
--- Document 01's four kinds of frame: the record that each makes, its refusals 3 to 9, and one line of a kind.
+-- Document 01's four kinds of frame and document 02's fifth: the record that each makes, refusals 3 to 9 of the four, and one line of a kind.
 use mathlib.Core.Bool.{Bool}
 use mathlib.Core.List.{List, [], _∷_, _++_}
 use Prim.Native.Nat.{ℕ, zero, suc, _%_, _/_}
@@ -17,7 +17,7 @@ use Rattle.lines.specs.Frames.{Frame, layout}
 use Rattle.lines.specs.FirstLine.{wanted}
 use Rattle.lines.specs.Lines.{Line, lineFaults}
 
--- ---- the four kinds of frame
+-- ---- the kinds of frame
 -- buses, branches, switches (u16), base_mva (f64), method byte, max_iterations (u16)
 abbrev pub head : Frame
 head = record { kind = 1; widths = 4 ∷ 4 ∷ 4 ∷ 16 ∷ 2 ∷ 4 ∷ [] }
@@ -33,6 +33,10 @@ branch = record { kind = 3; widths = 4 ∷ 4 ∷ 16 ∷ 2 ∷ [] }
 -- id (u16), branch position from 0 (u16), flags byte
 abbrev pub switch : Frame
 switch = record { kind = 4; widths = 4 ∷ 4 ∷ 2 ∷ [] }
+
+-- document 02: "kind 05 and a bus id (u16)"
+abbrev pub supply : Frame
+supply = record { kind = 5; widths = 4 ∷ [] }
 
 -- has a line this kind's length and kind byte?
 unfoldable pub isFrame : Frame → Line → Bool
@@ -71,7 +75,11 @@ abbrev pub switchFrom : Fields (switch .widths) → N-switch.Switch
 switchFrom f =
     record { id = f .0; «branch_idx» = f .1 .0; «normally_open» = eqb (f .1 .1 .0 % 2) 1; «can_operate» = eqb (f .1 .1 .0 / 2 % 2) 1 }
 
--- ---- row 3, "method, status or flags byte has no meaning"; a bus line has no such byte
+-- the id of the supply bus
+abbrev pub supplyFrom : Fields (supply .widths) → ℕ
+supplyFrom f = f .0
+
+-- ---- row 3, "method, status or flags byte has no meaning"; bus and supply lines have no such byte
 abbrev pub methodFaults : ℕ → List Fault
 methodFaults method = (3 if ltb 2 method) ∷ []
 
@@ -86,6 +94,9 @@ branchBytes f = (3 if ltb 1 (f .1 .1 .1 .0)) ∷ []
 
 abbrev pub switchBytes : Fields (switch .widths) → List Fault
 switchBytes f = (3 if ltb 3 (f .1 .1 .0)) ∷ []
+
+abbrev pub supplyBytes : Fields (supply .widths) → List Fault
+supplyBytes f = []
 
 -- ---- refusals 3 to 9 of a line: first a byte without a meaning, then the record's own conditions
 abbrev pub headLineFaults : Fields (head .widths) → List Fault

@@ -15,6 +15,8 @@ use Rattle.record_lines.specs.declared.branch.BranchRead.{BranchRead}
 use Rattle.record_lines.specs.declared.branch.BranchRead.the-variants as Branches
 use Rattle.record_lines.specs.declared.switch.SwitchRead.{SwitchRead}
 use Rattle.record_lines.specs.declared.switch.SwitchRead.the-variants as Switches
+use Rattle.record_lines.specs.declared.supply.SupplyRead.{SupplyRead}
+use Rattle.record_lines.specs.declared.supply.SupplyRead.the-variants as Supplies
 use Rattle.record_lines.specs.Kinds.{methodOf}
 
 -- the head that these fields make
@@ -43,3 +45,8 @@ branchAnswer (Branches.Refused number place) = refused number place
 abbrev pub switchAnswer : SwitchRead → Answer Switch
 switchAnswer (Switches.Made switch) = accepted switch
 switchAnswer (Switches.Refused number place) = refused number place
+
+-- a supply is its bus's id
+abbrev pub supplyAnswer : SupplyRead → Answer ℕ
+supplyAnswer (Supplies.Made id) = accepted id
+supplyAnswer (Supplies.Refused number place) = refused number place

@@ -3,4 +3,5 @@ pub mod branch;
 pub mod bus;
 mod field;
 pub mod head;
+pub mod supply;
 pub mod switch;

@@ -7,27 +7,20 @@ use Prim.Native.Nat.{ℕ, _≤_, _<_}
 use native.Mathlib.Decide.{ℕ-discrete}
 use native.Mathlib.Omega.{arith}
 use lib.Dec.{eqb}
-use lib.ListN.{length, set, length-set, length-map}
+use lib.ListN.{length, set, length-set}
 use lib.Seq.{getD-set-same, getD-set-other}
 use Rattle.network.specs.Records.{Network}
-use Rattle.states.specs.Live.{stateByte, baseState}
-use Rattle.states.specs.LiveLaws.{base-byte}
-use Rattle.states.specs.Switches.{State, byte, operable, size, isTie, swapped, toggled, GoodState}
+use Rattle.states.specs.Live.{baseState}
+use Rattle.states.specs.BaseLaws.{base-good}
+use Rattle.states.specs.Switches.{State, byte, operable, size, swapped, toggled, GoodState}
 
 pub record FromBase (N : Network) (s : State) : Type 0 where
   pub good : GoodState N s
   pub moved : (i : ℕ) → byte (baseState N) i ≢ byte s i → operable N i ≡ true
 
-pub state-byte : (b : Bool) → stateByte b ≤ 1
-state-byte true = omega arith
-state-byte false = omega arith
-
 module _ (N : Network) where
-  pub base-good : GoodState N (baseState N)
-  base-good = record { long = unfold baseState in length-map (N .switches) _; bytes = λ i l. rw (base-byte N i) (state-byte (isTie N i)) }
-
   pub from-base : FromBase N (baseState N)
-  from-base = record { good = base-good; moved = λ i n. absurd (n refl) }
+  from-base = record { good = base-good N; moved = λ i n. absurd (n refl) }
 
   module _ (s : State) (h : FromBase N s) where
     set-from-base : (i b : ℕ) → operable N i ≡ true → b ≤ 1 → FromBase N (set s i b)

@@ -8,8 +8,8 @@ use Rattle.network.specs.Inside.{Inside}
 use Rattle.states.specs.Live.{live, SameLive}
 use Rattle.states.specs.Switches.{State}
 use Rattle.graph.specs.Trees.{live-part-is-whole}
-use Rattle.radiality.specs.Feeder.{feeder, radialIn}
-use Rattle.radiality.specs.FeederLaws.{feeder-sound, inside-radial-tree}
+use Rattle.feeders.specs.Feeder.{feeder, radialIn}
+use Rattle.feeders.specs.FeederLaws.{feeder-sound, inside-radial-tree}
 use Rattle.losses.specs.Loss.{lossIn}
 use Rattle.states.specs.LiveBytes.{live-listed}
 

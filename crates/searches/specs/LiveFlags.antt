@@ -12,7 +12,7 @@ use Rattle.network.specs.Records.{Network, noSwitch}
 use Rattle.network.specs.Inside.{Inside}
 use Rattle.network.specs.Positions.{on-a-branch}
 use Rattle.states.specs.Live.{live}
-use Rattle.radiality.specs.FeederRows.{liveFlags}
+use Rattle.feeders.specs.FeederRows.{liveFlags}
 use Rattle.states.specs.Switches.{State, byte, branchOf, size, toggled, inService}
 use Rattle.states.specs.LiveBytes.{On, live-so, moved-other, opened-dead, closed-live, one-switch}
 

@@ -7,11 +7,11 @@ use lib.Ieee.{Float, binary64, sub, mul, div, lt}
 use Rattle.numbers.specs.Constants.{zero64, trillionth, hundred}
 use Rattle.network.specs.Records.{Network}
 use Rattle.network.specs.Answers.{Answer, accepted, refused}
-use Rattle.network.specs.Check.{checkRecords}
 use Rattle.states.specs.Live.{baseState}
 use Rattle.states.specs.Switches.{State, GoodState}
 use Rattle.printing.specs.Calls.{Call, called}
-use Rattle.radiality.specs.Feeder.{radialIn}
+use Rattle.feeders.specs.Feeder.{radialIn}
+use Rattle.feeders.specs.Supply.{checkNetwork}
 use Rattle.losses.specs.Loss.{lossIn}
 use Rattle.searches.specs.declared.answer.ReconfigResult.{ReconfigResult}
 use Rattle.searches.specs.declared.answer.SolveAnswer.{SolveAnswer}
@@ -56,7 +56,7 @@ resultBy search N =
 
 -- the best state's bytes are written to the front of the slice
 unfoldable pub solvedBy : (Network → Best) → Network → List ℕ → Call Result
-solvedBy search N out = called (checkRecords N) (resultBy search N) (search N .state) out
+solvedBy search N out = called (checkNetwork N) (resultBy search N) (search N .state) out
 
 -- document 01's values for each case of the code's answer
 abbrev pub resultOf : ReconfigResult → Result

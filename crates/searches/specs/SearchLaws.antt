@@ -18,9 +18,11 @@ use Rattle.graph.specs.Rows.{rowRadial}
 use Rattle.printing.specs.Calls.{checkRoom, answered, called}
 use Rattle.printing.specs.CallLaws.{call-accepted}
 use Rattle.slices.specs.Written.{written}
-use Rattle.radiality.specs.Feeder.{radialIn}
-use Rattle.radiality.specs.FeederRows.{liveFlags}
-use Rattle.radiality.specs.FeederRowLaws.{state-flags, flags-radial}
+use Rattle.feeders.specs.Feeder.{radialIn}
+use Rattle.feeders.specs.Supply.{checkNetwork}
+use Rattle.feeders.specs.SupplyLaws.{network-records}
+use Rattle.feeders.specs.FeederRows.{liveFlags}
+use Rattle.feeders.specs.FeederRowLaws.{state-flags, flags-radial}
 use Rattle.searches.specs.declared.answer.Found.{Found}
 use Rattle.searches.specs.declared.start.Start.{Start}
 use Rattle.searches.specs.Results.{Best, SoundBest, resultBy, solvedBy}
@@ -29,9 +31,9 @@ use Rattle.searches.specs.StartLaws.{start-base}
 use Rattle.searches.specs.StateLaws.{state-held}
 use Rattle.searches.specs.States.{stateOf}
 
--- a call that is accepted has a checked network
-pub search-checked : {v : Verdict} (N : Network) (room : Judgement) → v ≡ Accepted → answerOf v ≡ (checkRecords N andThen room) → checkRecords N ≡ accepted tt
-search-checked N room r tested = then-iff (checkRecords N) room .0 (accepted-so r tested) .0
+-- a call that is accepted has a network that has passed its test
+pub search-checked : {v : Verdict} (N : Network) (room : Judgement) → v ≡ Accepted → answerOf v ≡ (checkNetwork N andThen room) → checkNetwork N ≡ accepted tt
+search-checked N room r tested = then-iff (checkNetwork N) room .0 (accepted-so r tested) .0
 
 -- a configuration has bytes for 512 switches
 front : (bytes : List ℕ) → length bytes ≡ 512 → (count : ℕ) → take (min count 512) bytes ≡ take count bytes
@@ -52,9 +54,9 @@ module _ (n : PowerNetwork) (search : Network → Best) (sound : (N : Network) �
   long : length (search N .state) ≡ n .«switch_count»
   long = sound N .good .long ∙ switches-listed n
 
-  module _ (v : Verdict) (tested : answerOf v ≡ (checkRecords N andThen checkRoom (n .«switch_count») (length out))) where
-    by-state : answerOf v ≡ (checkRecords N andThen checkRoom (length (search N .state)) (length out))
-    by-state = tested ∙ ap (λ m. checkRecords N andThen checkRoom m (length out)) (sym long)
+  module _ (v : Verdict) (tested : answerOf v ≡ (checkNetwork N andThen checkRoom (n .«switch_count») (length out))) where
+    by-state : answerOf v ≡ (checkNetwork N andThen checkRoom (length (search N .state)) (length out))
+    by-state = tested ∙ ap (λ m. checkNetwork N andThen checkRoom m (length out)) (sym long)
 
     -- the call with its tests done
     as-tested : answered (answerOf v) (resultBy search N) (search N .state) out ≡ solvedBy search N out
@@ -65,8 +67,11 @@ module _ (n : PowerNetwork) (search : Network → Best) (sound : (N : Network) �
     search-refused r = ap (λ w. answered (answerOf w) (resultBy search N) (search N .state) out) (sym r) ∙ as-tested
 
     module _ (r : v ≡ Accepted) (sized : length (n .buses) ≡ 256) {start : Start} (s : start ≡ startOf n) {found : Found} (f : found ≡ foundOf N (search N)) where
+      passed : checkNetwork N ≡ accepted tt
+      passed = search-checked N _ r tested
+
       ok : checkRecords N ≡ accepted tt
-      ok = search-checked N _ r tested
+      ok = network-records N passed
 
       held : stateOf n (found .configuration) ≡ search N .state
       unfolding foundOf
@@ -81,5 +86,5 @@ module _ (n : PowerNetwork) (search : Network → Best) (sound : (N : Network) �
       pub search-answered : answerWith n start found out ≡ solvedBy search N out
       unfolding answerWith solvedBy
       search-answered =
-          rw (held, judged, start-base n sized ok s .1) (unfold foundOf resultBy in rw f refl)
-          ∙ call-accepted (checkRecords N) (resultBy search N) (search N .state) out (sym by-state ∙ ap answerOf r)
+          rw (held, judged, start-base n sized passed s .1) (unfold foundOf resultBy in rw f refl)
+          ∙ call-accepted (checkNetwork N) (resultBy search N) (search N .state) out (sym by-state ∙ ap answerOf r)

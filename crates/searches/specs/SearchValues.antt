@@ -9,15 +9,15 @@ use Rattle.network.specs.Records.{Network, recordsOf}
 use Rattle.graph.specs.Rows.{rowRadial}
 use Rattle.printing.specs.Calls.{Call}
 use Rattle.slices.specs.Written.{written}
-use Rattle.radiality.specs.FeederRows.{feederGraph, liveFlags}
+use Rattle.feeders.specs.FeederRows.{feederGraph, liveFlags}
 use Rattle.losses.specs.Loss.{lossIn}
-use Rattle.losses.specs.ListLoss.{listLoss, loadsOf}
+use Rattle.losses.specs.LiveLoss.{loadsOf, liveLoss}
 use Rattle.searches.specs.declared.answer.Found.{Found}
 use Rattle.searches.specs.declared.start.Start.{Start}
 use Rattle.searches.specs.Results.{Best, Result, reduction}
 use Rattle.searches.specs.States.{stateOf}
 
--- where every search starts, by the feeder's rows: of a checked network it is the base with its live branches, its radiality and its loss (StartLaws)
+-- where every search starts, by the feeder's rows: of a network that has passed its test it is the base with its live branches, its radiality and its loss (StartLaws)
 unfoldable pub startOf : PowerNetwork → Start
 startOf n =
     let base = configurationOf (baseState (recordsOf n)) in
@@ -28,7 +28,7 @@ startOf n =
       base = base;
       live = flags;
       radial = rowRadial (feederGraph n) flags;
-      loss = listLoss (feederGraph n) (loadsOf n) (n .branches) (n .«base_mva») flags;
+      loss = liveLoss (feederGraph n) (loadsOf n) (n .branches) (n .«base_mva») flags;
     }
 
 -- what a search found, with its loss

@@ -1,4 +1,4 @@
--- Of a checked network, where a search starts is document 01's base with its live branches, its radiality and its loss.
+-- Of a network that has passed its test, where a search starts is document 01's base with its live branches, its radiality and its loss.
 use mathlib.Core.Path.{_≡_, refl, ap}
 use lib.ListN.{length}
 use Rattle.network.specs.declared.topology.PowerNetwork.{PowerNetwork}
@@ -7,11 +7,13 @@ use Rattle.network.specs.Answers.{accepted}
 use Rattle.network.specs.Check.{checkRecords}
 use Rattle.states.specs.Listed.{state-accepted}
 use Rattle.states.specs.Live.{baseState}
-use Rattle.radiality.specs.Feeder.{radialIn}
-use Rattle.radiality.specs.FeederRows.{liveFlags}
-use Rattle.radiality.specs.FeederRowLaws.{state-flags, flags-radial}
+use Rattle.feeders.specs.Feeder.{radialIn}
+use Rattle.feeders.specs.FeederRows.{liveFlags}
+use Rattle.feeders.specs.FeederRowLaws.{state-flags, flags-radial}
+use Rattle.feeders.specs.Supply.{checkNetwork}
+use Rattle.feeders.specs.SupplyLaws.{network-records, network-supply, base-radial}
 use Rattle.searches.specs.declared.start.Start.{Start}
-use Rattle.searches.specs.FromBase.{base-good}
+use Rattle.states.specs.BaseLaws.{base-good}
 use Rattle.searches.specs.Given.{Given, Base}
 use Rattle.searches.specs.SearchValues.{startOf}
 use Rattle.searches.specs.StateRows.{flags-loss}
@@ -19,10 +21,6 @@ use Rattle.searches.specs.StateRows.{flags-loss}
 module _ (n : PowerNetwork) (sized : length (n .buses) ≡ 256) (ok : checkRecords (recordsOf n) ≡ accepted tt) {start : Start} (e : start ≡ startOf n) where
   abbrev N : Network
   N = recordsOf n
-
-  pub start-given : Given n (start .graph) (start .loads)
-  unfolding startOf
-  start-given = (ok, ap (λ s. s .graph) e, ap (λ s. s .loads) e)
 
   pub start-live : start .live ≡ liveFlags N (baseState N)
   unfolding startOf
@@ -32,6 +30,14 @@ module _ (n : PowerNetwork) (sized : length (n .buses) ≡ 256) (ok : checkRecor
   unfolding startOf
   start-radial = flags-radial n sized ok (baseState N) _ _ refl (rw e at start-live) _ (ap (λ s. s .radial) e)
 
+-- its supply has passed too
+module _ (n : PowerNetwork) (sized : length (n .buses) ≡ 256) (tested : checkNetwork (recordsOf n) ≡ accepted tt) {start : Start} (e : start ≡ startOf n) where
+  pub start-given : Given n (start .graph) (start .loads)
+  unfolding startOf
+  start-given = (network-records (recordsOf n) tested, ap (λ s. s .graph) e, ap (λ s. s .loads) e, network-supply (recordsOf n) tested)
+
   pub start-base : Base n (start .base) (start .loss)
   unfolding startOf
-  start-base = (ap (λ s. s .base) e, flags-loss n sized ok (baseState N) _ _ refl (rw e at start-live) _ _ refl (ap (λ s. s .loss) e))
+  start-base =
+      let live = start-live n sized (network-records (recordsOf n) tested) e in
+      (ap (λ s. s .base) e, flags-loss n sized (rw e at start-given) (baseState (recordsOf n)) (base-radial (recordsOf n) tested) (rw e at live) _ (ap (λ s. s .loss) e))

@@ -17,12 +17,12 @@ use Rattle.network.specs.Records.{recordsOf}
 use Rattle.states.specs.Configuration.{configurationOf}
 use Rattle.states.specs.Live.{live, baseState}
 use Rattle.states.specs.LiveLaws.{live-configuration}
-use Rattle.radiality.specs.FeederRows.{liveFlags}
+use Rattle.feeders.specs.FeederRows.{liveFlags}
 use Rattle.states.specs.Switches.{byte, swapped, toggled}
 use Rattle.states.specs.Listed.{switches-listed, few-switches}
 use Rattle.searches.specs.States.{stateOf}
 use Rattle.searches.specs.Given.{Held}
-use Rattle.searches.specs.FromBase.{base-good}
+use Rattle.states.specs.BaseLaws.{base-good}
 
 module _ (n : PowerNetwork) where
   module _ (c : NetworkConfiguration) where

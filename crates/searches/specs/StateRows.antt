@@ -4,19 +4,20 @@ use mathlib.Core.Bool.{Bool}
 use mathlib.Core.List.{List}
 use lib.Ieee.{Float}
 use lib.ListN.{length}
-use Rattle.network.specs.declared.bus.Power.{Power}
 use Rattle.network.specs.declared.topology.PowerNetwork.{PowerNetwork}
 use Rattle.network.specs.Records.{recordsOf}
-use Rattle.network.specs.Answers.{accepted}
-use Rattle.network.specs.Check.{checkRecords}
 use Rattle.graph.specs.declared.rows.Graph.{Graph}
-use Rattle.radiality.specs.FeederRows.{feederGraph, liveFlags}
+use Rattle.feeders.specs.FeederRows.{liveFlags}
+use Rattle.feeders.specs.SupplyLaws.{network-accepted}
+use Rattle.losses.specs.declared.loads.Loads.{Loads}
 use Rattle.losses.specs.Loss.{lossIn}
-use Rattle.losses.specs.ListLoss.{listLoss, loadsOf}
+use Rattle.losses.specs.LiveLoss.{liveLoss}
 use Rattle.losses.specs.FeederLoss.{feeder-loss}
+use Rattle.losses.specs.SupplySide.{Fed}
 use Rattle.states.specs.Switches.{State}
+use Rattle.searches.specs.Given.{Given}
 
-module _ (n : PowerNetwork) (sized : length (n .buses) ≡ 256) (ok : checkRecords (recordsOf n) ≡ accepted tt) (s : State) (g : Graph) (flags : List Bool) (a : g ≡ feederGraph n)
-    (b : flags ≡ liveFlags (recordsOf n) s) where
-  pub flags-loss : (loads : List Power) (r : Float) → loads ≡ loadsOf n → r ≡ listLoss g loads (n .branches) (n .«base_mva») flags → r ≡ lossIn (recordsOf n) s
-  flags-loss loads r l e = e ∙ feeder-loss n sized ok s g loads flags a l b
+-- with a supply, of a radial state: a search takes the loss of no other
+pub flags-loss : (n : PowerNetwork) → length (n .buses) ≡ 256 → {g : Graph} {loads : Loads} → Given n g loads → (s : State) → Fed (recordsOf n) s
+    → {flags : List Bool} → flags ≡ liveFlags (recordsOf n) s → (r : Float) → r ≡ liveLoss g loads (n .branches) (n .«base_mva») flags → r ≡ lossIn (recordsOf n) s
+flags-loss n sized given s fed b r e = e ∙ feeder-loss n sized (network-accepted (recordsOf n) (given .0) (given .3)) s fed _ _ _ (given .1) (given .2) b

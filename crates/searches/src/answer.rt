@@ -3,15 +3,15 @@
 ghost use mathlib.Core.Path.{_≡_};
 ghost use lib.ListN.{take};
 ghost use Rattle.network.specs.Answers.{answerOf, _andThen_};
-ghost use Rattle.network.specs.Check.{checkRecords};
 ghost use Rattle.network.specs.Records.{recordsOf};
+ghost use Rattle.feeders.specs.Supply.{checkNetwork};
 ghost use Rattle.printing.specs.Calls.{checkRoom};
 ghost use Rattle.slices.specs.Written.{written};
 ghost use Rattle.searches.specs.Results.{reduction, solveAnswerOf};
 ghost use Rattle.searches.specs.SearchValues.{answerWith};
 use crate::start::Start;
 use bfs::radial::is_radial;
-use checks::check::check;
+use feeders::supply::check_network;
 use network::error::Verdict;
 use network::topology::PowerNetwork;
 use numbers::at_most;
@@ -46,9 +46,9 @@ pub struct Found {
 
 // A search's call tests the network, then whether a slice of this length has a byte for each switch.
 pub fn check_search(network: PowerNetwork, room: usize) -> Verdict
-    ensures { λ r. ⌜ answerOf r ≡ (checkRecords (recordsOf network) andThen checkRoom (network .«switch_count») room) ⌝ }
+    ensures { λ r. ⌜ answerOf r ≡ (checkNetwork (recordsOf network) andThen checkRoom (network .«switch_count») room) ⌝ }
 {
-    if let Verdict::Refused { number, place } = check(network) {
+    if let Verdict::Refused { number, place } = check_network(network) {
         return Verdict::Refused { number, place };
     }
     let count = wide16(network.switch_count);

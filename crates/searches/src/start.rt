@@ -3,12 +3,12 @@
 ghost use mathlib.Core.Path.{_≡_};
 ghost use Rattle.searches.specs.SearchValues.{startOf};
 use bfs::radial::is_radial;
+use feeders::feeder::graph_of;
 use graph::rows::Graph;
-use losses::estimate::compute_losses_estimate;
-use losses::evaluation::loads_of;
-use network::bus::Power;
+use losses::loads::Loads;
+use losses::loads::live_loss;
+use losses::loads::loads_of;
 use network::topology::PowerNetwork;
-use radiality::feeder::graph_of;
 use states::configuration::NetworkConfiguration;
 use states::configuration::build_base_configuration;
 use states::configuration::live_branches;
@@ -16,14 +16,14 @@ use states::configuration::live_branches;
 // Where every search starts: the feeder's rows and loads, and its base with the live branches, the radiality and the loss.
 pub struct Start {
     pub graph: Graph,
-    pub loads: [Power; PowerNetwork::MAX_BUSES],
+    pub loads: Loads,
     pub base: NetworkConfiguration,
     pub live: [bool; PowerNetwork::MAX_BRANCHES],
     pub radial: bool,
     pub loss: f64,
 }
 
-// Where every search of this network starts; made once a call. Of a checked network that is document 01's base with its live branches, radiality and loss (specs/StartLaws).
+// Where every search of this network starts; made once a call. Of a network that has passed its test that is document 01's base with its live branches, radiality and loss (specs/StartLaws).
 pub fn start_of(network: PowerNetwork) -> Start
     ensures { λ r. ⌜ r ≡ startOf network ⌝ }
 {
@@ -33,7 +33,7 @@ pub fn start_of(network: PowerNetwork) -> Start
     let live = live_branches(network, base);
     let radial = is_radial(graph, live);
     let branches = network.branches;
-    let loss = compute_losses_estimate(graph, loads, branches, network.base_mva, live);
+    let loss = live_loss(graph, loads, branches, network.base_mva, live);
     Start {
         graph,
         loads,

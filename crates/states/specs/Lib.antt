@@ -4,3 +4,4 @@ pub mod LiveLaws
 pub mod Switches
 pub mod Listed
 pub mod LiveBytes
+pub mod BaseLaws

@@ -8,8 +8,7 @@ use lib.ListN.{length, getD}
 use Rattle.numbers.specs.Every.{every}
 use Rattle.network.specs.declared.switch.Switch.{Switch}
 use Rattle.network.specs.Records.{Network, noBranch}
-use Rattle.network.specs.Answers.{Answer, accepted, _andThen_, _if_, judge, Judgement}
-use Rattle.network.specs.Check.{checkRecords}
+use Rattle.network.specs.Answers.{_if_, judge, Judgement}
 
 -- a state's bytes: "00 (closed) or 01 (open)"
 abbrev pub stateByte : Bool → ℕ
@@ -18,10 +17,6 @@ stateByte opened = cond opened 1 0
 -- refusal 10: "state isn't one byte 00 (closed) or 01 (open) for each switch"; place 0 for the present or only state, 1 for the wanted one
 unfoldable pub checkState : Network → List ℕ → ℕ → Judgement
 checkState N s place = judge ((10 if not (eqb (length s) (length (N .switches)) && every (λ b. leb b 1) s)) ∷ []) place
-
--- a call on one state: "Calls test the network, then 10", and then it answers
-abbrev pub onState : {A : Type 0} → Network → List ℕ → A → Answer A
-onState N s answer = checkRecords N andThen checkState N s 0 andThen accepted answer
 
 -- some open switch is on branch k
 unfoldable pub openOn : List Switch → List ℕ → ℕ → Bool

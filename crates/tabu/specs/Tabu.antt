@@ -10,7 +10,7 @@ use Rattle.network.specs.Records.{Network}
 use Rattle.numbers.specs.Choose.{among}
 use Rattle.states.specs.Live.{baseState}
 use Rattle.states.specs.Switches.{State, operable, size, switch, toggled}
-use Rattle.radiality.specs.Feeder.{radialIn}
+use Rattle.feeders.specs.Feeder.{radialIn}
 use Rattle.losses.specs.Loss.{lossIn}
 use Rattle.searches.specs.Results.{Best}
 use Rattle.searches.specs.Rounds.{untilEnded, lesserBy}

@@ -10,7 +10,7 @@ use Rattle.numbers.specs.UpTo.{upTo-keeps}
 use Rattle.network.specs.Records.{Network}
 use Rattle.states.specs.Live.{baseState}
 use Rattle.states.specs.Switches.{State, operable, size, toggled}
-use Rattle.radiality.specs.Feeder.{radialIn}
+use Rattle.feeders.specs.Feeder.{radialIn}
 use Rattle.losses.specs.Loss.{lossIn}
 use Rattle.tabu.specs.Tabu.{Move, Tabu, moveOf, allowed, bestMove, afterMove, next, tabuStart, tabu, tabuBest}
 use Rattle.numbers.specs.IfSome.{IfSome, cond-holds}

@@ -22,8 +22,8 @@ use Rattle.states.specs.Configuration.{configurationOf}
 use Rattle.states.specs.Live.{live, SameLive}
 use Rattle.numbers.specs.Tests.{both}
 use Rattle.numbers.specs.UpTo.{upTo, upTo-more, table}
-use Rattle.radiality.specs.Feeder.{radialIn}
-use Rattle.radiality.specs.FeederRows.{liveFlags}
+use Rattle.feeders.specs.Feeder.{radialIn}
+use Rattle.feeders.specs.FeederRows.{liveFlags}
 use Rattle.losses.specs.Loss.{lossIn}
 use Rattle.states.specs.Switches.{State, branchOf, operable, size, switch, toggled, inService}
 use Rattle.tabu.specs.declared.tabu.Candidate.{Candidate}

@@ -11,7 +11,7 @@ use Rattle.network.specs.Records.{Network}
 use Rattle.network.specs.Inside.{Inside}
 use Rattle.states.specs.Live.{baseState}
 use Rattle.states.specs.Switches.{toggled}
-use Rattle.radiality.specs.Feeder.{radialIn}
+use Rattle.feeders.specs.Feeder.{radialIn}
 use Rattle.losses.specs.Loss.{lossIn}
 use Rattle.tabu.specs.Tabu.{Move, Tabu, bestMove, afterMove, next, tabuStart, tabu}
 use Rattle.numbers.specs.IfSome.{IfSome}

@@ -11,7 +11,7 @@ use Rattle.states.specs.declared.configuration.NetworkConfiguration.{NetworkCon
 use Rattle.network.specs.declared.topology.PowerNetwork.{PowerNetwork}
 use Rattle.states.specs.Configuration.{configurationOf}
 use Rattle.network.specs.Records.{Network, recordsOf}
-use Rattle.radiality.specs.Feeder.{radialIn}
+use Rattle.feeders.specs.Feeder.{radialIn}
 use Rattle.losses.specs.Loss.{lossIn}
 use Rattle.tabu.specs.declared.tabu_list.TabuList.{TabuList}
 use Rattle.tabu.specs.declared.tabu.Candidate.{Candidate}

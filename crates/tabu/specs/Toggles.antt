@@ -13,7 +13,7 @@ use Rattle.network.specs.Records.{Network, noBranch}
 use Rattle.network.specs.Inside.{Inside}
 use Rattle.states.specs.Live.{live, SameLive}
 use Rattle.states.specs.Switches.{State, byte, branchOf, size, toggled, GoodState, inService}
-use Rattle.radiality.specs.Feeder.{radialIn}
+use Rattle.feeders.specs.Feeder.{radialIn}
 use Rattle.states.specs.LiveBytes.{On, live-so, live-if, live-less, moved-other, opened-dead, closed-live, one-switch}
 use Rattle.searches.specs.LiveBranches.{same-radial, radial-part-same}
 

@@ -12,7 +12,8 @@ ghost use Rattle.network.specs.Check.{checkRecords};
 ghost use Rattle.numbers.specs.Choose.{among};
 ghost use Rattle.states.specs.Live.{baseState};
 ghost use Rattle.network.specs.Records.{Network, recordsOf};
-ghost use Rattle.radiality.specs.Feeder.{radialIn};
+ghost use Rattle.feeders.specs.Feeder.{radialIn};
+ghost use Rattle.feeders.specs.Supply.{checkNetwork};
 ghost use Rattle.searches.specs.Results.{solvedBy, solveAnswerOf};
 ghost use Rattle.searches.specs.SearchValues.{startOf, foundOf};
 ghost use Rattle.searches.specs.Given.{Given, Base};
@@ -23,8 +24,8 @@ ghost use Rattle.tabu.specs.TabuLaws.{MoveFrom};
 use crate::tabu_list::TabuList;
 use bfs::radial::is_radial;
 use graph::rows::Graph;
-use losses::estimate::compute_losses_estimate;
-use network::bus::Power;
+use losses::loads::Loads;
+use losses::loads::live_loss;
 use network::error::Verdict;
 use network::switch::Switch;
 use network::topology::PowerNetwork;
@@ -193,7 +194,7 @@ fn toggled_live(
 fn best_from_other(
     network: PowerNetwork,
     graph: Graph,
-    loads: [Power; PowerNetwork::MAX_BUSES],
+    loads: Loads,
     search: TabuSearch,
 ) -> Candidate
     requires { ⌜ Given network graph loads × HeldList (search .barred) ⌝ }
@@ -212,7 +213,7 @@ fn best_from_other(
         if is_served(switch, network.branches[on].status) {
             let toggled = toggled_live(live, on, configuration.switches[i]);
             if is_radial(graph, toggled) {
-                let loss = compute_losses_estimate(graph, loads, branches, base_mva, toggled);
+                let loss = live_loss(graph, loads, branches, base_mva, toggled);
                 best = see_toggle(search, best, i, switch.id, loss);
             }
         }
@@ -272,7 +273,7 @@ fn at_base(base: NetworkConfiguration, base_radial: bool, base_loss: f64) -> Tab
 fn tabu_rounds(
     network: PowerNetwork,
     graph: Graph,
-    loads: [Power; PowerNetwork::MAX_BUSES],
+    loads: Loads,
     base: NetworkConfiguration,
     base_radial: bool,
     base_loss: f64,
@@ -298,7 +299,7 @@ fn tabu_rounds(
 
 // What the tabu search finds: it reports max_iterations and converged.
 fn search(network: PowerNetwork, start: Start) -> Found
-    requires { ⌜ (checkRecords (recordsOf network) ≡ accepted tt) × (start ≡ startOf network) ⌝ }
+    requires { ⌜ (checkNetwork (recordsOf network) ≡ accepted tt) × (start ≡ startOf network) ⌝ }
     ensures { λ r. ⌜ r ≡ foundOf (recordsOf network) (tabuBest (recordsOf network)) ⌝ }
 {
     let graph = start.graph;

@@ -12,7 +12,7 @@ use lib.Seq.{take-append-seam}
 use Rattle.network.specs.Answers.{accepted, refused, _andThen_}
 use Rattle.network.specs.AnswerLaws.{no-refusal, same-value}
 use Rattle.network.specs.Records.{Network, recordsOf}
-use Rattle.network.specs.Check.{checkRecords}
+use Rattle.feeders.specs.Supply.{checkNetwork}
 use Rattle.frames.specs.Text.{readText}
 use Rattle.frames.specs.Acceptable.{bitsOf, Held, textOf, Writable}
 use Rattle.frames.specs.HandedOver.{typed-writable}
@@ -24,37 +24,37 @@ use Rattle.texts.specs.Texts.{writtenText}
 use Rattle.texts.specs.Claim.{Claim}
 
 -- ---- reading
-accepted-back : (N : Network) → checkRecords N ≡ accepted tt → Writable N → readText (textOf N) ≡ accepted N
+accepted-back : (N : Network) → checkNetwork N ≡ accepted tt → Writable N → readText (textOf N) ≡ accepted N
 unfolding _andThen_
 accepted-back N ok room = frames.claim .alike N room ∙ rw ok
 
 only-text : (t : List ℕ) (N : Network) → readText t ≡ accepted N → t ≡ textOf N
 only-text t N e = frames.claim .accepted-texts t N .0 e .text
 
-only-records : (N M : Network) → checkRecords N ≡ accepted tt → checkRecords M ≡ accepted tt → Writable N → Writable M → textOf N ≡ textOf M → N ≡ M
+only-records : (N M : Network) → checkNetwork N ≡ accepted tt → checkNetwork M ≡ accepted tt → Writable N → Writable M → textOf N ≡ textOf M → N ≡ M
 only-records N M ok ok′ room room′ same = same-value (sym (accepted-back N ok room) ∙ ap readText same ∙ accepted-back M ok′ room′)
 
 -- ---- the call
 module _ (N : Network) (out : List ℕ) where
-  text-in-full : checkRecords N ≡ accepted tt → length (textOf N) ≤ length out
+  text-in-full : checkNetwork N ≡ accepted tt → length (textOf N) ≤ length out
       → writtenText N out ≡ record { answer = accepted (length (textOf N)); out = textOf N ++ drop (length (textOf N)) out }
   unfolding writtenText
   text-in-full ok room = in-full (length (textOf N)) (textOf N) out ok room
 
-  text-short-slice : checkRecords N ≡ accepted tt → length out < length (textOf N) → writtenText N out ≡ record { answer = refused 13 0; out = out }
+  text-short-slice : checkNetwork N ≡ accepted tt → length out < length (textOf N) → writtenText N out ≡ record { answer = refused 13 0; out = out }
   unfolding writtenText
   text-short-slice ok short = sym (call-short (length (textOf N)) (textOf N) out ok refl short)
 
-  records-refused : (number place : ℕ) → checkRecords N ≡ refused number place → writtenText N out ≡ record { answer = refused number place; out = out }
+  records-refused : (number place : ℕ) → checkNetwork N ≡ refused number place → writtenText N out ≡ record { answer = refused number place; out = out }
   unfolding writtenText
   records-refused number place e = sym (call-refused (length (textOf N)) (textOf N) out e)
 
   -- with its tests passed the call is refused by 13 or not at all
-  refused-13 : checkRecords N ≡ accepted tt → (n p : ℕ) → writtenText N out .answer ≡ refused n p → (n ≡ 13) × (p ≡ 0) × (length out < length (textOf N))
+  refused-13 : checkNetwork N ≡ accepted tt → (n p : ℕ) → writtenText N out .answer ≡ refused n p → (n ≡ 13) × (p ≡ 0) × (length out < length (textOf N))
   unfolding writtenText
-  refused-13 ok n p e = go (call-refusals (checkRecords N) (length (textOf N)) (textOf N) out e)
+  refused-13 ok n p e = go (call-refusals (checkNetwork N) (length (textOf N)) (textOf N) out e)
     where
-      go : (checkRecords N ≡ refused n p) ⊎ ((checkRecords N ≡ accepted tt) × (n ≡ 13) × (p ≡ 0) × (length out < length (textOf N))) → (n ≡ 13) × (p ≡ 0) × (length out < length (textOf N))
+      go : (checkNetwork N ≡ refused n p) ⊎ ((checkNetwork N ≡ accepted tt) × (n ≡ 13) × (p ≡ 0) × (length out < length (textOf N))) → (n ≡ 13) × (p ≡ 0) × (length out < length (textOf N))
       go (inl not) = no-refusal (sym not ∙ ok)
       go (inr (passed, number, place, short)) = (number, place, short)
 
@@ -62,7 +62,7 @@ module _ (N : Network) (out : List ℕ) where
   front-back : Writable N → (after : List ℕ) (count : ℕ) → record { answer = accepted count; out = after } ≡ writtenText N out → readText (take count after) ≡ accepted N
   unfolding writtenText
   front-back room after count e =
-      let (ok, long, bytes) = call-answered (checkRecords N) (length (textOf N)) (textOf N) out e in
+      let (ok, long, bytes) = call-answered (checkNetwork N) (length (textOf N)) (textOf N) out e in
       rw (long, bytes, take-append-seam (textOf N) (drop (length (textOf N)) out)) (accepted-back N ok room)
 
 -- ---- floats
@@ -82,7 +82,7 @@ two-zeros e =
 pub claim : Claim
 claim = record {
   read-back = λ n vs h ok. accepted-back (recordsOf n) ok (typed-writable n (value-typed n vs h));
-  records-back = λ N inside room. accepted-back N (frames.claim .checked N .1 inside) room;
+  records-back = λ N inside supplied room. accepted-back N (frames.claim .checked N .1 (inside, supplied)) room;
   slice-back = λ n vs h out after count e. front-back (recordsOf n) out (typed-writable n (value-typed n vs h)) after count e;
   same-bits = λ x y. (ap bitsOf, held-bits x y);
   bits-kept = bits-kept;
@@ -92,7 +92,7 @@ claim = record {
   only-records = only-records;
   refused-first = records-refused;
   written-back = λ t N out e room. rw (only-text t N e) (text-in-full N out (frames.passed t N e) (rw (sym (only-text t N e)) room));
-  written-in-full = λ N out inside room. text-in-full N out (frames.claim .checked N .1 inside) room;
-  too-short = λ N out inside short. text-short-slice N out (frames.claim .checked N .1 inside) short;
-  only-13 = λ N out inside n p e. refused-13 N out (frames.claim .checked N .1 inside) n p e;
+  written-in-full = λ N out inside supplied room. text-in-full N out (frames.claim .checked N .1 (inside, supplied)) room;
+  too-short = λ N out inside supplied short. text-short-slice N out (frames.claim .checked N .1 (inside, supplied)) short;
+  only-13 = λ N out inside supplied n p e. refused-13 N out (frames.claim .checked N .1 (inside, supplied)) n p e;
 }

@@ -4,7 +4,7 @@ ghost use Rattle.network.specs.Limits.{methodByte};
 ghost use Rattle.record_lines.specs.LineAnswers.{headOfCode};
 ghost use Rattle.slices.specs.Written.{written};
 ghost use Rattle.texts.specs.LineLaws.{around};
-ghost use Rattle.texts.specs.Lines.{IsNumber, headText, busText, branchText, switchText};
+ghost use Rattle.texts.specs.Lines.{IsNumber, headText, busText, branchText, switchText, supplyText};
 use network::branch::Branch;
 use network::bus::Bus;
 use network::switch::ReconfigAlgorithm;
@@ -15,6 +15,7 @@ use record_lines::branch;
 use record_lines::bus;
 use record_lines::head;
 use record_lines::head::Head;
+use record_lines::supply;
 use record_lines::switch;
 use slices::writer::write_digits;
 use slices::writer::write_line;
@@ -88,5 +89,16 @@ pub(crate) fn write_switch(out: &mut [u8], switch: Switch)
         out,
         switch::SIZE as u8,
         0x100_0000_0000 * switch::KIND as u64 + fields,
+    );
+}
+
+// Kind and id are one number.
+pub(crate) fn write_supply(out: &mut [u8], id: u16)
+    ensures { λ _. ⌜ now (out .exit) ≡ written (supplyText id) (now (out .entry)) ⌝ }
+{
+    write_line(
+        out,
+        supply::SIZE as u8,
+        0x1_0000 * supply::KIND as u64 + id as u64,
     );
 }

@@ -1,4 +1,4 @@
-// The text of a network, written into a lent slice: the head's line, then one for each bus, branch and switch that is listed.
+// The text of a network, written into a lent slice: the head's line, then one for each bus, branch and switch that is listed, then the supply's, if one is named.
 ghost use mathlib.Core.Path.{_≡_};
 ghost use mathlib.Core.List.{flatMap};
 ghost use Prim.Native.Nat.{_≤_};
@@ -9,21 +9,34 @@ ghost use Rattle.network.specs.Records.{recordsOf};
 ghost use Rattle.record_lines.specs.LineAnswers.{headOfCode};
 ghost use Rattle.slices.specs.Written.{written};
 ghost use Rattle.frames.specs.Acceptable.{textOf};
-ghost use Rattle.texts.specs.Lines.{busText, branchText, switchText, branchesOn, busesOn};
+ghost use Rattle.texts.specs.Lines.{busText, branchText, switchText, suppliesText, switchesOn, branchesOn, busesOn};
 ghost use Rattle.texts.specs.Texts.{writtenText, writeAnswerOf};
 use crate::line::write_branch;
 use crate::line::write_bus;
 use crate::line::write_head;
+use crate::line::write_supply;
 use crate::line::write_switch;
-use checks::check::check;
+use feeders::supply::check_network;
 use network::error::Verdict;
 use network::topology::PowerNetwork;
+use numbers::wide8;
 use numbers::wide16;
+use printing::writer::truth_byte;
 use record_lines::branch;
 use record_lines::bus;
 use record_lines::head;
 use record_lines::head::Head;
+use record_lines::supply;
 use record_lines::switch;
+
+// The longest text that is accepted (frames/specs/Lengths).
+pub const LONGEST_TEXT: usize = head::SIZE
+    + 1
+    + PowerNetwork::MAX_BUSES * (bus::SIZE + 1)
+    + PowerNetwork::MAX_BRANCHES * (branch::SIZE + 1)
+    + PowerNetwork::MAX_SWITCHES * (switch::SIZE + 1)
+    + supply::SIZE
+    + 1;
 
 // How many bytes the text has, or document 01's refusal number and place.
 pub enum WriteAnswer {
@@ -88,6 +101,25 @@ fn write_switches(out: &mut [u8], network: PowerNetwork)
     }
 }
 
+// The supply's line, if one is named.
+fn write_supply_line(out: &mut [u8], network: PowerNetwork)
+    ensures { λ _. ⌜ now (out .exit) ≡ written (suppliesText (recordsOf network)) (now (out .entry)) ⌝ }
+{
+    if network.has_supply {
+        write_supply(out, network.supply);
+    }
+}
+
+// The lines from the switches on.
+fn write_from_switches(out: &mut [u8], network: PowerNetwork)
+    requires { ⌜ (checkRecords (recordsOf network) ≡ accepted tt) × (length (switchesOn (recordsOf network)) ≤ length (now out)) ⌝ }
+    ensures { λ _. ⌜ now (out .exit) ≡ written (switchesOn (recordsOf network)) (now (out .entry)) ⌝ }
+{
+    write_switches(out, network);
+    let end = (switch::SIZE + 1) * wide16(network.switch_count);
+    write_supply_line(&mut out[end..], network);
+}
+
 // The lines from the branches on.
 fn write_from_branches(out: &mut [u8], network: PowerNetwork)
     requires { ⌜ (checkRecords (recordsOf network) ≡ accepted tt) × (length (branchesOn (recordsOf network)) ≤ length (now out)) ⌝ }
@@ -95,7 +127,7 @@ fn write_from_branches(out: &mut [u8], network: PowerNetwork)
 {
     write_branches(out, network);
     let switches = (branch::SIZE + 1) * wide16(network.branch_count);
-    write_switches(&mut out[switches..], network);
+    write_from_switches(&mut out[switches..], network);
 }
 
 // The lines from the buses on.
@@ -124,7 +156,8 @@ fn text_length(network: PowerNetwork) -> usize
     let buses = (bus::SIZE + 1) * wide16(network.bus_count);
     let branches = (branch::SIZE + 1) * wide16(network.branch_count);
     let switches = (switch::SIZE + 1) * wide16(network.switch_count);
-    head::SIZE + 1 + buses + branches + switches
+    let supplies = (supply::SIZE + 1) * wide8(truth_byte(network.has_supply));
+    head::SIZE + 1 + buses + branches + switches + supplies
 }
 
 // The text of a network, at the front of the slice, which keeps what is behind it. The network's refusal comes first, then 13; a refusal writes no byte. What
@@ -132,7 +165,7 @@ fn text_length(network: PowerNetwork) -> usize
 pub fn write_text(network: PowerNetwork, out: &mut [u8]) -> WriteAnswer
     ensures { λ r. ⌜ record { answer = writeAnswerOf r; out = now (out .exit) } ≡ writtenText (recordsOf network) (now (out .entry)) ⌝ }
 {
-    let records = check(network);
+    let records = check_network(network);
     if let Verdict::Refused { number, place } = records {
         return WriteAnswer::Refused { number, place };
     }

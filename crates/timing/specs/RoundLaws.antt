@@ -11,16 +11,18 @@ use Rattle.numbers.specs.UpTo.{upTo, upTo-more}
 use Rattle.states.specs.Listed.{buses-listed, branches-listed, switches-listed}
 use Rattle.network.specs.Answers.{Answer, accepted, refused, _andThen_, Judgement}
 use Rattle.network.specs.AnswerLaws.{then-iff}
-use Rattle.network.specs.Check.{checkRecords}
-use Rattle.states.specs.Live.{onState}
 use Rattle.network.specs.Records.{Network, recordsOf}
 use Rattle.network.specs.declared.topology.PowerNetwork.{PowerNetwork}
 use Rattle.printing.specs.Lengths.{planLength}
 use Rattle.printing.specs.Printed.{truthByte}
 use Rattle.frames.specs.Text.{readText}
-use Rattle.radiality.specs.Feeder.{radialIn}
+use Rattle.feeders.specs.Feeder.{radialIn}
+use Rattle.feeders.specs.StateCalls.{onState}
+use Rattle.feeders.specs.Supply.{checkNetwork}
+use Rattle.feeders.specs.SupplyLaws.{network-records}
 use Rattle.losses.specs.Accepted.{loss-finite}
 use Rattle.losses.specs.Loss.{lossIn}
+use Rattle.losses.specs.LossCall.{lossCall}
 use Rattle.printing.specs.Calls.{checkRoom, Call, answered, called}
 use Rattle.plan.specs.Plan.{planned}
 use Rattle.searches.specs.Results.{Result, resultBy, solvedBy}
@@ -58,7 +60,7 @@ module _ (kind : ℕ) (t a b : List ℕ) where
     asked-radiality e so = rw (e, so)
 
     pub asked-loss : kind ≡ 2 → readText t ≡ accepted N
-        → numbered (toBits binary64) (onState N a (lossIn N a)) ≡ asked kind t a b
+        → numbered (toBits binary64) (lossCall N a) ≡ asked kind t a b
     unfolding asked textLoss onRecords
     asked-loss e so = rw (e, so)
 
@@ -79,9 +81,9 @@ pub search-no-nan : (N : Network) (out : List ℕ) (x : Answer Result) → x ≡
 unfolding solved solvedBy called result resultBy
 search-no-nan N out x e =
     let room = checkRoom (length (best N .state)) (length out) in
-    let bits : checkRecords N ≡ accepted tt → T (not (isNan (lossIn N (best N .state)))) = λ ok. loss-finite N ok (best N .state) .2 in
+    let bits : checkNetwork N ≡ accepted tt → T (not (isNan (lossIn N (best N .state)))) = λ ok. loss-finite N (network-records N ok) (best N .state) .2 in
     subst (λ y. NoNan (lossOf y)) (sym e)
-    (bits-if-accepted (checkRecords N andThen room) (result N) (best N .state) out (λ ok. bits (then-iff (checkRecords N) room .0 ok .0)))
+    (bits-if-accepted (checkNetwork N andThen room) (result N) (best N .state) out (λ ok. bits (then-iff (checkNetwork N) room .0 ok .0)))
 
 -- ---- the rounds
 pub in-even : (i : ℕ) (x y : List ℕ) → i % 2 ≡ 0 → x ≡ cond (eqb (i % 2) 0) x y

@@ -3,13 +3,13 @@ ghost use mathlib.Core.Path.{_≡_};
 ghost use lib.Ieee.{binary64, toBits};
 ghost use lib.ListN.{replicate};
 ghost use Rattle.network.specs.Answers.{accepted};
-ghost use Rattle.states.specs.Live.{onState};
 ghost use Rattle.network.specs.Records.{recordsOf};
 ghost use Rattle.printing.specs.Lengths.{planLength};
 ghost use Rattle.printing.specs.Printed.{truthByte};
 ghost use Rattle.frames.specs.Text.{readText};
-ghost use Rattle.radiality.specs.Feeder.{radialIn};
-ghost use Rattle.losses.specs.Loss.{lossIn};
+ghost use Rattle.feeders.specs.Feeder.{radialIn};
+ghost use Rattle.feeders.specs.StateCalls.{onState};
+ghost use Rattle.losses.specs.LossCall.{lossCall};
 ghost use Rattle.plan.specs.Plan.{planned};
 ghost use Rattle.controller.specs.Calls.{numbered, onRecords};
 ghost use Rattle.timing.specs.Rounds.{valueOf, recordCount, searchValue};
@@ -53,7 +53,7 @@ pub(crate) fn radiality(network: PowerNetwork, state: &[u8]) -> u64
 
 // The bits of a loss.
 pub(crate) fn loss(network: PowerNetwork, state: &[u8]) -> u64
-    ensures { λ r. ⌜ r ≡ valueOf (numbered (toBits binary64) (onState (recordsOf network) (now (state .entry)) (lossIn (recordsOf network) (now (state .entry))))) ⌝ }
+    ensures { λ r. ⌜ r ≡ valueOf (numbered (toBits binary64) (lossCall (recordsOf network) (now (state .entry)))) ⌝ }
 {
     match evaluate_config(network, state) {
         LossAnswer::Refused { number, place } => 0,

@@ -1,6 +1,6 @@
-// What the letter of a case does to the records once they are read: A (65) to P (80) give them a fault (O, an eleventh tie, with method 02 only), Q (81) and R (82) put
+// What the letter of a case does to the records once they are read: A (65) to P (80) give them a fault (O, an eleventh tie, with method 02 or a supply only), Q (81) and R (82) put
 // records behind the counts that would be refused if they were listed, R with fewer listed than were read, S (83) lists more of each kind, T (84) gives the first of
-// each kind values from the ends of their ranges.
+// each kind values from the ends of their ranges. U (85) makes 3 the number of the supply, V (86) says that there is one, W (87) that there is none.
 use network::branch::Branch;
 use network::bus::Bus;
 use network::bus::Power;
@@ -30,6 +30,9 @@ pub(crate) fn changed(mut network: PowerNetwork, change: u8) -> PowerNetwork {
         82 => return unlisted(with_counts(network, 2, 2, 1)),
         83 => return with_counts(network, 4, 4, 3),
         84 => return with_ends(network),
+        85 => network.supply = 3,
+        86 => network.has_supply = true,
+        87 => network.has_supply = false,
         _ => return network,
     }
     network

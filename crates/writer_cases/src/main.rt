@@ -5,8 +5,9 @@
 mod changes;
 
 ghost use mathlib.Core.Path.{_≡_};
-ghost use Prim.Native.Nat.{_≤_};
+ghost use Prim.Native.Nat.{_+_, _≤_};
 ghost use lib.ListN.{length};
+ghost use Rattle.frames.specs.Lengths.{longestText};
 use cases::first_case;
 use cases::line_behind;
 use cases::part_of;
@@ -16,10 +17,9 @@ use libc::STDOUT_FILENO;
 use network::error::Verdict;
 use network::topology::PowerNetwork;
 use numbers::at_most;
+use texts::writer::LONGEST_TEXT;
 use texts::writer::WriteAnswer;
 use texts::writer::write_text;
-
-const LONGEST_TEXT: usize = 27429;
 
 // How much longer the last slice is than the text that was read.
 const LONGER: usize = 80;
@@ -28,7 +28,7 @@ const MOST_ROOM: usize = LONGEST_TEXT + LONGER;
 
 // A dot for each byte.
 fn dots() -> [u8; MOST_ROOM]
-    ensures { λ r. ⌜ 27509 ≡ length r ⌝ }
+    ensures { λ r. ⌜ longestText + 80 ≡ length r ⌝ }
 {
     [46; MOST_ROOM]
 }
@@ -81,13 +81,13 @@ fn print_slice(out: &[u8], text: &[u8]) {
 
 // The first bytes were lent.
 fn print_first(bytes: [u8; MOST_ROOM], room: usize, text: &[u8])
-    requires { ⌜ room ≤ 27509 ⌝ }
+    requires { ⌜ room ≤ longestText + 80 ⌝ }
 {
     print_slice(&bytes[0..room], text);
 }
 
 fn print_answer(network: PowerNetwork, room: usize, name: &[u8], text: &[u8])
-    requires { ⌜ room ≤ 27509 ⌝ }
+    requires { ⌜ room ≤ longestText + 80 ⌝ }
 {
     let mut out = dots();
     io::write_all(STDOUT_FILENO, name);
@@ -139,10 +139,10 @@ fn print_cases(input: &[u8]) {
 }
 
 // Room for all cases.
-fn buffer() -> [u8; 196608]
-    ensures { λ r. ⌜ 196608 ≡ length r ⌝ }
+fn buffer() -> [u8; 212992]
+    ensures { λ r. ⌜ 212992 ≡ length r ⌝ }
 {
-    [0; 196608]
+    [0; 212992]
 }
 
 fn main() {

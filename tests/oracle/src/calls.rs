@@ -5,11 +5,12 @@
 use crate::cases::{Case, Cases};
 use crate::compare::Right;
 use crate::driver::Original;
+use crate::feeder::Feeder;
 use crate::random::Random;
 use crate::reckoning::plan::{self, plan, well_formed};
 use crate::reckoning::{judge, reader, searches, Network, Refusal};
 use crate::states::{any_plan, any_state, near, OPERATION_LENGTH};
-use crate::{damage, shapes};
+use crate::{damage, shapes, supplied, supply};
 
 /// One question of a program under test.
 struct Question {
@@ -44,9 +45,12 @@ const CALLS: [(char, Call, &str); 5] = [
 
 /// What an answered call prints: its fields, and what it writes into the slice.
 struct Answer {
+    result: &'static str,
     fields: String,
     written: String,
 }
+
+const ANSWERED: &str = "answered";
 
 /// What the program is to print for a question, and which answer or refusal that is.
 struct Printed {
@@ -87,6 +91,11 @@ pub fn questions(count: usize, seed: u64) -> impl Iterator<Item = Vec<u8>> + Sen
     (0..count).map(move |number| any_question(&mut Random::new(seed, "questions", number), number))
 }
 
+/// The same of texts with the 05 line.
+pub fn questions_with_line(count: usize, seed: u64) -> impl Iterator<Item = Vec<u8>> + Send {
+    (0..count).map(move |number| any_question_with_line(&mut Random::new(seed, "05 line: questions", number), number))
+}
+
 /// A question for each accepted text: it is to be written back into a slice as long as it, or up to two bytes longer.
 pub fn written_back(texts: Cases) -> impl Iterator<Item = Vec<u8>> + Send {
     texts.map(|case| case.text).filter(|text| reader::read(text).is_ok()).enumerate().map(|(number, text)| {
@@ -96,7 +105,7 @@ pub fn written_back(texts: Cases) -> impl Iterator<Item = Vec<u8>> + Send {
 }
 
 /// The questions in runs of the program, each of one to so many, and of no more bytes than the program has room for.
-pub fn runs(questions: impl Iterator<Item = Vec<u8>> + Send + 'static) -> Cases {
+pub fn runs(kind: &'static str, questions: impl Iterator<Item = Vec<u8>> + Send + 'static) -> Cases {
     const MOST: usize = 20;
     const MOST_BYTES: usize = 200_000;
     let mut questions = questions.peekable();
@@ -108,7 +117,7 @@ pub fn runs(questions: impl Iterator<Item = Vec<u8>> + Send + 'static) -> Cases 
             text.extend(next);
         }
         number += 1;
-        Some(Case { kind: "questions", text })
+        Some(Case { kind, text })
     }))
 }
 
@@ -121,11 +130,30 @@ fn any_question(random: &mut Random, number: usize) -> Vec<u8> {
     };
     let text = if random.percent(3) { damage::damaged(random) } else { feeder.text() };
     let network = reader::read(&text).or(reader::read(&feeder.text())).expect("shapes are acceptable");
+    asked(random, (letter, call), number, text, &network)
+}
+
+/// Half of them are on states, whose loss has a refusal of its own.
+fn any_question_with_line(random: &mut Random, number: usize) -> Vec<u8> {
+    let (letter, call, _) = CALLS[random.pick(&[0, 0, 0, 1, 2, 3])];
+    let full: fn(&mut Random) -> Feeder = |random| shapes::full_size(random, 0, 10, 100);
+    let large = call != Call::Best && random.percent(2);
+    let make = if large { full } else { supplied::any_shape(random) };
+    let feeder = supplied::feeder(random, make);
+    let text = if random.percent(3) { damage::damaged_with_line(random) } else { feeder.text() };
+    // Where the line is refused the states are those of the feeder without it.
+    let without = Feeder { supply: None, ..feeder };
+    let network = reader::read(&text).or(reader::read(&without.text())).expect("shapes are acceptable");
+    asked(random, (letter, call), number, text, &network)
+}
+
+fn asked(random: &mut Random, listed: (char, Call), number: usize, text: Vec<u8>, network: &Network) -> Vec<u8> {
+    let (letter, call) = listed;
     let (present, wanted, room) = match call {
-        Call::State => (any_state(random, &network), Vec::new(), 0),
+        Call::State => (any_state(random, network), Vec::new(), 0),
         Call::Best => (Vec::new(), Vec::new(), near(random, network.switches.len())),
-        Call::Operations => any_operations(random, &network),
-        Call::Plan => any_plan(random, &network),
+        Call::Operations => any_operations(random, network),
+        Call::Plan => any_plan(random, network),
         Call::Text => unreachable!("each text of a set is asked for"),
     };
     let name = format!("{letter}{number}");
@@ -163,7 +191,7 @@ impl Question {
     fn printed(&self) -> Printed {
         let answer = reader::read(&changed(&self.text, self.change)).and_then(|network| self.answer(&network));
         let (result, fields, written) = match answer {
-            Ok(answer) => ("answered".to_string(), answer.fields, answer.written),
+            Ok(answer) => (answer.result.to_string(), answer.fields, answer.written),
             Err(Refusal { number, place }) => (format!("refused {number}"), self.refusal(number, place), String::new()),
         };
         let slice = match self.call {
@@ -203,35 +231,40 @@ fn refused_unless(holds: bool, number: u8, place: u16) -> Result<(), Refusal> {
 fn state_answer(network: &Network, state: &[u8]) -> Result<Answer, Refusal> {
     refused_unless(well_formed(network, state), 10, 0)?;
     let original = Original::new(network);
-    let fields = format!(" {:02x} {:016x}", original.radial(state) as u8, original.loss(state).to_bits());
-    Ok(Answer { fields, written: String::new() })
+    let radial = original.radial(state);
+    let (result, loss) = match network.supply {
+        Some(_) if !radial => ("radiality answered, loss refused 11", "refused 11 0".to_string()),
+        _ => (ANSWERED, format!("{:016x}", supply::loss(network, state).to_bits())),
+    };
+    Ok(Answer { result, fields: format!(" {:02x} {loss}", radial as u8), written: String::new() })
 }
 
-/// The fields of the original's 81 line.
+/// The fields of the 81 line.
 fn best_answer(network: &Network) -> Answer {
-    let answer = Original::new(network).solve();
+    let answer = supply::solve(network);
     let ends = [2, 4, 20, 36, 52, 56, 58];
     let fields = ends.windows(2).map(|field| format!(" {}", answer.lines[field[0]..field[1]].to_ascii_lowercase()));
-    Answer { fields: fields.collect(), written: digits(&answer.best) }
+    Answer { result: ANSWERED, fields: fields.collect(), written: digits(&answer.best) }
 }
 
 fn operations_answer(network: &Network, present: &[u8], wanted: &[u8]) -> Result<Answer, Refusal> {
     refused_unless(well_formed(network, present), 10, 0)?;
     refused_unless(well_formed(network, wanted), 10, 1)?;
     let written = searches::operations(network, present, wanted);
-    Ok(Answer { fields: format!(" {:04x}", written.len() / OPERATION_LENGTH), written })
+    Ok(Answer { result: ANSWERED, fields: format!(" {:04x}", written.len() / OPERATION_LENGTH), written })
 }
 
 fn plan_answer(network: &Network, present: &[u8], wanted: &[u8]) -> Result<Answer, Refusal> {
     let pairs = plan(network, present, wanted, usize::MAX)?;
     assert_eq!(judge::fault(network, present, wanted, &pairs), None, "the judge refuses the reckoning's plan");
-    Ok(Answer { fields: format!(" {:04x}", pairs.len()), written: plan::lines(network, &pairs) })
+    let written = plan::lines(network, &pairs);
+    Ok(Answer { result: ANSWERED, fields: format!(" {:04x}", pairs.len()), written })
 }
 
 /// An accepted text is the only one of its records.
 fn text_answer(text: Vec<u8>) -> Answer {
     let written = String::from_utf8(text).expect("an accepted text has digits and line feeds");
-    Answer { fields: format!(" {:04x}", written.len()), written }
+    Answer { result: ANSWERED, fields: format!(" {:04x}", written.len()), written }
 }
 
 /// Document 01: "Records handed over without text are checked as their lines would be." The text of the records with the

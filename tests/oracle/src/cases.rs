@@ -19,20 +19,50 @@ pub struct Size {
     pub three_buses: usize,
     pub full: usize,
     pub questions: usize,
+    /// The same with the 05 line.
+    pub with_line: WithLine,
+}
+
+#[derive(Clone, Copy)]
+pub struct WithLine {
+    pub few_buses: usize,
+    pub each_shape: usize,
+    pub damaged: usize,
+    pub full: usize,
+    pub questions: usize,
 }
 
 impl Size {
     pub fn named(name: &str) -> Option<Self> {
         match name {
-            "small" => Some(Size { each_shape: 250, damaged: 4_000, three_buses: 2_000, full: 3, questions: 20_000 }),
-            "large" => {
-                Some(Size { each_shape: 10_000, damaged: 200_000, three_buses: 200_000, full: 30, questions: 200_000 })
-            }
+            "small" => Some(Size {
+                each_shape: 250,
+                damaged: 4_000,
+                three_buses: 2_000,
+                full: 3,
+                questions: 20_000,
+                with_line: WithLine { few_buses: 600, each_shape: 40, damaged: 500, full: 3, questions: 2_000 },
+            }),
+            "large" => Some(Size {
+                each_shape: 10_000,
+                damaged: 200_000,
+                three_buses: 200_000,
+                full: 30,
+                questions: 200_000,
+                with_line: WithLine {
+                    few_buses: 30_000,
+                    each_shape: 2_000,
+                    damaged: 30_000,
+                    full: 12,
+                    questions: 50_000,
+                },
+            }),
             _ => None,
         }
     }
 }
 
+/// The set without the 05 line.
 pub fn cases(size: Size, seed: u64) -> Cases {
     let fixed = named("limits", limits::texts().into_iter())
         .chain(named("strings of up to 3 bytes", short::strings()))
@@ -47,11 +77,11 @@ pub fn cases(size: Size, seed: u64) -> Cases {
     Box::new(fixed.chain(seeded))
 }
 
-fn named(kind: &'static str, texts: impl Iterator<Item = Vec<u8>> + Send) -> impl Iterator<Item = Case> + Send {
+pub fn named(kind: &'static str, texts: impl Iterator<Item = Vec<u8>> + Send) -> impl Iterator<Item = Case> + Send {
     texts.map(move |text| Case { kind, text })
 }
 
-fn seeded(
+pub fn seeded(
     kind: &'static str,
     count: usize,
     seed: u64,

@@ -1,4 +1,4 @@
-//! Document 01's worked examples on the original, and document 01's steps against the original.
+//! Document 01's worked examples on the original, those of document 02's Point 2, and document 01's steps against the original.
 
 use crate::cases::{Case, Cases};
 use crate::driver::Original;
@@ -7,10 +7,11 @@ use crate::feeder::{triangle, Feeder, OPERABLE, TIE};
 use crate::reckoning::searches::Searches;
 use crate::reckoning::{judge, plan, reader, Network, Refusal, CLOSED, OPEN};
 use crate::shapes::SHAPES;
+use crate::supply;
 
 const TRIANGLE: &str = "810140100000000000003FF00000000000004052C00000000000000201\n82000A00\n82000B01\n83000B000A\n";
 
-/// The triangle's four lines, the section Triangle's marked cases and the refusal table's examples.
+/// The triangle's four lines, the section Triangle's marked cases, the refusal table's examples, and the 05 line's.
 pub fn worked_examples() -> bool {
     let mut failed = 0;
     let mut check = |name: &str, holds: bool| {
@@ -21,13 +22,19 @@ pub fn worked_examples() -> bool {
     for (name, feeder, state, radial, loss) in states() {
         let network = network(&feeder);
         let original = Original::new(&network);
-        check(name, original.radial(&state) == radial && loss.is_none_or(|loss| original.loss(&state) == loss));
+        check(
+            name,
+            original.radial(&state) == radial && loss.is_none_or(|loss| supply::loss(&network, &state) == loss),
+        );
     }
     for (name, feeder, line) in searches() {
         check(name, expected(&feeder.text()).output().starts_with(&line));
     }
     for (name, text, line) in refusals() {
         check(name, expected(&text).output() == line);
+    }
+    for (name, feeder, output) in supplies() {
+        check(name, expected(&feeder).output() == output);
     }
     for (name, found, line) in plan_refusals() {
         check(name, found.is_err_and(|refusal| refusal.line() == line));
@@ -49,8 +56,8 @@ fn states() -> Vec<StateCase> {
         ends.iter().for_each(|&(from, to)| feeder.branch(from, to, 0.5));
         feeder
     };
-    let mut turned = triangle();
-    (turned.branches[0].from, turned.branches[0].to) = (2, 1);
+    let turned = turned_triangle();
+    let supplied = |supply, feeder: Feeder| Feeder { supply: Some(supply), ..feeder };
     vec![
         ("no buses: radial, loss 0", buses(0, &[]), vec![], true, Some(0.0)),
         ("one bus: radial", buses(1, &[]), vec![], true, None),
@@ -60,7 +67,36 @@ fn states() -> Vec<StateCase> {
         ("triangle base loss 4", triangle(), vec![0, 1], true, Some(4.0)),
         ("exchanged 1", triangle(), vec![1, 0], true, Some(1.0)),
         ("all closed: not radial, loss 5.6875", triangle(), vec![0, 0], false, Some(5.6875)),
-        ("branch 0 turned: base loss 1.75", turned, vec![0, 1], true, Some(1.75)),
+        ("branch 0 turned: base loss 1.75", turned.clone(), vec![0, 1], true, Some(1.75)),
+        ("supply 1: base loss 4", supplied(1, triangle()), vec![0, 1], true, Some(4.0)),
+        ("branch 0 turned, supply 1: base loss 4", supplied(1, turned.clone()), vec![0, 1], true, Some(4.0)),
+        ("supply 2: base loss 1.75", supplied(2, triangle()), vec![0, 1], true, Some(1.75)),
+        ("branch 0 turned, supply 3: base loss 0.4375", supplied(3, turned), vec![0, 1], true, Some(0.4375)),
+    ]
+}
+
+/// Document 01's triangle with branch 0 drawn the other way.
+fn turned_triangle() -> Feeder {
+    let mut turned = triangle();
+    (turned.branches[0].from, turned.branches[0].to) = (2, 1);
+    turned
+}
+
+/// Texts with the 05 line and what is printed.
+fn supplies() -> Vec<(&'static str, Vec<u8>, &'static str)> {
+    let with = |supply, feeder: Feeder| Feeder { supply: Some(supply), ..feeder }.text();
+    let empty = Feeder { base_mva: 1.0, ..Feeder::default() };
+    let mut looped = triangle();
+    looped.switches[1].flags = OPERABLE;
+    let stays = "81013FDC0000000000003FDC0000000000000000000000000000000101\n";
+    vec![
+        ("branch 0 turned, supply 1: document 01's four lines", with(1, turned_triangle()), TRIANGLE),
+        ("supply 3: base loss 0.4375, nothing is moved", with(3, triangle()), stays),
+        ("14: supply 9 of buses 1 to 3", with(9, triangle()), "8F0E000A\n"),
+        ("14: no buses", with(1, empty), "8F0E0002\n"),
+        ("15: triangle all closed", with(1, looped.clone()), "8F0F000A\n"),
+        ("14 before 15", with(9, looped), "8F0E000A\n"),
+        ("2: a second 05 line", [with(1, triangle()), b"050001\n".to_vec()].concat(), "8F02000B\n"),
     ]
 }
 
@@ -140,10 +176,10 @@ fn plan_refusals() -> Vec<PlanCase> {
     ]
 }
 
-/// The reckoned steps, loss and radiality (two ways) against the original on every accepted text of a set; the reader's
-/// verdict against what it must be whatever the text.
+/// The reckoned steps, loss and radiality (two ways) against the original on every accepted text of a set; the same steps with the
+/// original's loss, which give the answers with a supply; the reader's verdict against what it must be whatever the text.
 pub fn agree(cases: Cases) -> bool {
-    let (mut agreed, mut refused) = (0, 0);
+    let (mut agreed, mut supplied, mut refused) = (0, 0, 0);
     for case in cases {
         let right = expected(&case.text);
         if !verdict_holds(&case, &right) {
@@ -159,7 +195,7 @@ pub fn agree(cases: Cases) -> bool {
         let lines = steps.lines(&steps.solve());
         let count = network.switches.len();
         let states = [network.base(), answered.best.clone(), vec![CLOSED; count], vec![OPEN; count]];
-        if lines != answered.search || !states_agree(network, &states) {
+        if lines != answered.search || supply::stepped(network).lines != lines || !states_agree(network, &states) {
             println!(
                 "{}: document 01's steps differ from the original on\n{}",
                 case.kind,
@@ -169,8 +205,11 @@ pub fn agree(cases: Cases) -> bool {
             return false;
         }
         agreed += 1;
+        supplied += network.supply.is_some() as usize;
     }
-    println!("{refused} refused texts; {agreed} accepted texts: document 01's steps and the original agree");
+    println!(
+        "{refused} refused texts; {agreed} accepted texts, {supplied} with a supply: document 01's steps and the original agree"
+    );
     true
 }
 
@@ -209,14 +248,23 @@ fn written(network: &Network) -> Vec<u8> {
         let operable = if switch.can_operate { OPERABLE } else { 0 };
         feeder.switch(switch.id, switch.branch, operable | if switch.normally_open { TIE } else { 0 });
     }
+    feeder.supply = network.supply.map(id);
     feeder.text()
 }
 
+/// With a supply only a radial state has a loss, and that whichever way its branches are drawn.
 fn states_agree(network: &Network, states: &[Vec<u8>]) -> bool {
     let (original, steps) = (Original::new(network), Searches::new(network, None));
+    let mut turned = network.clone();
+    turned.branches.iter_mut().for_each(|branch| (branch.from, branch.to) = (branch.to, branch.from));
     states.iter().all(|state| {
         let live = network.live(state);
         let radial = [original.radial(state), plan::radial(network, &live), judge::tree(network, &live)];
-        radial.iter().all(|&one| one == radial[0]) && original.loss(state).to_bits() == steps.loss(state).to_bits()
+        let same = |other: f64| other.to_bits() == supply::loss(network, state).to_bits();
+        radial.iter().all(|&one| one == radial[0])
+            && match network.supply {
+                None => same(steps.loss(state)) && same(original.loss(state)),
+                Some(_) => !radial[0] || (same(steps.loss(state)) && same(supply::loss(&turned, state))),
+            }
     })
 }

@@ -4,6 +4,7 @@
 use crate::cases::{Case, Cases};
 use crate::expected::{Answered, Expected};
 use crate::program::Running;
+use crate::supplied;
 use std::collections::BTreeMap;
 use std::sync::atomic::{AtomicBool, Ordering};
 use std::sync::Mutex;
@@ -50,6 +51,11 @@ impl Tally {
 
     pub fn total(&self) -> usize {
         self.kinds.iter().map(|(_, count)| count).sum()
+    }
+
+    /// How many are of the kinds with the 05 line.
+    fn with_line(&self) -> usize {
+        self.kinds.iter().filter(|(kind, _)| kind.starts_with(supplied::LINE)).map(|(_, count)| count).sum()
     }
 }
 
@@ -125,7 +131,8 @@ pub fn compare<R: Right>(compared: Compared<R>, program: &[String], workers: usi
     println!("{}", tally.lines());
     match first.into_inner().expect("the workers are done") {
         None => {
-            println!("{} {name} compared, no difference", tally.total());
+            let with_line = tally.with_line();
+            println!("{} {name} and {with_line} with the 05 line compared, no difference", tally.total() - with_line);
             true
         }
         Some(difference) => {

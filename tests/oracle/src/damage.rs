@@ -2,6 +2,7 @@
 
 use crate::random::Random;
 use crate::shapes::SHAPES;
+use crate::supplied;
 
 type Damage = fn(&mut Random, &mut Vec<Vec<u8>>);
 
@@ -18,14 +19,31 @@ const GOOD: usize = 10;
 
 /// A good text with one to three damages. Some stay acceptable.
 pub fn damaged(random: &mut Random) -> Vec<u8> {
-    let text = (SHAPES[random.below(GOOD)].make)(random).text();
-    let mut lines: Vec<Vec<u8>> = text.split_inclusive(|&c| c == b'\n').map(<[u8]>::to_vec).collect();
+    let mut lines = lines((SHAPES[random.below(GOOD)].make)(random).text());
+    damage(random, &mut lines);
+    lines.concat()
+}
+
+/// A text with the 05 line, the damages half of the time to that line alone.
+pub fn damaged_with_line(random: &mut Random) -> Vec<u8> {
+    let shape = &SHAPES[random.below(GOOD)];
+    let mut before = lines(supplied::feeder(random, shape.make).text());
+    let kept = if random.percent(50) { before.len() - 1 } else { 0 };
+    let mut rest = before.split_off(kept);
+    damage(random, &mut rest);
+    [before.concat(), rest.concat()].concat()
+}
+
+fn lines(text: Vec<u8>) -> Vec<Vec<u8>> {
+    text.split_inclusive(|&c| c == b'\n').map(<[u8]>::to_vec).collect()
+}
+
+fn damage(random: &mut Random, lines: &mut Vec<Vec<u8>>) {
     for _ in 0..random.pick(&[1, 1, 1, 2, 3]) {
         if !lines.is_empty() {
-            random.pick(&DAMAGES)(random, &mut lines);
+            random.pick(&DAMAGES)(random, lines);
         }
     }
-    lines.concat()
 }
 
 /// A line, the later ones as likely as the first.

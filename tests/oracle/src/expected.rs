@@ -1,8 +1,10 @@
-//! What `feeder` is to print: the original's 81 and 82 lines, the reckoning's 83 lines or its one 8F line.
+//! What `feeder` is to print: the original's 81 and 82 lines (with a supply, those of the steps with its loss), the reckoning's 83
+//! lines or its one 8F line.
 
 use crate::driver::Original;
 use crate::reckoning::plan::{self, Pair};
 use crate::reckoning::{judge, reader, Network, Refusal};
+use crate::supply;
 
 /// The expected output, in the parts that come from different sources.
 pub enum Expected {
@@ -12,7 +14,7 @@ pub enum Expected {
 
 pub struct Answered {
     pub network: Network,
-    /// The original's 81 line and 82 lines.
+    /// The 81 line and the 82 lines.
     pub search: String,
     pub best: Vec<u8>,
     /// The plan from the base to the best state; none when the base isn't radial.
@@ -25,7 +27,7 @@ pub fn expected(text: &[u8]) -> Expected {
         Ok(network) => network,
     };
     let original = Original::new(&network);
-    let answer = original.solve();
+    let answer = supply::solve(&network);
     let base = network.base();
     let radial_base = judge::tree(&network, &network.live(&base));
     assert_eq!(radial_base, original.radial(&base), "the original and the judge disagree on the base");

@@ -33,6 +33,8 @@ pub struct Feeder {
     pub buses: Vec<BusLine>,
     pub branches: Vec<BranchLine>,
     pub switches: Vec<SwitchLine>,
+    /// The bus that the 05 line names.
+    pub supply: Option<u16>,
 }
 
 impl Feeder {
@@ -44,6 +46,7 @@ impl Feeder {
             self.branches.iter().map(|b| format!("03{:04X}{:04X}{:016X}{:02X}", b.from, b.to, b.r.to_bits(), b.status)),
         );
         lines.extend(self.switches.iter().map(|s| format!("04{:04X}{:04X}{:02X}", s.id, s.branch, s.flags)));
+        lines.extend(self.supply.map(supply_line));
         lines
     }
 
@@ -71,6 +74,11 @@ impl Feeder {
 pub fn head_line(counts: [usize; 3], base_mva: f64, method: u8, iterations: u16) -> String {
     let [buses, branches, switches] = counts;
     format!("01{buses:04X}{branches:04X}{switches:04X}{:016X}{method:02X}{iterations:04X}", base_mva.to_bits())
+}
+
+/// Document 02, Point 2: "One optional last line, kind 05 and a bus id (u16), names the supply."
+pub fn supply_line(id: u16) -> String {
+    format!("05{id:04X}")
 }
 
 /// Each line with its line feed.

@@ -24,6 +24,10 @@ pub fn texts() -> Vec<Vec<u8>> {
 
 /// The triangle of document 01 with each method and number of rounds, turned, and its small relatives.
 fn triangles() -> Vec<Vec<u8>> {
+    triangle_feeders().iter().map(Feeder::text).collect()
+}
+
+pub fn triangle_feeders() -> Vec<Feeder> {
     let mut feeders = Vec::new();
     for (method, iterations) in [(0, 100), (0, 0), (0, 1), (0, 2), (0, 3), (1, 100), (1, 0), (2, 100), (2, 0)] {
         feeders.push(Feeder { method, iterations, ..triangle() });
@@ -35,7 +39,7 @@ fn triangles() -> Vec<Vec<u8>> {
         feeders.push(all_closed);
     }
     feeders.extend(small_relatives());
-    feeders.iter().map(Feeder::text).collect()
+    feeders
 }
 
 /// No bus; one bus; its own loop; two buses with one branch, with two, with none.
@@ -67,7 +71,7 @@ fn small_relatives() -> Vec<Feeder> {
 }
 
 /// `buses` buses in a row, `branches` branches (parallels where there are more), `switches` switches on the first ones.
-fn row(buses: usize, branches: usize, switches: usize) -> Feeder {
+pub fn row(buses: usize, branches: usize, switches: usize) -> Feeder {
     let mut feeder = Feeder { base_mva: 1.0, method: 0, iterations: 1, ..Feeder::default() };
     (0..buses).for_each(|i| feeder.bus(i as u16, 0.1));
     for k in 0..branches {
@@ -145,7 +149,7 @@ fn meanings() -> Vec<Vec<u8>> {
 
 /// What may stand behind the last line.
 #[rustfmt::skip]
-const SURPLUS: [&[u8]; 16] = [
+pub const SURPLUS: [&[u8]; 16] = [
     b"\n", b"\n\n", b"0", b"0\n", b"00", b"00\n", b"G\n", b"GG\n", b"GG", b" ", b"\r\n", b"04000C000002\n",
     b"04000C000002", b"05000A\n", b"0400\n\n", b"\0",
 ];
@@ -192,7 +196,7 @@ fn characters() -> Vec<Vec<u8>> {
 
 /// Lines of the triangle with all their faults at once, then with fewer.
 #[rustfmt::skip]
-const FAULTY: [(usize, &[&str]); 4] = [
+pub const FAULTY: [(usize, &[&str]); 4] = [
     (0, &["0101010003000200000000000000000303E9", "0101010003000200000000000000000003E8",
         "010003000300020000000000000000000064"]),
     (2, &["0200017FF0000000000000", "0200013FF0000000000000", "0200027FF0000000000000"]),

@@ -5,10 +5,12 @@
 use crate::cases::{cases, Case, Size};
 use crate::compare::Tally;
 use crate::expected::{expected, Expected};
+use crate::supplied;
 use crate::wrong::{self, Mistake};
 
-/// How many texts are kept of a kind (evenly chosen), for each mistake and of each refusal number.
+/// How many texts are kept of a kind (evenly chosen; with the 05 line fewer), for each mistake and of each refusal number.
 const OF_A_KIND: usize = 35;
+const OF_A_KIND_WITH_LINE: usize = 12;
 const FOR_A_MISTAKE: usize = 3;
 const OF_A_REFUSAL: usize = 10;
 /// Texts that are longer need a length of more than 16 bits in a program that replays the list.
@@ -16,10 +18,11 @@ const LONGEST: usize = 0x7FFF;
 
 pub fn list(seed: u64) -> Vec<u8> {
     let size = Size::named("small").expect("a size");
-    let all: Vec<Case> = cases(size, seed).filter(|case| case.text.len() <= LONGEST).collect();
+    let cases = cases(size, seed).chain(supplied::cases(size, seed));
+    let all: Vec<Case> = cases.filter(|case| case.text.len() <= LONGEST).collect();
     let mut tally = Tally::default();
     let mut unseen: Vec<(Mistake, usize)> = wrong::all().into_iter().map(|mistake| (mistake, 0)).collect();
-    let mut refusals = [0; 14];
+    let mut refusals = [0; 16];
     let mut list = Vec::new();
     for (case, evenly) in all.iter().zip(evenly_chosen(&all)) {
         let right = expected(&case.text);
@@ -42,7 +45,8 @@ fn evenly_chosen(all: &[Case]) -> Vec<bool> {
     all.iter()
         .map(|case| {
             if case.kind != kind.0 {
-                kind = (case.kind, of_kind(case.kind).div_ceil(OF_A_KIND), 0);
+                let most = if case.kind.starts_with(supplied::LINE) { OF_A_KIND_WITH_LINE } else { OF_A_KIND };
+                kind = (case.kind, of_kind(case.kind).div_ceil(most), 0);
             }
             kind.2 += 1;
             (kind.2 - 1) % kind.1 == 0

@@ -1,4 +1,4 @@
-//! The oracle: the original Rust and an independent reckoning of document 01, against a program under test.
+//! The oracle: the original Rust and an independent reckoning of documents 01 and 02, against a program under test.
 
 mod calls;
 mod cases;
@@ -19,6 +19,8 @@ mod records;
 mod shapes;
 mod short;
 mod states;
+mod supplied;
+mod supply;
 mod values;
 mod wrong;
 
@@ -36,7 +38,7 @@ const USAGE: &str = "usage:
   oracle compare-written SIZE SEED PROGRAM [ARG]
                                            runs the program on the accepted texts of the set, to be written back
   oracle check                             document 01's worked examples, on the original
-  oracle agree SIZE SEED                   document 01's steps, as reckoned, against the original
+  oracle agree SIZE SEED                   the steps of documents 01 and 02, as reckoned, against the original
   oracle flat                              the original's sensitivities at flat voltage
   oracle findings                          where the original's comments are not what its code does
   oracle wrong NAME                        text on standard input: the output of a program with that mistake
@@ -58,13 +60,11 @@ fn main() -> ExitCode {
             compare::compare(texts, &arguments[3..], workers())
         }
         ["compare-calls", size, seed, _, ..] => {
-            let cases = calls::runs(calls::questions(named(size).questions, number(seed)));
-            let questions = Compared { name: "questions", cases, expected: calls::expected };
+            let questions = Compared { name: "questions", cases: questions(size, seed), expected: calls::expected };
             compare::compare(questions, &arguments[3..], workers())
         }
         ["compare-written", size, seed, _, ..] => {
-            let cases = calls::runs(calls::written_back(set(size, seed)));
-            let texts = Compared { name: "texts written back", cases, expected: calls::expected };
+            let texts = Compared { name: "texts written back", cases: written_back(size, seed), expected: calls::expected };
             compare::compare(texts, &arguments[3..], workers())
         }
         ["check"] => check::worked_examples(),
@@ -92,8 +92,26 @@ fn main() -> ExitCode {
     }
 }
 
+/// The texts without the 05 line, then those with it.
 fn set(size: &str, seed: &str) -> cases::Cases {
-    cases::cases(named(size), number(seed))
+    let (size, seed) = (named(size), number(seed));
+    Box::new(cases::cases(size, seed).chain(supplied::cases(size, seed)))
+}
+
+/// Questions on texts without the 05 line, then on those with it.
+fn questions(size: &str, seed: &str) -> cases::Cases {
+    let (size, seed) = (named(size), number(seed));
+    let before = calls::runs("questions", calls::questions(size.questions, seed));
+    let with_line = calls::questions_with_line(size.with_line.questions, seed);
+    Box::new(before.chain(calls::runs("05 line: questions", with_line)))
+}
+
+/// The accepted texts of the set, to be written back.
+fn written_back(size: &str, seed: &str) -> cases::Cases {
+    let (size, seed) = (named(size), number(seed));
+    let before = calls::runs("texts written back", calls::written_back(cases::cases(size, seed)));
+    let with_line = calls::written_back(supplied::cases(size, seed));
+    Box::new(before.chain(calls::runs("05 line: texts written back", with_line)))
 }
 
 fn named(size: &str) -> Size {

@@ -37,6 +37,16 @@ pub enum Reading {
     NegativeZeroRefused,
     RangeEndsRefused,
     CutAtLongestText,
+    FifteenFirst,
+    FifteenByStatusAlone,
+    LineDemanded,
+    LineLeftOut,
+    SecondLineTaken,
+    LineOfEightTaken,
+    LineAnywhere,
+    SurplusBeforeSupply,
+    SupplyZeroIsNone,
+    CutBehindLine,
 }
 
 /// Mistakes in the 83 lines.
@@ -67,7 +77,7 @@ pub enum Print {
     RefusesAll,
 }
 
-const READING: [Reading; 19] = [
+const READING: [Reading; 29] = [
     Reading::LowerCaseTaken,
     Reading::CarriageReturnTaken,
     Reading::UnendedLastLineTaken,
@@ -87,6 +97,16 @@ const READING: [Reading; 19] = [
     Reading::NegativeZeroRefused,
     Reading::RangeEndsRefused,
     Reading::CutAtLongestText,
+    Reading::FifteenFirst,
+    Reading::FifteenByStatusAlone,
+    Reading::LineDemanded,
+    Reading::LineLeftOut,
+    Reading::SecondLineTaken,
+    Reading::LineOfEightTaken,
+    Reading::LineAnywhere,
+    Reading::SurplusBeforeSupply,
+    Reading::SupplyZeroIsNone,
+    Reading::CutBehindLine,
 ];
 const PLAN: [Plan; 7] = [
     Plan::ByBranchPosition,
@@ -110,8 +130,9 @@ const PRINT: [Print; 11] = [
     Print::NoExchange,
     Print::RefusesAll,
 ];
-/// Of 256 buses, 512 branches, 512 switches.
+/// Of 256 buses, 512 branches, 512 switches, without the 05 line.
 const LONGEST_TEXT: usize = 37 + 256 * 23 + 512 * 29 + 512 * 13;
+const SUPPLY_LENGTH: usize = 7;
 
 pub fn all() -> Vec<Mistake> {
     let searches = Slip::ALL.into_iter().map(Mistake::Search);
@@ -144,7 +165,10 @@ impl Mistake {
             (Mistake::Reading(mistake), _) => mistake.output(text, right),
             (Mistake::Print(mistake), _) => mistake.output(right),
             (_, Expected::Refused(refusal)) => refusal.line(),
-            (Mistake::Search(slip), Expected::Answered(answered)) => search_output(&answered.network, slip),
+            (Mistake::Search(slip), Expected::Answered(answered)) => match answered.network.supply {
+                None if slip.needs_line() => right.output(),
+                _ => search_output(&answered.network, slip),
+            },
             (Mistake::Plan(mistake), Expected::Answered(answered)) => {
                 answered.search.clone() + &mistake.lines(answered)
             }
@@ -176,6 +200,29 @@ impl Reading {
             Reading::UnendedLastLineTaken => (text.last() != Some(&b'\n')).then(|| [text, b"\n"].concat()),
             Reading::EmptyLastLineTaken => text.ends_with(b"\n\n").then(|| text[..text.len() - 1].to_vec()),
             Reading::CutAtLongestText => text.get(..LONGEST_TEXT).map(<[u8]>::to_vec),
+            Reading::CutBehindLine => text.get(..LONGEST_TEXT + SUPPLY_LENGTH).map(<[u8]>::to_vec),
+            _ => self.other_line(text),
+        }
+    }
+
+    /// The text that a program with a mistake about the 05 line takes it for.
+    fn other_line(self, text: &[u8]) -> Option<Vec<u8>> {
+        let lines: Vec<&[u8]> = text.split_inclusive(|&c| c == b'\n').collect();
+        let is_supply = |line: &[u8]| line.starts_with(b"05") && line.len() == SUPPLY_LENGTH;
+        let (&last, before) = lines.split_last()?;
+        match self {
+            Reading::LineLeftOut if is_supply(last) => Some(before.concat()),
+            Reading::SupplyZeroIsNone if last == b"050000\n" => Some(before.concat()),
+            Reading::SecondLineTaken if is_supply(last) && before.last().is_some_and(|&line| is_supply(line)) => {
+                Some(before.concat())
+            }
+            Reading::LineOfEightTaken if last.starts_with(b"05") && last.len() == SUPPLY_LENGTH + 2 => {
+                Some([&before.concat()[..], &last[..SUPPLY_LENGTH - 1], b"\n"].concat())
+            }
+            Reading::LineAnywhere => {
+                let at = before.iter().position(|&line| is_supply(line))?;
+                Some([&before[..at].concat()[..], &before[at + 1..].concat(), last, before[at]].concat())
+            }
             _ => None,
         }
     }
@@ -211,6 +258,10 @@ impl Reading {
             Reading::LockedTiesNotCounted if right.number == 9 && before.windows(3).any(|end| end == b"01\n") => {
                 number(0)
             }
+            Reading::FifteenFirst if right.number == 14 && base_is_no_tree(&before) => number(15),
+            Reading::SurplusBeforeSupply if [14, 15].contains(&right.number) && lines.len() > right.place.into() => {
+                Some(Refusal { number: 2, place: right.place + 1 })
+            }
             Reading::OutOfServiceNotJudged if [5, 6].contains(&right.number) && out_of_service(line?) => number(0),
             _ => None,
         }
@@ -227,12 +278,22 @@ impl Reading {
             Reading::RangeEndsRefused if network.branches.iter().any(|b| b.r == 1_000.0) => {
                 Some(Refusal { number: 5, place: 0 })
             }
+            Reading::FifteenByStatusAlone if network.supply.is_some() => {
+                let in_service: Vec<bool> = network.branches.iter().map(|branch| branch.in_service).collect();
+                (!judge::tree(network, &in_service)).then_some(Refusal { number: 15, place: 0 })
+            }
+            Reading::LineDemanded if network.supply.is_none() => Some(Refusal { number: 2, place: 0 }),
             Reading::NegativeZeroRefused if network.branches.iter().any(|b| negative_zero(b.r)) => {
                 Some(Refusal { number: 5, place: 0 })
             }
             _ => None,
         }
     }
+}
+
+/// Whether the records of a text without the 05 line have another base than a tree.
+fn base_is_no_tree(text: &[u8]) -> bool {
+    reader::read(text).is_ok_and(|network| !judge::tree(&network, &network.live(&network.base())))
 }
 
 /// A whole branch line with status 00.

@@ -60,6 +60,18 @@ pub fn tree(network: &Network, live: &[bool]) -> bool {
 
 /// The number of connected pieces, and whether some branch closes a loop.
 fn pieces(network: &Network, live: &[bool]) -> (usize, bool) {
+    let (_, pieces, closes_loop) = joined(network, live);
+    (pieces, closes_loop)
+}
+
+/// For each bus a label, the same for two buses just where live branches join them.
+pub fn labels(network: &Network, live: &[bool]) -> Vec<usize> {
+    let mut parent = joined(network, live).0;
+    (0..parent.len()).map(|bus| root(&mut parent, bus)).collect()
+}
+
+/// Union-find, the number of pieces and whether some branch closes a loop.
+fn joined(network: &Network, live: &[bool]) -> (Vec<usize>, usize, bool) {
     let mut parent: Vec<usize> = (0..network.buses.len()).collect();
     let (mut pieces, mut closes_loop) = (parent.len(), false);
     for (branch, _) in network.branches.iter().zip(live).filter(|(_, &live)| live) {
@@ -72,7 +84,7 @@ fn pieces(network: &Network, live: &[bool]) -> (usize, bool) {
             pieces -= 1;
         }
     }
-    (pieces, closes_loop)
+    (parent, pieces, closes_loop)
 }
 
 fn root(parent: &mut [usize], mut at: usize) -> usize {

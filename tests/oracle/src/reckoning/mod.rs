@@ -1,4 +1,4 @@
-//! An independent reckoning, written from document 01's sentences; it shares no code with the original or with the crates.
+//! An independent reckoning, written from the sentences of document 01 and of document 02's Point 2; it shares no code with the original or with the crates.
 //! `reader` gives the verdict on any byte string, `plan` the planner's answer, `judge` looks at a plan by another method,
 //! `searches` steps through document 01's searches.
 
@@ -7,7 +7,7 @@ pub mod plan;
 pub mod reader;
 pub mod searches;
 
-/// Document 01's refusal: a number and a place.
+/// A refusal: a number and a place.
 #[derive(Debug, Clone, Copy, PartialEq, Eq)]
 pub struct Refusal {
     pub number: u8,
@@ -53,6 +53,8 @@ pub struct Network {
     pub buses: Vec<Bus>,
     pub branches: Vec<Branch>,
     pub switches: Vec<Switch>,
+    /// Position of the supply bus, where a 05 line names one.
+    pub supply: Option<usize>,
 }
 
 /// A state's bytes: document 01's 00 closed, 01 open.

@@ -1,6 +1,6 @@
-//! Document 01, sections "Frames" and "Refusals and their places": the verdict on any byte string.
+//! Document 01, sections "Frames" and "Refusals and their places", and document 02's 05 line: the verdict on any byte string.
 
-use super::{Branch, Bus, Network, Refusal, Switch};
+use super::{judge, Branch, Bus, Network, Refusal, Switch};
 
 const LONGEST_LINE: usize = 36;
 const MOST_TIES: usize = 10;
@@ -14,8 +14,8 @@ pub fn read(text: &[u8]) -> Result<Network, Refusal> {
         so_far.take(line).map_err(|number| Refusal { number, place })?;
     }
     match so_far.wanted() {
+        None | Some(Kind::Supply) => Ok(so_far.network),
         Some(_) => Err(Refusal { number: 2, place: place + 1 }),
-        None => Ok(so_far.network),
     }
 }
 
@@ -39,6 +39,7 @@ enum Kind {
     Bus,
     Branch,
     Switch,
+    Supply,
 }
 
 impl Kind {
@@ -49,6 +50,7 @@ impl Kind {
             Kind::Bus => (b"02", 22),
             Kind::Branch => (b"03", 28),
             Kind::Switch => (b"04", 12),
+            Kind::Supply => (b"05", 6),
         }
     }
 }
@@ -67,7 +69,7 @@ struct Counts {
 }
 
 impl SoFar {
-    /// The kind of the next line, none when the head's counts are met.
+    /// The kind of the next line: behind the head's counts that of the one optional line, behind it none.
     fn wanted(&self) -> Option<Kind> {
         let Some(counts) = &self.head else { return Some(Kind::Head) };
         if self.network.buses.len() < counts.buses {
@@ -76,6 +78,8 @@ impl SoFar {
             Some(Kind::Branch)
         } else if self.network.switches.len() < counts.switches {
             Some(Kind::Switch)
+        } else if self.network.supply.is_none() {
+            Some(Kind::Supply)
         } else {
             None
         }
@@ -90,6 +94,7 @@ impl SoFar {
             Some(Kind::Bus) => self.bus_line(&mut fields),
             Some(Kind::Branch) => self.branch_line(&mut fields),
             Some(Kind::Switch) => self.switch_line(&mut fields),
+            Some(Kind::Supply) => self.supply_line(&mut fields),
             None => Err(2),
         }
     }
@@ -137,6 +142,15 @@ impl SoFar {
             (9, self.network.method == 2 && normally_open && ties == MOST_TIES),
         ])?;
         self.network.switches.push(Switch { id, branch, normally_open, can_operate });
+        Ok(())
+    }
+
+    /// "14, bus not listed; 15, base not radial; both at the 05 line, after 1 to 3, lower number first."
+    fn supply_line(&mut self, fields: &mut Fields) -> Result<(), u8> {
+        let supply = self.bus_at(fields.u16());
+        let base = self.network.live(&self.network.base());
+        lowest(&[(14, supply.is_none()), (15, !judge::tree(&self.network, &base))])?;
+        self.network.supply = supply;
         Ok(())
     }
 

@@ -1,4 +1,4 @@
-//! Document 01, sections "Loss" and "Search answer", step by step.
+//! Document 01, sections "Loss" and "Search answer", step by step, with the loss of document 02's Point 2 where a supply is named.
 //! A `Slip` turns one step into a mistake, to see whether a set of texts tells the mistake from the rule.
 
 use super::plan::radial;
@@ -48,12 +48,19 @@ pub enum Slip {
     ReductionNotBelowZero,
     ReductionAboveZeroLoss,
     ReductionOtherOrder,
+    ToSideWithLine,
+    SideOfSupply,
+    TrialsOnToSide,
+    BaseOnToSide,
+    DrawnInBase,
+    SupplyIdAsPosition,
+    LoadsByTree,
 }
 
 impl Slip {
     /// No text can show these: the first move leaves a radial state, and every later one keeps its live branches.
     pub const UNSEEN: [Slip; 2] = [Slip::TabuOneRound, Slip::TabuNothingBarred];
-    pub const ALL: [Slip; 38] = [
+    pub const ALL: [Slip; 45] = [
         Slip::SupplySide,
         Slip::DepthFirst,
         Slip::LoadsBackwards,
@@ -92,7 +99,19 @@ impl Slip {
         Slip::ReductionNotBelowZero,
         Slip::ReductionAboveZeroLoss,
         Slip::ReductionOtherOrder,
+        Slip::ToSideWithLine,
+        Slip::SideOfSupply,
+        Slip::TrialsOnToSide,
+        Slip::BaseOnToSide,
+        Slip::DrawnInBase,
+        Slip::SupplyIdAsPosition,
+        Slip::LoadsByTree,
     ];
+
+    /// Whether only a text with the 05 line can show it.
+    pub fn needs_line(self) -> bool {
+        self as usize >= Slip::ToSideWithLine as usize
+    }
 }
 
 pub struct Answer {
@@ -113,11 +132,18 @@ struct Found(Vec<u8>, f64, u16, bool);
 pub struct Searches<'a> {
     network: &'a Network,
     slip: Option<Slip>,
+    /// A loss in place of the reckoned one.
+    other_loss: Option<&'a dyn Fn(&[u8]) -> f64>,
 }
 
 impl<'a> Searches<'a> {
     pub fn new(network: &'a Network, slip: Option<Slip>) -> Self {
-        Self { network, slip }
+        Self { network, slip, other_loss: None }
+    }
+
+    /// The same steps with a given loss.
+    pub fn with_loss(network: &'a Network, loss: &'a dyn Fn(&[u8]) -> f64) -> Self {
+        Self { network, slip: None, other_loss: Some(loss) }
     }
 
     /// Positions of a branch's from bus and to bus.
@@ -169,6 +195,9 @@ impl<'a> Searches<'a> {
     }
 
     pub fn loss(&self, state: &[u8]) -> f64 {
+        if let Some(loss) = self.other_loss {
+            return loss(state);
+        }
         let live = self.network.live(state);
         let base_mva = self.network.base_mva;
         let mut order: Vec<usize> = (0..live.len()).filter(|&k| live[k]).collect();
@@ -178,7 +207,7 @@ impl<'a> Searches<'a> {
         let mut total = 0.0;
         for k in order {
             let r = self.network.branches[k].r;
-            let p = self.load(&live, k) / base_mva;
+            let p = self.load(&live, self.drawn(state, &live, k)) / base_mva;
             total += match self.slip {
                 Some(Slip::SquareFirst) => r * (p * p) * base_mva,
                 Some(Slip::FusedProduct) => {
@@ -191,9 +220,40 @@ impl<'a> Searches<'a> {
         total
     }
 
-    /// The load that a live branch carries: "downstream" is the to side.
-    fn load(&self, live: &[bool], k: usize) -> f64 {
-        let (mut from, mut to) = self.ends(k);
+    /// A branch's from and to; with a supply, the end on its side and the other: "downstream is the side of a live branch that
+    /// does not hold the supply bus".
+    fn drawn(&self, state: &[u8], live: &[bool], k: usize) -> (usize, usize) {
+        let (from, to) = self.ends(k);
+        let Some(supply) = self.supply(state) else { return (from, to) };
+        let in_base = self.slips(Slip::DrawnInBase).then(|| self.network.live(&self.network.base()));
+        let to_side = self.walk(in_base.as_deref().unwrap_or(live), to, Some(from), false).0;
+        if to_side.contains(&supply) != self.slips(Slip::SideOfSupply) {
+            (to, from)
+        } else {
+            (from, to)
+        }
+    }
+
+    /// The supply's position, as far as a loss looks at it.
+    fn supply(&self, state: &[u8]) -> Option<usize> {
+        let supply = self.network.supply?;
+        let is_base = || state == self.network.base();
+        match self.slip {
+            Some(Slip::ToSideWithLine) => None,
+            Some(Slip::TrialsOnToSide) if !is_base() => None,
+            Some(Slip::BaseOnToSide) if is_base() => None,
+            Some(Slip::SupplyIdAsPosition) => {
+                Some(usize::from(self.network.buses[supply].id) % self.network.buses.len())
+            }
+            _ => Some(supply),
+        }
+    }
+
+    /// The load that a live branch carries: "downstream" is the side of the second of its ends.
+    fn load(&self, live: &[bool], (mut from, mut to): (usize, usize)) -> f64 {
+        if self.slips(Slip::LoadsByTree) && self.network.supply.is_some() {
+            return self.added_up(live, from, to);
+        }
         if self.slips(Slip::SupplySide) {
             (from, to) = (to, from);
         }
@@ -203,6 +263,13 @@ impl<'a> Searches<'a> {
             order.reverse();
         }
         order.iter().fold(0.0, |load, &bus| load + self.network.buses[bus].pd)
+    }
+
+    /// Each bus of a tree with the sums of what hangs on it.
+    fn added_up(&self, live: &[bool], before: usize, bus: usize) -> f64 {
+        let ends = (0..live.len()).filter(|&k| live[k]).filter_map(|k| other_end(self.ends(k), bus));
+        ends.filter(|&next| next != before)
+            .fold(self.network.buses[bus].pd, |load, next| load + self.added_up(live, bus, next))
     }
 
     /// Breadth-first over live branches, neighbours by rising branch position.
@@ -304,7 +371,7 @@ impl<'a> Searches<'a> {
             path.sort_unstable();
         }
         if self.slips(Slip::RankedByLoss) {
-            let rank = |k: &usize| self.network.branches[*k].r * self.load(&live, *k).abs();
+            let rank = |k: &usize| self.network.branches[*k].r * self.load(&live, self.ends(*k)).abs();
             path.sort_by(|a, b| rank(b).total_cmp(&rank(a)));
         }
         for k in path {

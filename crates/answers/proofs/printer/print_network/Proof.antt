@@ -6,6 +6,7 @@ use Rattle.network.specs.Records.{recordsOf}
 use Rattle.slices.specs.WrittenLaws.{length-written}
 use Rattle.reconfiguration.specs.Solve.{result}
 use Rattle.searches.specs.StateLaws.{base-held}
+use Rattle.feeders.specs.SupplyLaws.{network-records}
 use Rattle.answers.specs.Printing.{moveLines, networkText}
 use Rattle.answers.specs.PrintingLaws.{network-short}
 use Rattle.answers.proofs.PrinterLaws.{solved-result, solved-state, not-refused, result-bits, network-long, lines-stored}
@@ -29,13 +30,13 @@ write-result-requires : tie.Need-write-result-requires
 write-result-requires c κs =
     let start = c .before .before .before .before .before .before .before .before .before .before in
     let s = c .before .before .before .before .before in
-    result-bits _ (start .pre .0) (solved-result _ (start .pre .0) _ (search needs) (rw (c .before .before .result .given .1) at (s .solve .ensures)))
+    result-bits _ (network-records _ (start .pre .0)) (solved-result _ (start .pre .0) _ (search needs) (rw (c .before .before .result .given .1) at (s .solve .ensures)))
 
 write-moves-requires : tie.Need-write-moves-requires
 write-moves-requires c κs =
     let start = c .before .before .before .before .before .before .before .before .before .before .before .before .before .before in
     let s = c .before .before .before .before .before .before .before .before .before in
-    ((start .pre .0, base-held _ (start .pre .0) (c .before .before .before .before .before .before .before .before .before .before .before .before .build-base-configuration .ensures), solved-state _ (start .pre .0) _ (search needs) (s .solve .ensures)), omega (arith, start .pre .1, ap length (c .before .before .before .write-result .ensures) ∙ length-written _ _))
+    ((start .pre .0, base-held _ (network-records _ (start .pre .0)) (c .before .before .before .before .before .before .before .before .before .before .before .before .build-base-configuration .ensures), solved-state _ (start .pre .0) _ (search needs) (s .solve .ensures)), omega (arith, start .pre .1, ap length (c .before .before .before .write-result .ensures) ∙ length-written _ _))
 
 enum-told : tie.Need-enum-told
 enum-told c = search needs

@@ -4,6 +4,7 @@ use Prim.Native.Nat.{ℕ, _*_}
 use native.Mathlib.Omega.{arith}
 use native.Mathlib.Numerals.{unary-clauses}
 use lib.ListN.{length}
+use Rattle.feeders.specs.SupplyLaws.{network-records}
 use Rattle.states.specs.Listed.{few-switches}
 use Rattle.printing.specs.Lengths.{operationLength}
 use Rattle.answers.proofs.PrinterLaws.{operationBytes, operations-printed}
@@ -24,7 +25,7 @@ part-compute-switch-operations-end : tie.Need-part-compute-switch-operations-end
 part-compute-switch-operations-end c =
     let start = c .before .before .before in
     let long : length (start .args .t3) ≡ 512 = search needs in
-    omega (arith, few-switches _ (start .pre .0 .0), c .before .wide16 .ensures .0)
+    omega (arith, few-switches _ (network-records _ (start .pre .0 .0)), c .before .wide16 .ensures .0)
 
 sub-compute-switch-operations-2 : tie.Need-sub-compute-switch-operations-2
 sub-compute-switch-operations-2 c = search needs
@@ -36,7 +37,7 @@ part-compute-switch-operations-end-2 : tie.Need-part-compute-switch-operations-e
 part-compute-switch-operations-end-2 c =
     let start = c .before .before .before .before .before in
     let long : length (start .args .t4) ≡ 512 = search needs in
-    omega (arith, few-switches _ (start .pre .0 .0), c .before .before .before .wide16 .ensures .0)
+    omega (arith, few-switches _ (network-records _ (start .pre .0 .0)), c .before .before .before .wide16 .ensures .0)
 
 compute-switch-operations-requires : tie.Need-compute-switch-operations-requires
 compute-switch-operations-requires c κs = search needs

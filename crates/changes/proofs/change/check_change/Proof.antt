@@ -4,7 +4,7 @@ use lib.ListN.{length}
 use borrow.Author.Tests.{not-true, not-false}
 use Rattle.network.proofs.ArrayLengths.{buses-256}
 use Rattle.network.specs.AnswerLaws.{decides, gives-way}
-use Rattle.changes.proofs.Radial.{not-radial, is-radial}
+use Rattle.feeders.specs.StateCallLaws.{not-radial, is-radial}
 use borrow.Author.Needs.{needs}
 use Rattle.changes.proofs.change.check_change.Statement.{statement}
 use Rattle.changes.proofs.change.check_change.Tie as tie

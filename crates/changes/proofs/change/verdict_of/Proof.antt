@@ -1,14 +1,15 @@
 -- `verdict_of` meets its contract: the first of its parts that refuses decides.
 use mathlib.Core.Path.{_∙_}
 use Rattle.network.specs.AnswerLaws.{accepted-so, refused-then, accepted-then}
+use Rattle.feeders.specs.SupplyLaws.{network-records}
 use Rattle.changes.specs.Change.{checkPlan}
 use Rattle.changes.specs.Passing.{flags-so}
 use borrow.Author.Needs.{needs}
 use Rattle.changes.proofs.change.verdict_of.Statement.{statement}
 use Rattle.changes.proofs.change.verdict_of.Tie as tie
 
-check-requires : tie.Need-check-requires
-check-requires c κs = search needs
+check-network-requires : tie.Need-check-network-requires
+check-network-requires c κs = search needs
 
 enum-told : tie.Need-enum-told
 enum-told c = search needs
@@ -18,7 +19,7 @@ enum-told-2 c = search needs
 
 returns : tie.Need-returns
 unfolding checkPlan
-returns c = refused-then _ _ _ _ _ (c .enum-told2 .given .1) (c .before .before .check .ensures)
+returns c = refused-then _ _ _ _ _ (c .enum-told2 .given .1) (c .before .before .check-network .ensures)
 
 check-state-requires : tie.Need-check-state-requires
 check-state-requires c κs = search needs
@@ -34,7 +35,7 @@ unfolding checkPlan
 returns-2 c =
     let records = c .before .before .before in
     refused-then _ _ _ _ _ (c .enum-told4 .given .1) (c .before .before .check-state .ensures)
-    ∙ accepted-then _ _ _ (records .enum-told .given .1) (records .before .before .check .ensures)
+    ∙ accepted-then _ _ _ (records .enum-told .given .1) (records .before .before .check-network .ensures)
 
 check-state-requires-2 : tie.Need-check-state-requires-2
 check-state-requires-2 c κs = search needs
@@ -52,14 +53,14 @@ returns-3 c =
     let records = first .before .before .before in
     refused-then _ _ _ _ _ (c .enum-told6 .given .1) (c .before .before .check-state2 .ensures)
     ∙ accepted-then _ _ _ (first .enum-told3 .given .1) (first .before .before .check-state .ensures)
-    ∙ accepted-then _ _ _ (records .enum-told .given .1) (records .before .before .check .ensures)
+    ∙ accepted-then _ _ _ (records .enum-told .given .1) (records .before .before .check-network .ensures)
 
 check-change-requires : tie.Need-check-change-requires
 check-change-requires c κs =
     let first = c .before .before .before in
     let records = first .before .before .before in
     let s = records .before .before .before .before .before in
-    let network = accepted-so (records .enum-told .given .1) (records .before .before .check .ensures) in
+    let network = network-records _ (accepted-so (records .enum-told .given .1) (records .before .before .check-network .ensures)) in
     let present = accepted-so (first .enum-told3 .given .1) (first .before .before .check-state .ensures) in
     let wanted = accepted-so (c .enum-told5 .given .1) (c .before .before .check-state2 .ensures) in (
       record { network = network; present-good = present; wanted-good = wanted },
@@ -77,13 +78,13 @@ returns-4 c =
     c .check-change .ensures
     ∙ accepted-then _ _ _ (second .enum-told5 .given .1) (second .before .before .check-state2 .ensures)
     ∙ accepted-then _ _ _ (first .enum-told3 .given .1) (first .before .before .check-state .ensures)
-    ∙ accepted-then _ _ _ (records .enum-told .given .1) (records .before .before .check .ensures)
+    ∙ accepted-then _ _ _ (records .enum-told .given .1) (records .before .before .check-network .ensures)
 
 pub verdict-of-spec : {M : Type 1} → statement M
 verdict-of-spec =
     tie.close
     (tie.spec
-    check-requires
+    check-network-requires
     enum-told
     enum-told-2
     returns

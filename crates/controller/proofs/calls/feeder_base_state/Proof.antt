@@ -1,5 +1,6 @@
 -- `feeder_base_state` meets its contract: the text is refused, or the base of its records is written.
 use mathlib.Core.Path.{refl, ap, _∙_}
+use Rattle.feeders.specs.SupplyLaws.{network-records}
 use Rattle.frames.specs.Proof.{passed}
 use Rattle.frames.specs.ReadingLaws.{read-refused, read-accepted}
 use Rattle.controller.specs.Calls.{numbersOf, writtenNumbers, textBase}
@@ -30,7 +31,7 @@ enum-told c = search needs
 write-base-requires : tie.Need-write-base-requires
 write-base-requires c κs =
     let told = c .before in
-    passed _ _ (read-accepted _ _ (told .before .before .read-text .ensures) (told .enum-told .given .1))
+    network-records _ (passed _ _ (read-accepted _ _ (told .before .before .read-text .ensures) (told .enum-told .given .1)))
 
 same-length : tie.Need-same-length
 same-length c = search needs

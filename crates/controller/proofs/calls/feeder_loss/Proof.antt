@@ -30,7 +30,7 @@ evaluate-config-requires : tie.Need-evaluate-config-requires
 evaluate-config-requires c κs = search needs
 
 loss-numbers-requires : tie.Need-loss-numbers-requires
-loss-numbers-requires c κs = loss-no-nan _ _ _ _ (c .evaluate-config .ensures)
+loss-numbers-requires c κs = loss-no-nan _ _ _ (c .evaluate-config .ensures)
 
 returns-2 : tie.Need-returns-2
 unfolding textLoss

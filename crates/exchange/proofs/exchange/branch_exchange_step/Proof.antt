@@ -1,6 +1,7 @@
 -- `branch_exchange_step` meets its contract: `last` is the last improving trial of the first i switches. A switch is not seen, or its loop has no section, or its trial does not improve, or it
 -- takes the place of the one before.
-use mathlib.Core.Path.{_≡_, refl, sym, ap, _∙_}
+use mathlib.Core.Path.{_≡_, refl, sym, ap, subst, _∙_}
+use mathlib.Core.Bool.{true}
 use mathlib.Core.Logic.{⊎-elim}
 use mathlib.Core.Option.{some}
 use Prim.Native.Nat.{_≤_, _<_, _-_}
@@ -11,7 +12,8 @@ use Rattle.numbers.specs.UpTo.{upTo}
 use Rattle.network.specs.ReadLaws.{pastBranch}
 use Rattle.network.specs.Records.{noSwitch, recordsOf}
 use Rattle.network.proofs.ArrayLengths.{branches-512, buses-256}
-use Rattle.radiality.specs.FeederRows.{liveFlags}
+use Rattle.feeders.specs.Feeder.{radialIn}
+use Rattle.feeders.specs.FeederRows.{liveFlags}
 use Rattle.losses.specs.Loss.{lossIn}
 use Rattle.searches.specs.States.{stateOf}
 use Rattle.states.specs.Listed.{few-switches, switches-listed}
@@ -19,9 +21,11 @@ use Rattle.searches.specs.StateLaws.{flags-listed, held-bytes, swapped-held}
 use Rattle.searches.specs.StateRows.{flags-loss}
 use Rattle.states.specs.Switches.{size, swapped}
 use Rattle.searches.specs.SwitchReads.{SwitchAt, on-branch, switch-read}
+use Rattle.numbers.specs.IfSome.{IfSome}
 use Rattle.numbers.specs.LastLaws.{last-more}
 use Rattle.numbers.specs.Choose.{lastSome}
 use Rattle.exchange.specs.Exchange.{improving, roundOf}
+use Rattle.exchange.specs.ExchangeLaws.{Swap, trial-swaps}
 use Rattle.exchange.specs.ExchangeSwaps.{sections-long}
 use Rattle.exchange.specs.ExchangeTrials.{Tried, tie-tried, tried-flags, seen-read, see-unseen, see-none, see-tried}
 use Rattle.exchange.specs.ExchangeValues.{trialOf}
@@ -157,16 +161,17 @@ swapped-live-requires c κs =
     let start = read .before .before .before .before .before .before .before .before in
     (within read, omega (arith, c .wide164 .ensures .0, on-branch (start .args .t1) (start .pre .0 .0) (found .wide163 .result) (below found) _ refl))
 
-compute-losses-estimate-requires : tie.Need-compute-losses-estimate-requires Inv-loop μ-loop
-compute-losses-estimate-requires c κs = search needs
+live-loss-requires : tie.Need-live-loss-requires Inv-loop μ-loop
+live-loss-requires c κs = search needs
 
 -- the loss of its trial
-lost : (c : tie.After-compute-losses-estimate Inv-loop μ-loop)
+lost : (c : tie.After-live-loss Inv-loop μ-loop)
     → let found = c .before .before .before in
     let loop = found .before .before .before .before .before .before .before .before .before .before .before .before in
     let args = loop .before .before .before .before .before .args in
-    c .compute-losses-estimate .result ≡ lossIn (recordsOf (args .t1)) (swapped (stateOf (args .t1) (args .configuration)) (loop .loop .i) (found .wide163 .result))
-lost c =
+    radialIn (recordsOf (args .t1)) (swapped (stateOf (args .t1) (args .configuration)) (loop .loop .i) (found .wide163 .result)) ≡ true
+    → c .live-loss .result ≡ lossIn (recordsOf (args .t1)) (swapped (stateOf (args .t1) (args .configuration)) (loop .loop .i) (found .wide163 .result))
+lost c radial =
     let moved = c .before in
     let opened = moved .before in
     let found = opened .before in
@@ -179,8 +184,8 @@ lost c =
     let sized = buses-256 n (start .good .0) in
     let live = tried-flags n (given .0) (start .args .configuration) (start .pre .2) (loop .loop .i) _ _ (here read) _ (flags made) (found .wide163 .result) (below found) _ _
     (read .wide162 .ensures .0) (opened .wide164 .ensures .0) in
-    flags-loss n sized (given .0) (swapped (stateOf n (start .args .configuration)) (loop .loop .i) (found .wide163 .result)) _ _ (given .1) (moved .swapped-live .ensures ∙ live) _ _ (given .2)
-    (c .compute-losses-estimate .ensures .0)
+    flags-loss n sized given (swapped (stateOf n (start .args .configuration)) (loop .loop .i) (found .wide163 .result)) (λ _ _. radial) (moved .swapped-live .ensures ∙ live) _
+    (c .live-loss .ensures)
 
 last-improving-requires : tie.Need-last-improving-requires Inv-loop μ-loop
 last-improving-requires c κs =
@@ -220,9 +225,10 @@ loop-again c =
           (λ w.
           let call : tie.After-try-tie Inv-loop μ-loop = record { before = record { before = record { before = record { before = asked; if1 = w .0 }; sections = w .1 }; state2 = w .2 }; try-tie = w .3 } in
           let found : tie.After-wide163 Inv-loop μ-loop = record { before = record { before = record { before = record { before = call; match = w .4 }; found = w .5 }; known-told = w .6 }; wide163 = w .7 } in
-          let loses = lost (record { before = record { before = record { before = found; wide164 = w .8 }; swapped-live = w .9 }; compute-losses-estimate = w .10 }) in
           let swaps = swapped-held n held i (w .7 .result) (listed goes) (below found) (start .pre .2) (few-switches n ok) in
           let so = tried call .found (w .5 .given .1) ∙ ap (λ section. some (swapped s i section)) (sym (w .7 .ensures .0)) in
+          let swap : Swap N s (swapped s i (w .7 .result)) = subst (IfSome (Swap N s)) so (trial-swaps N s i (omega (arith, listed goes, switches-listed n)) (seen ∙ w .0 .taken)) in
+          let loses = lost (record { before = record { before = record { before = found; wide164 = w .8 }; swapped-live = w .9 }; live-loss = w .10 }) (swap .radial) in
           w .12 ∙ w .11 .ensures ∙ see-tried N held s current so-far _ last i (seen ∙ w .0 .taken) (swapped s i (w .7 .result)) so _ loses _ swaps ∙ more)
           (⊎-elim
           (λ w.
@@ -264,7 +270,7 @@ branch-exchange-step-spec =
     element-copy-out-wide16
     wide16-requires-4
     swapped-live-requires
-    compute-losses-estimate-requires
+    live-loss-requires
     last-improving-requires
     enum-told
     add-i

@@ -9,9 +9,9 @@ use Rattle.numbers.specs.UpTo.{upTo, upTo-more}
 use Rattle.network.specs.InsideLaws.{check-inside}
 use Rattle.network.specs.Records.{recordsOf}
 use Rattle.network.proofs.ArrayLengths.{buses-256}
-use Rattle.radiality.specs.Feeder.{radialIn}
-use Rattle.radiality.specs.FeederRows.{liveFlags}
-use Rattle.radiality.specs.FeederRowLaws.{flags-radial}
+use Rattle.feeders.specs.Feeder.{radialIn}
+use Rattle.feeders.specs.FeederRows.{liveFlags}
+use Rattle.feeders.specs.FeederRowLaws.{flags-radial}
 use Rattle.exhaustive.specs.Exhaustive.{tieCount, masked, noMask, tryMask, exhaustive}
 use Rattle.exhaustive.specs.ExhaustiveTies.{ten-ties, ties-on, masked-flags}
 use Rattle.exhaustive.specs.ExhaustiveTrials.{mask-passed, radial-room}

@@ -1,5 +1,6 @@
 -- `search` meets its contract: the masks go from the base, and what is found is read off them, with the loss of its state.
 use Rattle.network.proofs.ArrayLengths.{buses-256}
+use Rattle.feeders.specs.SupplyLaws.{network-records}
 use Rattle.searches.specs.SearchValues.{foundOf}
 use Rattle.searches.specs.StartLaws.{start-given, start-base, start-live, start-radial}
 use Rattle.exhaustive.specs.Exhaustive.{exhaustiveBest}
@@ -15,7 +16,7 @@ exhaustive-masks-requires c κs =
     let sized = buses-256 n (start .good .0) in
     let ok = start .pre .0 in
     let e = start .pre .1 in
-    (start-given n sized ok e, start-base n sized ok e, start-live n sized ok e, start-radial n sized ok e, start .pre .2)
+    (start-given n sized ok e, start-base n sized ok e, start-live n sized (network-records _ ok) e, start-radial n sized (network-records _ ok) e, start .pre .2)
 
 returns : tie.Need-returns
 unfolding exhaustiveBest foundOf exhaustiveOf

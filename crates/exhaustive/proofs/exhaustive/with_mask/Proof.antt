@@ -11,8 +11,8 @@ use Rattle.exhaustive.specs.ExhaustiveValues.{exhaustiveOf}
 use Rattle.exhaustive.proofs.exhaustive.with_mask.Statement.{statement}
 use Rattle.exhaustive.proofs.exhaustive.with_mask.Tie as tie
 
-compute-losses-estimate-requires : tie.Need-compute-losses-estimate-requires
-compute-losses-estimate-requires c κs = search needs
+live-loss-requires : tie.Need-live-loss-requires
+live-loss-requires c κs = search needs
 
 masked-requires : tie.Need-masked-requires
 masked-requires c κs = let start = c .before .before in few-switches (start .args .network) (start .pre .0 .0)
@@ -28,10 +28,10 @@ returns c =
     let n = start .args .network in
     let given = start .pre .0 in
     let sized = buses-256 n (start .good .0) in
-    let loses = flags-loss n sized (given .0) (masked (recordsOf n) (start .args .mask)) _ _ (given .1) (start .pre .2) _ _ (given .2) (lost .compute-losses-estimate .ensures .0) in
+    let loses = flags-loss n sized given (masked (recordsOf n) (start .args .mask)) (λ _ _. start .pre .3) (start .pre .2) _ (lost .live-loss .ensures) in
     λ x e. c .with-radial .ensures (recordsOf n) x _ e (made .masked .ensures) ∙ ap (exhaustiveOf (recordsOf n)) (mask-radial (recordsOf n) x (start .args .mask) (start .pre .3) _ loses)
 
 pub with-mask-spec : {M : Type 1} → statement M
 with-mask-spec =
     tie.close
-    (tie.spec compute-losses-estimate-requires masked-requires with-radial-requires returns)
+    (tie.spec live-loss-requires masked-requires with-radial-requires returns)

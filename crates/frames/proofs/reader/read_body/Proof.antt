@@ -1,23 +1,14 @@
--- `read_body` meets its contract: kind after kind, and each refusal ends it.
+-- `read_body` meets its contract: the records, behind them the supply, behind it the end; each refusal ends it.
 use mathlib.Core.Path.{_∙_}
-use native.Mathlib.Omega.{arith}
 use borrow.Author.Needs.{needs}
 use Rattle.frames.specs.ReaderLaws.{end-judged}
 use Rattle.record_lines.specs.LineAnswers.{headOfCode}
-use Rattle.frames.proofs.BodyLaws.{no-buses, no-branches, no-switches, buses-stop, branches-stop, switches-stop, all-read}
+use Rattle.frames.proofs.BodyLaws.{no-supply, records-stop, supply-stops, all-read}
 use Rattle.frames.proofs.reader.read_body.Statement.{statement}
 use Rattle.frames.proofs.reader.read_body.Tie as tie
 
-new-requires : tie.Need-new-requires
-new-requires c κs = search needs
-
-add-read-buses : tie.Need-add-read-buses
-add-read-buses c = search needs
-
-read-buses-requires : tie.Need-read-buses-requires
-read-buses-requires c κs =
-    let s = c .before .before in
-    (s .pre .0, s .pre .1, omega arith, no-buses (headOfCode (s .args .head)) (c .new .ensures))
+read-records-requires : tie.Need-read-records-requires
+read-records-requires c κs = search needs
 
 enum-told : tie.Need-enum-told
 enum-told c = search needs
@@ -27,20 +18,24 @@ enum-told-2 c = search needs
 
 returns : tie.Need-returns
 returns c =
-    let b = c .before .before in
-    let e = b .before in
-    let s = e .before .before in
-    buses-stop (headOfCode (s .args .head)) (s .args .text .now) _ (e .new .ensures) _ (b .read-buses .ensures) (c .enum-told2 .given .1)
+    let r = c .before .before in
+    let s = r .before .before in
+    records-stop (headOfCode (s .args .head)) (s .args .text .now) _ (r .read-records .ensures) (c .enum-told2 .given .1)
 
 add-place : tie.Need-add-place
 add-place c = search needs
 
-read-branches-requires : tie.Need-read-branches-requires
-read-branches-requires c κs =
-    let b = c .before .before .before .before in
-    let e = b .before in
-    let s = e .before .before in
-    (b .read-buses .ensures .within, s .pre .2, omega arith, no-branches (headOfCode (s .args .head)) (s .args .text .now) _ (e .new .ensures) _ (b .read-buses .ensures))
+add-place-2 : tie.Need-add-place-2
+add-place-2 c = search needs
+
+add-place-3 : tie.Need-add-place-3
+add-place-3 c = search needs
+
+read-supply-requires : tie.Need-read-supply-requires
+read-supply-requires c κs =
+    let r = c .before .before .before .before .before .before in
+    let s = r .before .before in
+    (r .read-records .ensures .within, no-supply (headOfCode (s .args .head)) (s .args .text .now) _ (r .read-records .ensures))
 
 enum-told-3 : tie.Need-enum-told-3
 enum-told-3 c = search needs
@@ -50,94 +45,43 @@ enum-told-4 c = search needs
 
 returns-2 : tie.Need-returns-2
 returns-2 c =
-    let r = c .before .before in
-    let v = r .before .before .before in
-    let b = v .before .before in
-    let e = b .before in
-    let s = e .before .before in
-    branches-stop (headOfCode (s .args .head)) (s .args .text .now) _ (e .new .ensures) _ (b .read-buses .ensures) (v .enum-told .given .1) _ (r .read-branches .ensures) (c .enum-told4 .given .1)
-
-add-place-2 : tie.Need-add-place-2
-add-place-2 c = search needs
-
-read-switches-requires : tie.Need-read-switches-requires
-read-switches-requires c κs =
-    let r = c .before .before .before .before in
-    let v = r .before .before .before in
-    let b = v .before .before in
-    let e = b .before in
-    let s = e .before .before in (
-      r .read-branches .ensures .within,
-      s .pre .3,
-      omega arith,
-      no-switches (headOfCode (s .args .head)) (s .args .text .now) _ (e .new .ensures) _ (b .read-buses .ensures) (v .enum-told .given .1) _ (r .read-branches .ensures),
-    )
-
-enum-told-5 : tie.Need-enum-told-5
-enum-told-5 c = search needs
-
-enum-told-6 : tie.Need-enum-told-6
-enum-told-6 c = search needs
-
-returns-3 : tie.Need-returns-3
-returns-3 c =
-    let w = c .before .before in
-    let u = w .before .before .before in
-    let r = u .before .before in
-    let v = r .before .before .before in
-    let b = v .before .before in
-    let e = b .before in
-    let s = e .before .before in
-    switches-stop (headOfCode (s .args .head)) (s .args .text .now) _ (e .new .ensures) _ (b .read-buses .ensures) (v .enum-told .given .1) _ (r .read-branches .ensures)
-    (u .enum-told3 .given .1) _ (w .read-switches .ensures) (c .enum-told6 .given .1)
+    let z = c .before .before in
+    let e = z .before .before .before .before .before in
+    let r = e .before .before in
+    let s = r .before .before in
+    supply-stops (headOfCode (s .args .head)) (s .args .text .now) _ (r .read-records .ensures) (e .enum-told .given .1) _ (z .read-supply .ensures) (c .enum-told4 .given .1)
 
 add-judge-end : tie.Need-add-judge-end
-add-judge-end c =
-    let x = c .before .before in
-    let w = x .before .before in
-    let u = w .before .before .before in
-    let r = u .before .before in
-    let v = r .before .before .before in
-    let b = v .before .before in
-    let s = b .before .before .before in
-    omega (arith, s .pre .1, s .pre .2, s .pre .3)
+add-judge-end c = search needs
 
 judge-end-requires : tie.Need-judge-end-requires
 judge-end-requires c κs = search needs
 
-returns-4 : tie.Need-returns-4
-returns-4 c =
-    let x = c .before .before .before in
-    let w = x .before .before in
-    let u = w .before .before .before in
-    let r = u .before .before in
-    let v = r .before .before .before in
-    let b = v .before .before in
-    let e = b .before in
-    let s = e .before .before in
-    all-read (headOfCode (s .args .head)) (s .args .text .now) _ (e .new .ensures) _ (b .read-buses .ensures) (v .enum-told .given .1) _ (r .read-branches .ensures)
-    (u .enum-told3 .given .1) _ (w .read-switches .ensures) (x .enum-told5 .given .1) (c .judge-end .ensures ∙ end-judged _ _)
+returns-3 : tie.Need-returns-3
+returns-3 c =
+    let x = c .before .before in
+    let z = x .before .before in
+    let e = z .before .before .before .before .before in
+    let r = e .before .before in
+    let s = r .before .before in
+    all-read (headOfCode (s .args .head)) (s .args .text .now) _ (r .read-records .ensures) (e .enum-told .given .1) _ (z .read-supply .ensures) (x .enum-told3 .given .1)
+    (c .judge-end .ensures ∙ end-judged _ _)
 
 pub read-body-spec : {M : Type 1} → statement M
 read-body-spec =
     tie.close
     (tie.spec
-    new-requires
-    add-read-buses
-    read-buses-requires
+    read-records-requires
     enum-told
     enum-told-2
     returns
     add-place
-    read-branches-requires
+    add-place-2
+    add-place-3
+    read-supply-requires
     enum-told-3
     enum-told-4
     returns-2
-    add-place-2
-    read-switches-requires
-    enum-told-5
-    enum-told-6
-    returns-3
     add-judge-end
     judge-end-requires
-    returns-4)
+    returns-3)

@@ -5,18 +5,19 @@ use borrow.Author.Needs.{needs}
 use Rattle.network.specs.Answers.{accepted, answerOf}
 use Rattle.network.specs.AnswerLaws.{refused-first, accepted-then}
 use Rattle.network.proofs.ArrayLengths.{buses-256}
-use Rattle.radiality.specs.FeederRowLaws.{state-flags, flags-radial}
+use Rattle.feeders.specs.FeederRowLaws.{state-flags, flags-radial}
+use Rattle.feeders.specs.SupplyLaws.{network-records}
 use Rattle.radiality.proofs.radiality.verify_radiality.Statement.{statement}
 use Rattle.radiality.proofs.radiality.verify_radiality.Tie as tie
 
-check-requires : tie.Need-check-requires
-check-requires c κs = search needs
+check-network-requires : tie.Need-check-network-requires
+check-network-requires c κs = search needs
 
 enum-known-number : tie.Need-enum-known-number
 enum-known-number c = search needs
 
 returns : tie.Need-returns
-returns c = refused-first _ _ _ _ _ (c .before .number .given .1) (c .before .before .before .check .ensures)
+returns c = refused-first _ _ _ _ _ (c .before .number .given .1) (c .before .before .before .check-network .ensures)
 
 enum-told : tie.Need-enum-told
 enum-told c = search needs
@@ -31,7 +32,7 @@ returns-2 : tie.Need-returns-2
 returns-2 c =
     let state = c .before .before .before in
     refused-first _ _ _ _ _ (c .before .number2 .given .1) (state .check-state .ensures)
-    ∙ accepted-then _ _ _ (state .before .enum-told .given .1) (state .before .before .before .check .ensures)
+    ∙ accepted-then _ _ _ (state .before .enum-told .given .1) (state .before .before .before .check-network .ensures)
 
 enum-told-2 : tie.Need-enum-told-2
 enum-told-2 c = search needs
@@ -56,7 +57,7 @@ returns-3 c =
     let head = state .before in
     let records = head .before .before in
     let start = records .before .before in
-    let ok = sym (records .check .ensures) ∙ ap answerOf (head .enum-told .given .1) in
+    let ok = network-records _ (sym (records .check-network .ensures) ∙ ap answerOf (head .enum-told .given .1)) in
     let good = sym (state .check-state .ensures) ∙ ap answerOf (passed .enum-told2 .given .1) in
     ap accepted
     (flags-radial (start .args .network) (buses-256 (start .args .network) (start .good .0)) ok _ _ _ (c .before .graph-of .ensures)
@@ -64,13 +65,13 @@ returns-3 c =
     _
     (c .is-radial .ensures))
     ∙ accepted-then _ _ _ (passed .enum-told2 .given .1) (state .check-state .ensures)
-    ∙ accepted-then _ _ _ (head .enum-told .given .1) (records .check .ensures)
+    ∙ accepted-then _ _ _ (head .enum-told .given .1) (records .check-network .ensures)
 
 pub verify-radiality-spec : {M : Type 1} → statement M
 verify-radiality-spec =
     tie.close
     (tie.spec
-    check-requires
+    check-network-requires
     enum-known-number
     returns
     enum-told

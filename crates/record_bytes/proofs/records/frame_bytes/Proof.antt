@@ -34,9 +34,21 @@ returns-4 : tie.Need-returns-4
 unfolding frameBytes
 returns-4 c = c .at-most4 .ensures ∙ rw (ne-eqb _ _ (c .before .before .before .before .if1 .left), ne-eqb _ _ (c .before .before .before .if2 .left), ne-eqb _ _ (c .before .before .if3 .left), eq-eqb _ _ (c .before .if4 .taken))
 
+at-most-requires-5 : tie.Need-at-most-requires-5
+at-most-requires-5 c κs = search needs
+
 returns-5 : tie.Need-returns-5
 unfolding frameBytes
-returns-5 c = rw (ne-eqb _ _ (c .before .before .before .if1 .left), ne-eqb _ _ (c .before .before .if2 .left), ne-eqb _ _ (c .before .if3 .left), ne-eqb _ _ (c .if4 .left))
+returns-5 c =
+    let kind = c .before .before in
+    c .at-most5 .ensures
+    ∙ rw (ne-eqb _ _ (kind .before .before .before .if1 .left), ne-eqb _ _ (kind .before .before .if2 .left), ne-eqb _ _ (kind .before .if3 .left), ne-eqb _ _ (kind .if4 .left), eq-eqb _ _ (c .before .if5 .taken))
+
+returns-6 : tie.Need-returns-6
+unfolding frameBytes
+returns-6 c =
+    let kind = c .before in
+    rw (ne-eqb _ _ (kind .before .before .before .if1 .left), ne-eqb _ _ (kind .before .before .if2 .left), ne-eqb _ _ (kind .before .if3 .left), ne-eqb _ _ (kind .if4 .left), ne-eqb _ _ (c .if5 .left))
 
 pub frame-bytes-spec : {M : Type 1} → statement M
 frame-bytes-spec =
@@ -50,4 +62,6 @@ frame-bytes-spec =
     returns-3
     at-most-requires-4
     returns-4
-    returns-5)
+    at-most-requires-5
+    returns-5
+    returns-6)

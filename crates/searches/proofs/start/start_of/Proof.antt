@@ -19,8 +19,8 @@ live-branches-requires c κs = search needs
 is-radial-requires : tie.Need-is-radial-requires
 is-radial-requires c κs = search needs
 
-compute-losses-estimate-requires : tie.Need-compute-losses-estimate-requires
-compute-losses-estimate-requires c κs = search needs
+live-loss-requires : tie.Need-live-loss-requires
+live-loss-requires c κs = search needs
 
 returns : tie.Need-returns
 unfolding startOf
@@ -30,7 +30,7 @@ returns c =
     let base = flags .before in
     let loads = base .before in
     let rows = loads .before in
-    rw (c .compute-losses-estimate .ensures .0, judged .is-radial .ensures, flags .live-branches .ensures, base .build-base-configuration .ensures, loads .loads-of .ensures, rows .graph-of .ensures)
+    rw (c .live-loss .ensures, judged .is-radial .ensures, flags .live-branches .ensures, base .build-base-configuration .ensures, loads .loads-of .ensures, rows .graph-of .ensures)
 
 pub start-of-spec : {M : Type 1} → statement M
 start-of-spec =
@@ -41,5 +41,5 @@ start-of-spec =
     build-base-configuration-requires
     live-branches-requires
     is-radial-requires
-    compute-losses-estimate-requires
+    live-loss-requires
     returns)

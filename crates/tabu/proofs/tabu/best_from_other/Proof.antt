@@ -12,7 +12,7 @@ use Rattle.network.specs.ReadLaws.{pastBranch}
 use Rattle.network.specs.Records.{noSwitch, recordsOf}
 use Rattle.network.proofs.ArrayLengths.{branches-512, buses-256}
 use Rattle.states.specs.Listed.{few-switches, switches-listed}
-use Rattle.radiality.specs.FeederRowLaws.{flags-radial}
+use Rattle.feeders.specs.FeederRowLaws.{flags-radial}
 use Rattle.searches.specs.StateRows.{flags-loss}
 use Rattle.states.specs.Switches.{size, toggled}
 use Rattle.searches.specs.SwitchReads.{SwitchAt, on-branch, switch-read}
@@ -85,8 +85,8 @@ toggled-live-requires c κs = within (c .before .before .before)
 is-radial-requires : tie.Need-is-radial-requires Inv-loop μ-loop
 is-radial-requires c κs = search needs
 
-compute-losses-estimate-requires : tie.Need-compute-losses-estimate-requires Inv-loop μ-loop
-compute-losses-estimate-requires c κs = search needs
+live-loss-requires : tie.Need-live-loss-requires Inv-loop μ-loop
+live-loss-requires c κs = search needs
 
 see-toggle-requires : tie.Need-see-toggle-requires Inv-loop μ-loop
 see-toggle-requires c κs =
@@ -136,8 +136,9 @@ loop-again c =
           let can = served ∙ w .0 .taken in
           let flags = w .2 .ensures ∙ toggled-flags n y x s (given .0) i _ _ at can _ (made .live-branches .ensures) _ (read .wide162 .ensures .0) in
           let radial = flags-radial n (sized start) (given .0) t _ _ (given .1) flags _ (w .3 .ensures) in
-          let loss = flags-loss n (sized start) (given .0) t _ _ (given .1) flags _ _ (given .2) (w .5 .ensures .0) in
-          w .7 ∙ see-served n y x s (given .0) i _ _ at _ _ so-far _ can (sym radial ∙ w .4 .taken) _ loss (w .6 .ensures))
+          let so = sym radial ∙ w .4 .taken in
+          let loss = flags-loss n (sized start) given t (λ _ _. so) flags _ (w .5 .ensures) in
+          w .7 ∙ see-served n y x s (given .0) i _ _ at _ _ so-far _ can so _ loss (w .6 .ensures))
           (⊎-elim
           (λ w.
           let can = served ∙ w .0 .taken in
@@ -176,7 +177,7 @@ best-from-other-spec =
     element-copy-out-toggled-live
     toggled-live-requires
     is-radial-requires
-    compute-losses-estimate-requires
+    live-loss-requires
     see-toggle-requires
     add-i
     loop-less

@@ -1,6 +1,7 @@
 -- `search` meets its contract: the rounds go from the base, and what is found is read off them, with the loss of its state.
 use Rattle.network.specs.Records.{recordsOf}
 use Rattle.network.proofs.ArrayLengths.{buses-256}
+use Rattle.feeders.specs.SupplyLaws.{network-records}
 use Rattle.searches.specs.SearchValues.{foundOf}
 use Rattle.searches.specs.StartLaws.{start-given, start-base, start-radial}
 use Rattle.tabu.specs.Tabu.{tabuBest}
@@ -16,7 +17,7 @@ tabu-rounds-requires c κs =
     let sized = buses-256 n (start .good .0) in
     let ok = start .pre .0 in
     let e = start .pre .1 in
-    (start-given n sized ok e, start-base n sized ok e, start-radial n sized ok e)
+    (start-given n sized ok e, start-base n sized ok e, start-radial n sized (network-records _ ok) e)
 
 returns : tie.Need-returns
 unfolding tabuBest foundOf tabuOf recordsOf

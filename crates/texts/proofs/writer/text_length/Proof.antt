@@ -32,6 +32,18 @@ wide16-requires-3 c κs = search needs
 mul-switches : tie.Need-mul-switches
 mul-switches c = search needs
 
+add-supplies : tie.Need-add-supplies
+add-supplies c = search needs
+
+truth-byte-requires : tie.Need-truth-byte-requires
+truth-byte-requires c κs = search needs
+
+wide8-requires : tie.Need-wide8-requires
+wide8-requires c κs = search needs
+
+mul-supplies : tie.Need-mul-supplies
+mul-supplies c = search needs
+
 add-result : tie.Need-add-result
 add-result c = search needs
 
@@ -44,11 +56,16 @@ add-result-3 c = search needs
 add-result-4 : tie.Need-add-result-4
 add-result-4 c = search needs
 
+add-result-5 : tie.Need-add-result-5
+add-result-5 c = search needs
+
 returns : tie.Need-returns
 returns c =
-    let branches = c .before in
+    let truth = c .before in
+    let switches = truth .before in
+    let branches = switches .before in
     let buses = branches .before in
-    omega (arith, value-length (buses .before .args .network), buses .wide16 .ensures .0, branches .wide162 .ensures .0, c .wide163 .ensures .0)
+    omega (arith, value-length (buses .before .args .network), buses .wide16 .ensures .0, branches .wide162 .ensures .0, switches .wide163 .ensures .0, truth .truth-byte .ensures, c .wide8 .ensures .0)
 
 pub text-length-spec : {M : Type 1} → statement M
 text-length-spec =
@@ -63,8 +80,13 @@ text-length-spec =
     add-switches
     wide16-requires-3
     mul-switches
+    add-supplies
+    truth-byte-requires
+    wide8-requires
+    mul-supplies
     add-result
     add-result-2
     add-result-3
     add-result-4
+    add-result-5
     returns)

@@ -1,9 +1,9 @@
--- `write_from_branches` meets its contract: the switch lines are written behind the branch lines.
+-- `write_from_branches` meets its contract: the lines from the switches on are written behind the branch lines.
 use mathlib.Core.List.{flatMap}
 use native.Mathlib.Omega.{arith}
 use lib.ListN.{length-append}
 use Rattle.network.specs.Records.{recordsOf}
-use Rattle.texts.specs.Lines.{branchText, switchText}
+use Rattle.texts.specs.Lines.{branchText, switchesOn}
 use Rattle.texts.specs.ValueLaws.{branch-lines}
 use Rattle.texts.specs.PartLaws.{part-begins, part-room, both-written}
 use borrow.Author.Needs.{needs}
@@ -14,7 +14,7 @@ write-branches-requires : tie.Need-write-branches-requires
 write-branches-requires c κs =
     let start = c .before .before in
     let n = start .args .network in
-    (start .pre .0, omega (arith, start .pre .1, length-append (flatMap branchText (recordsOf n .branches)) (flatMap switchText (recordsOf n .switches))))
+    (start .pre .0, omega (arith, start .pre .1, length-append (flatMap branchText (recordsOf n .branches)) (switchesOn (recordsOf n))))
 
 add-switches : tie.Need-add-switches
 add-switches c = search needs
@@ -25,31 +25,31 @@ wide16-requires c κs = search needs
 mul-switches : tie.Need-mul-switches
 mul-switches c = search needs
 
-sub-write-switches : tie.Need-sub-write-switches
-sub-write-switches c =
+sub-write-from-switches : tie.Need-sub-write-from-switches
+sub-write-from-switches c =
     let first = c .before .before .before in
     let start = first .before .before .before in
     let n = start .args .network in
     part-begins _ _ _ _ (branch-lines n (c .wide16 .ensures .0)) (start .pre .1) (first .write-branches .ensures)
 
-part-write-switches-start : tie.Need-part-write-switches-start
-part-write-switches-start c =
+part-write-from-switches-start : tie.Need-part-write-from-switches-start
+part-write-from-switches-start c =
     let first = c .before .before .before in
     let start = first .before .before .before in
     let n = start .args .network in
     let begins = part-begins _ _ _ _ (branch-lines n (c .wide16 .ensures .0)) (start .pre .1) (first .write-branches .ensures) in
     search needs
 
-part-write-switches-end : tie.Need-part-write-switches-end
-part-write-switches-end c =
+part-write-from-switches-end : tie.Need-part-write-from-switches-end
+part-write-from-switches-end c =
     let first = c .before .before .before in
     let start = first .before .before .before in
     let n = start .args .network in
     let begins = part-begins _ _ _ _ (branch-lines n (c .wide16 .ensures .0)) (start .pre .1) (first .write-branches .ensures) in
     search needs
 
-write-switches-requires : tie.Need-write-switches-requires
-write-switches-requires c κs =
+write-from-switches-requires : tie.Need-write-from-switches-requires
+write-from-switches-requires c κs =
     let count = c .before in
     let first = count .before .before .before in
     let start = first .before .before .before in
@@ -66,7 +66,7 @@ returns c =
     let first = count .before .before .before in
     let start = first .before .before .before in
     let n = start .args .network in
-    both-written _ _ _ _ (branch-lines n (count .wide16 .ensures .0)) (start .pre .1) (first .write-branches .ensures) (rest .write-switches .ensures)
+    both-written _ _ _ _ (branch-lines n (count .wide16 .ensures .0)) (start .pre .1) (first .write-branches .ensures) (rest .write-from-switches .ensures)
 
 pub write-from-branches-spec : {M : Type 1} → statement M
 write-from-branches-spec =
@@ -76,9 +76,9 @@ write-from-branches-spec =
     add-switches
     wide16-requires
     mul-switches
-    sub-write-switches
-    part-write-switches-start
-    part-write-switches-end
-    write-switches-requires
+    sub-write-from-switches
+    part-write-from-switches-start
+    part-write-from-switches-end
+    write-from-switches-requires
     same-length
     returns)

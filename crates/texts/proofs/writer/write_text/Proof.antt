@@ -3,8 +3,8 @@ use mathlib.Core.Path.{sym, ap, _∙_}
 use native.Mathlib.Omega.{arith}
 use Rattle.network.specs.Answers.{answerOf}
 use Rattle.network.specs.AnswerLaws.{accepted-so}
-use Rattle.network.specs.InsideLaws.{check-inside}
 use Rattle.network.specs.Records.{recordsOf}
+use Rattle.feeders.specs.SupplyLaws.{network-inside, network-records}
 use Rattle.frames.specs.Acceptable.{textOf}
 use Rattle.printing.specs.CallLaws.{call-refused, call-short}
 use Rattle.texts.specs.Texts.{writtenText}
@@ -13,15 +13,15 @@ use borrow.Author.Needs.{needs}
 use Rattle.texts.proofs.writer.write_text.Statement.{statement}
 use Rattle.texts.proofs.writer.write_text.Tie as tie
 
-check-requires : tie.Need-check-requires
-check-requires c κs = search needs
+check-network-requires : tie.Need-check-network-requires
+check-network-requires c κs = search needs
 
 enum-known-records : tie.Need-enum-known-records
 enum-known-records c = search needs
 
 returns : tie.Need-returns
 unfolding writtenText
-returns c = call-refused _ _ _ (sym (c .before .before .before .check .ensures) ∙ ap answerOf (c .before .records .given .1))
+returns c = call-refused _ _ _ (sym (c .before .before .before .check-network .ensures) ∙ ap answerOf (c .before .records .given .1))
 
 enum-told : tie.Need-enum-told
 enum-told c = search needs
@@ -34,20 +34,20 @@ unfolding writtenText
 returns-2 c =
     let long = c .before in
     let told = long .before in
-    call-short _ (textOf (recordsOf (told .before .before .before .before .args .network))) _ (accepted-so (told .enum-told .given .1) (told .before .before .check .ensures)) (sym (long .text-length .ensures)) (c .if1 .taken)
+    call-short _ (textOf (recordsOf (told .before .before .before .before .args .network))) _ (accepted-so (told .enum-told .given .1) (told .before .before .check-network .ensures)) (sym (long .text-length .ensures)) (c .if1 .taken)
 
 write-lines-requires : tie.Need-write-lines-requires
 write-lines-requires c κs =
     let room = c .before in
     let long = room .before in
     let told = long .before in
-    (accepted-so (told .enum-told .given .1) (told .before .before .check .ensures), omega (arith, long .text-length .ensures, room .if1 .left))
+    (network-records _ (accepted-so (told .enum-told .given .1) (told .before .before .check-network .ensures)), omega (arith, long .text-length .ensures, room .if1 .left))
 
 cast-t12 : tie.Need-cast-t12
 cast-t12 c =
     let long = c .before .before .before .before .before in
     let told = long .before in
-    omega (arith, long .text-length .ensures, text-short _ (check-inside _ .0 (accepted-so (told .enum-told .given .1) (told .before .before .check .ensures))))
+    omega (arith, long .text-length .ensures, text-short _ (network-inside _ .0 (accepted-so (told .enum-told .given .1) (told .before .before .check-network .ensures)) .0))
 
 same-length : tie.Need-same-length
 same-length c = search needs
@@ -58,13 +58,13 @@ returns-3 c =
     let room = lines .before .before in
     let long = room .before in
     let told = long .before in
-    text-written _ _ (accepted-so (told .enum-told .given .1) (told .before .before .check .ensures)) (long .text-length .ensures) (room .if1 .left) (lines .write-lines .ensures)
+    text-written _ _ (accepted-so (told .enum-told .given .1) (told .before .before .check-network .ensures)) (long .text-length .ensures) (room .if1 .left) (lines .write-lines .ensures)
 
 pub write-text-spec : {M : Type 1} → statement M
 write-text-spec =
     tie.close
     (tie.spec
-    check-requires
+    check-network-requires
     enum-known-records
     returns
     enum-told

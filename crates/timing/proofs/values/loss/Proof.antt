@@ -21,7 +21,7 @@ enum-known-loss c = search needs
 float-to-bits-result : tie.Need-float-to-bits-result
 float-to-bits-result c =
     let answer = c .before in
-    subst (λ a. NoNan (lossAnswerOf a)) (answer .loss .given .1) (loss-no-nan _ _ _ _ (answer .before .before .evaluate-config .ensures))
+    subst (λ a. NoNan (lossAnswerOf a)) (answer .loss .given .1) (loss-no-nan _ _ _ (answer .before .before .evaluate-config .ensures))
 
 returns : tie.Need-returns
 unfolding numbered

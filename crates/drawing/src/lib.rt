@@ -1,0 +1,2 @@
+// The branches of a graph drawn away from a bus.
+pub mod drawing;

@@ -1,0 +1,2 @@
+pub mod Resolving
+pub mod Supplying

@@ -1,0 +1,10 @@
+pub mod Feeder
+pub mod FeederRows
+pub mod Supply
+pub mod StateCalls
+pub mod FeederLaws
+pub mod FeederRowLaws
+pub mod BusFound
+pub mod Supplied
+pub mod SupplyLaws
+pub mod StateCallLaws
