@@ -19,7 +19,7 @@ supplyAt n = cond (n .«has_supply») (endAt (listedIds n) (n .supply)) 0
 unfoldable pub loadsOf : PowerNetwork → Loads
 loadsOf n = record { pd = loadsAt (n .buses); «has_supply» = n .«has_supply»; «supply_at» = supplyAt n }
 
--- the graph as the code's loss takes it: drawn away from the supply where there is one
+-- the graph as the code's loss takes it: where there is a supply, drawn by the order of a walk from there; in a tree that is away from it (drawing/specs/DrawingLaws)
 unfoldable pub drawnGraphFor : Graph → List Bool → Bool → ℕ → Graph
 drawnGraphFor g live fed z = cond fed (drawnGraph g live z) g
 

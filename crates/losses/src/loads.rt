@@ -59,7 +59,7 @@ pub fn loads_of(network: PowerNetwork) -> Loads
     }
 }
 
-// The graph as a loss takes it: drawn away from the supply where there is one.
+// The graph as a loss takes it: where there is a supply, drawn by the order of a walk from there; in a tree that is away from it.
 fn drawn_for(
     graph: Graph,
     live: [bool; Graph::MAX_BRANCHES],
@@ -74,7 +74,7 @@ fn drawn_for(
     graph
 }
 
-// The loss with these branches live, in megawatts. Every loss of a feeder is taken here, by the call and by the searches. The branches are copied behind the drawing:
+// The loss with these branches live, in megawatts; with a supply they must be radial for it to be document 02's. Every loss of a feeder is taken here, by the call and by the searches. The branches are copied behind the drawing:
 // handed on as they came, they would be copied at every loss; the compiler leaves this copy out.
 pub fn live_loss(
     graph: Graph,
