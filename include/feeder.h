@@ -69,15 +69,15 @@ extern "C" {
 /* Bytes of stack that each call needs, the same for three buses and for 256: measured to 64 bytes on a stack that ends at a page which faults
  * (tests/interface/stack.c, which fails where a call needs more), on what `rt staticlib controller` writes; tested, not proved. FEEDER_STACK is for a thread
  * that makes any of the calls: the greatest of them and a quarter, in whole pages. */
-#define FEEDER_RADIALITY_STACK 190336
-#define FEEDER_LOSS_STACK 199040
-#define FEEDER_PLAN_STACK 176960
-#define FEEDER_ANSWER_TEXT_STACK 202496
-#define FEEDER_BASE_STATE_STACK 192896
-#define FEEDER_SOLVE_STACK 177024
-#define FEEDER_OPERATIONS_STACK 176960
-#define FEEDER_WRITE_TEXT_STACK 204480
-#define FEEDER_STACK 258048
+#define FEEDER_RADIALITY_STACK 192896
+#define FEEDER_LOSS_STACK 201600
+#define FEEDER_PLAN_STACK 179520
+#define FEEDER_ANSWER_TEXT_STACK 205056
+#define FEEDER_BASE_STATE_STACK 195456
+#define FEEDER_SOLVE_STACK 179584
+#define FEEDER_OPERATIONS_STACK 179520
+#define FEEDER_WRITE_TEXT_STACK 207040
+#define FEEDER_STACK 262144
 
 /* The refusals, as docs/INTERFACE.md has them. The place of 1 to 9, 14 and 15 is the text's line, from 1: the first faulty line is answered, and of its numbers the lowest (2
  * where it is over 36 characters). The place of 10 and 11 is 0 for the present, first or only state and 1 for the wanted or second one; that of 12 is the

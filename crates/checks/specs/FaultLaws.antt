@@ -1,15 +1,15 @@
 -- A record's conditions where rows of ids and flags stand for the lists that they look at.
-use mathlib.Core.Path.{_≡_, refl, sym, ap, _∙_}
+use mathlib.Core.Path.{_≡_, refl, ap, _∙_}
 use mathlib.Core.Bool.{Bool, true, false, cond, _&&_, _||_}
 use mathlib.Core.List.{List, [], _∷_, map}
 use Prim.Native.Nat.{ℕ, zero, suc, _+_, _≤_, _<_}
 use native.Mathlib.Omega.{arith}
 use lib.Dec.{eqb, ltb, leb·suc-suc}
-use lib.ListN.{length, getD, take, set, length-map}
+use lib.ListN.{length, getD, take, set}
 use lib.Seq.{take-length}
 use borrow.Author.Tests.{lt-ltb, le-ltb, le-leb, leb-false, ltb-true, ltb-false}
 use Rattle.numbers.specs.UpTo.{table}
-use Rattle.numbers.specs.TableLaws.{length-table, table-more, take-table, map-snoc, map-table}
+use Rattle.numbers.specs.TableLaws.{table-more, map-snoc, map-table}
 use Rattle.numbers.specs.Choose.{indexOf, among}
 use Rattle.network.specs.declared.bus.Bus.{Bus}
 use Rattle.network.specs.declared.branch.Branch.{Branch}
@@ -19,8 +19,8 @@ use Rattle.network.specs.declared.error.Verdict.{Verdict}
 use Rattle.network.specs.declared.error.Verdict.the-variants.{Accepted}
 use Rattle.network.specs.Answers.{answerOf, Fault, judge}
 use Rattle.network.specs.AnswerLaws.{judge-iff, accepted-so}
-use Rattle.ids.specs.Ids.{rows, idRows, positionOf}
-use Rattle.ids.specs.IdLaws.{position-found}
+use Rattle.ids.specs.Ids.{bucketOf}
+use Rattle.ids.specs.PutIds.{Holding, one-held}
 use Rattle.network.specs.Limits.{Head, busId, switchId, on, ties}
 use Rattle.network.specs.Faults.{busRow, branchRow, switchRow, busFaults, branchFaults, switchFaults}
 use Rattle.checks.specs.Flags.{flags, flag-at, set-flag}
@@ -40,19 +40,11 @@ among-front x (y ∷ l) (suc i) h = go (eqb x y) (among-front x l i (omega arith
 pub among-index : (x : ℕ) (l : List ℕ) → ltb (indexOf x l) (length l) ≡ among x l
 among-index x l = among-front x l (length l) (omega arith) ∙ ap (among x) (take-length l)
 
--- so for the keys of n records in rows
-module _ {A : Type 0} (key : A → ℕ) (f : ℕ → A) (n : ℕ) (short : n ≤ 512) (ids first next : List ℕ) (e : rows ids first next ≡ idRows (map key (table f n))) where
-  keys-long : length (map key (table f n)) ≡ n
-  keys-long = simp (length-map, length-table)
-
-  keys-front : (i : ℕ) → i ≤ n → take i (map key (table f n)) ≡ map key (table f i)
-  keys-front i h = rw (map-table key f n, map-table key f i) (take-table (λ j. key (f j)) n i h)
-
-  -- p is the position that the rows have for x
-  pub stands-before : (x p i : ℕ) → i ≤ n → p ≡ positionOf ids first next n x → ltb p i ≡ among x (map key (table f i))
-  stands-before x p i h q =
-      let r : p ≡ indexOf x (map key (table f n)) = q ∙ position-found (map key (table f n)) (rw keys-long short) ids first next e n x (sym keys-long) in
-      rw (r, ← keys-front i h) (among-front x (map key (table f n)) i (rw keys-long h))
+-- the keys of the first i records in rows, and one more
+pub put-more : {A : Type 0} (key : A → ℕ) (f : ℕ → A) (i : ℕ) {ids first next ids′ first′ next′ : List ℕ} → Holding i (map key (table f i)) ids first next → i < 512 → (y : ℕ) → y ≡ key (f i)
+    → ids′ ≡ set ids i y → first′ ≡ set first (bucketOf y) i → next′ ≡ set next i (getD first (bucketOf y) 0) → Holding (i + 1) (map key (table f (i + 1))) ids′ first′ next′
+put-more key f i held room y e p q r =
+    rw (p, q, r, map-table key f (i + 1), table-more (λ j. key (f j)) i, ← map-table key f i, ← e) (one-held held room y)
 
 pub bus-faults : (before : List Bus) (b read : Bus) (twice : Bool) → read ≡ b → twice ≡ among (read .id) (map busId before)
     → busRow read twice ≡ busFaults before b

@@ -1,26 +1,17 @@
 -- A flag for each number below a size: whether the number is among those met so far.
 use mathlib.Core.Path.{_≡_, refl, sym}
-use mathlib.Core.Bool.{Bool, true, false, _||_, or-true, or-false}
+use mathlib.Core.Bool.{Bool, true, false, or-true, or-false}
 use mathlib.Core.List.{List, [], _∷_, _++_}
 use Prim.Native.Nat.{ℕ, _<_}
-use lib.Dec.{eqb}
 use lib.ListN.{getD, set, replicate, length-replicate, getD-replicate}
 use borrow.Author.Tests.{eq-eqb, ne-eqb}
 use Rattle.numbers.specs.UpTo.{table}
 use Rattle.numbers.specs.TableLaws.{getD-table, as-table, table-set}
 use Rattle.numbers.specs.Choose.{among}
+use Rattle.numbers.specs.ChooseLaws.{among-more}
 
 unfoldable pub flags : ℕ → List ℕ → List Bool
 flags size xs = table (λ x. among x xs) size
-
-among-more : (y x : ℕ) (xs : List ℕ) → among y (xs ++ (x ∷ [])) ≡ (among y xs || eqb y x)
-unfolding among
-among-more y x [] = or-false (eqb y x)
-among-more y x (z ∷ xs) = rw (among-more y x xs) (go (eqb y z))
-  where
-    go : (b : Bool) → (b || (among y xs || eqb y x)) ≡ (b || among y xs || eqb y x)
-    go true = refl
-    go false = refl
 
 pub flag-at : (size x : ℕ) (xs : List ℕ) → x < size → getD (flags size xs) x false ≡ among x xs
 unfolding flags

@@ -4,20 +4,20 @@ ghost use mathlib.Core.Bool.{false, cond, _&&_};
 ghost use mathlib.Core.List.{[], map};
 ghost use Prim.Native.Nat.{ℕ, suc, _+_, _≤_, _<_};
 ghost use lib.Dec.{ltb};
-ghost use lib.ListN.{getD};
+ghost use lib.ListN.{length, getD, set};
 ghost use Rattle.numbers.specs.UpTo.{table};
 ghost use Rattle.network.specs.Answers.{answerOf, _andThen_};
 ghost use Rattle.network.specs.Check.{headOf, checkRun, checkRecords};
 ghost use Rattle.network.specs.declared.bus.Bus.{Bus};
-ghost use Rattle.network.specs.Limits.{Head, busId, switchId};
+ghost use Rattle.network.specs.Limits.{Head, busId};
 ghost use Rattle.network.specs.Faults.{busFaults, branchFaults, switchFaults};
 ghost use Rattle.checks.specs.Flags.{flags};
-ghost use Rattle.ids.specs.Ids.{rows, idRows};
-ghost use Rattle.network.specs.Records.{noBus, noBranch, noSwitch, listed, recordsOf};
+ghost use Rattle.ids.specs.Ids.{bucketOf};
+ghost use Rattle.ids.specs.PutIds.{Holding};
+ghost use Rattle.network.specs.Records.{noBranch, noSwitch, listed, recordsOf};
 use ids::rows::IdRows;
-use ids::rows::bus_rows;
+use ids::rows::bucket;
 use ids::rows::position_of;
-use ids::rows::switch_rows;
 use network::branch::Branch;
 use network::bus::Bus;
 use network::error::Verdict;
@@ -30,30 +30,22 @@ use refusals::record::judge_bus;
 use refusals::record::judge_head;
 use refusals::record::judge_switch;
 
-// The buses in list order, the first at place 2; their ids are in rows.
-fn check_bus_list<'a>(
-    buses: [Bus; PowerNetwork::MAX_BUSES],
-    count: usize,
-    ids: &'a [u16; IdRows::MAX_IDS],
-    first: &'a [u16; IdRows::BUCKETS],
-    next: &'a [u16; IdRows::MAX_IDS],
-) -> Verdict
-    requires { ⌜ (count ≤ 256) × (rows (now ids) (now first) (now next) ≡ idRows (map busId (listed noBus buses count))) ⌝ }
-    ensures { λ r. ⌜ answerOf r ≡ checkRun busFaults [] 2 (listed noBus buses count) ⌝ }
+// The id at this position is put in front of its row.
+fn put_id(
+    ids: &mut [u16; IdRows::MAX_IDS],
+    first: &mut [u16; IdRows::BUCKETS],
+    next: &mut [u16; IdRows::MAX_IDS],
+    at: usize,
+    id: u16,
+)
+    requires { ⌜ (length (now ids) ≡ 512) × (length (now first) ≡ 256) × (length (now next) ≡ 512) × (at < 512) ⌝ }
+    ensures { λ _. ⌜ (now (ids .exit) ≡ set (now (ids .entry)) at id) × (now (first .exit) ≡ set (now (first .entry)) (bucketOf id) at)
+        × (now (next .exit) ≡ set (now (next .entry)) at (getD (now (first .entry)) (bucketOf id) 0)) ⌝ }
 {
-    let mut place: u16 = 2;
-    let mut i: usize = 0;
-    while i < count {
-        let bus = buses[i];
-        let twice = position_of(ids, first, next, count, bus.id) < i;
-        let verdict = judge_bus(bus, twice, place);
-        let Verdict::Accepted = verdict else {
-            return verdict;
-        };
-        place += 1;
-        i += 1;
-    }
-    Verdict::Accepted
+    let row = bucket(id);
+    ids[at] = id;
+    next[at] = first[row];
+    first[row] = at as u16;
 }
 
 // The branches in list order, the first at this place; the ids of bus_count buses are in rows.
@@ -67,7 +59,7 @@ fn check_branch_list<'a>(
     next: &'a [u16; IdRows::MAX_IDS],
 ) -> Verdict
     requires { ⌜ (count ≤ 512) × (start ≤ 1000) × («bus_count» ≤ 256) ⌝ }
-    ensures { λ r. ⌜ ((bus : ℕ → Bus) → rows (now (ids .entry)) (now (first .entry)) (now (next .entry)) ≡ idRows (map busId (table bus «bus_count»))
+    ensures { λ r. ⌜ ((bus : ℕ → Bus) → Holding «bus_count» (map busId (table bus «bus_count»)) (now (ids .entry)) (now (first .entry)) (now (next .entry))
         → answerOf r ≡ checkRun (λ before. branchFaults (table bus «bus_count»)) [] start (listed noBranch branches count)) ⌝ }
 {
     let mut place = start;
@@ -86,7 +78,8 @@ fn check_branch_list<'a>(
     Verdict::Accepted
 }
 
-// The buses and, behind them, the branches, whose ends are looked up in the rows of the buses' ids.
+// The buses in list order, the first at place 2, each id put into rows once its bus has passed; behind them the branches, whose ends are looked up in these rows. One function
+// has the rows, so that they are not handed back.
 fn check_buses_and_branches(network: PowerNetwork) -> Verdict
     requires { ⌜ (network .«bus_count» ≤ 256) × (network .«branch_count» ≤ 512) ⌝ }
     ensures { λ r. ⌜ answerOf r ≡ (checkRun busFaults [] 2 (recordsOf network .buses)
@@ -96,13 +89,24 @@ fn check_buses_and_branches(network: PowerNetwork) -> Verdict
     let m = network.branch_count as usize;
     let start = 2 + network.bus_count;
     let buses = network.buses;
-    let rows = bus_rows(buses, n);
-    let verdict = check_bus_list(buses, n, &rows.ids, &rows.first, &rows.next);
-    let Verdict::Accepted = verdict else {
-        return verdict;
-    };
+    let mut ids = [0u16; IdRows::MAX_IDS];
+    let mut first = [IdRows::NO_POSITION; IdRows::BUCKETS];
+    let mut next = [IdRows::NO_POSITION; IdRows::MAX_IDS];
+    let mut place: u16 = 2;
+    let mut i: usize = 0;
+    while i < n {
+        let bus = buses[i];
+        let twice = position_of(&ids, &first, &next, n, bus.id) < i;
+        let verdict = judge_bus(bus, twice, place);
+        let Verdict::Accepted = verdict else {
+            return verdict;
+        };
+        put_id(&mut ids, &mut first, &mut next, i, bus.id);
+        place += 1;
+        i += 1;
+    }
     let branches = network.branches;
-    check_branch_list(branches, m, start, n, &rows.ids, &rows.first, &rows.next)
+    check_branch_list(branches, m, start, n, &ids, &first, &next)
 }
 
 // How many ties there are with one switch more.
@@ -133,22 +137,21 @@ fn has_flag(flags: &[bool; PowerNetwork::MAX_BRANCHES], at: usize) -> bool
     false
 }
 
-// The switches in list order, the first at this place; their ids are in rows. A branch position that is refused needs no flag.
-fn check_switch_list<'a>(
+// The switches in list order, the first at this place, each id put into rows once its switch has passed. A branch position that is refused needs no flag.
+fn check_switch_list(
     switches: [Switch; PowerNetwork::MAX_SWITCHES],
     count: usize,
     start: u16,
     branch_count: u16,
     algorithm: ReconfigAlgorithm,
-    ids: &'a [u16; IdRows::MAX_IDS],
-    first: &'a [u16; IdRows::BUCKETS],
-    next: &'a [u16; IdRows::MAX_IDS],
 ) -> Verdict
-    requires { ⌜ (count ≤ 512) × (start ≤ 1000) × («branch_count» ≤ 512)
-        × (rows (now ids) (now first) (now next) ≡ idRows (map switchId (listed noSwitch switches count))) ⌝ }
+    requires { ⌜ (count ≤ 512) × (start ≤ 1000) × («branch_count» ≤ 512) ⌝ }
     ensures { λ r. ⌜ ((h : Head) → h .branches ≡ «branch_count» → h .algorithm ≡ algorithm
         → answerOf r ≡ checkRun (switchFaults h) [] start (listed noSwitch switches count)) ⌝ }
 {
+    let mut ids = [0u16; IdRows::MAX_IDS];
+    let mut first = [IdRows::NO_POSITION; IdRows::BUCKETS];
+    let mut next = [IdRows::NO_POSITION; IdRows::MAX_IDS];
     let mut taken = no_switches();
     let mut ties: u16 = 0;
     let mut place = start;
@@ -156,12 +159,13 @@ fn check_switch_list<'a>(
     while i < count {
         let switch = switches[i];
         let on = wide16(switch.branch_idx);
-        let twice = position_of(ids, first, next, count, switch.id) < i;
+        let twice = position_of(&ids, &first, &next, count, switch.id) < i;
         let second = has_flag(&taken, on);
         let verdict = judge_switch(switch, branch_count, algorithm, twice, second, ties, place);
         let Verdict::Accepted = verdict else {
             return verdict;
         };
+        put_id(&mut ids, &mut first, &mut next, i, switch.id);
         taken[on] = true;
         ties = ties_with(ties, switch.normally_open);
         place += 1;
@@ -181,17 +185,7 @@ fn check_switches(network: PowerNetwork) -> Verdict
     let algorithm = network.algorithm;
     let branch_count = network.branch_count;
     let start = 2 + network.bus_count + branch_count;
-    let rows = switch_rows(switches, count);
-    check_switch_list(
-        switches,
-        count,
-        start,
-        branch_count,
-        algorithm,
-        &rows.ids,
-        &rows.first,
-        &rows.next,
-    )
+    check_switch_list(switches, count, start, branch_count, algorithm)
 }
 
 // The first refusal of the records, head, buses, branches, switches.

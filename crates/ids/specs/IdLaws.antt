@@ -21,22 +21,22 @@ use Rattle.ids.specs.declared.rows.IdRows.{IdRows}
 use Rattle.network.specs.LookupLaws.{key-at}
 use Rattle.ids.specs.Ids.{bucketOf, idArray, rows, putId, rowsFrom, rowsOf, idRows, seek, positionOf}
 
-bucket-small : (id : ℕ) → bucketOf id < 256
+pub bucket-small : (id : ℕ) → bucketOf id < 256
 unfolding bucketOf
 bucket-small id = omega arith
 
 -- ---- along a row: it ends, has the id, or goes on
 module _ (ids next : List ℕ) (none id : ℕ) where
-  seek-end : (n h : ℕ) → 512 ≤ h → seek ids next none id n h ≡ none
+  pub seek-end : (n h : ℕ) → 512 ≤ h → seek ids next none id n h ≡ none
   unfolding seek
   seek-end zero h l = refl
   seek-end (suc n) h l = rw (le-ltb h 512 l)
 
-  seek-here : (n h : ℕ) → h < 512 → getD ids h 0 ≡ id → seek ids next none id (suc n) h ≡ h
+  pub seek-here : (n h : ℕ) → h < 512 → getD ids h 0 ≡ id → seek ids next none id (suc n) h ≡ h
   unfolding seek
   seek-here n h l e = rw (lt-ltb h 512 l, eq-eqb (getD ids h 0) id e)
 
-  seek-on : (n h : ℕ) → h < 512 → getD ids h 0 ≢ id → seek ids next none id (suc n) h ≡ seek ids next none id n (getD next h 0)
+  pub seek-on : (n h : ℕ) → h < 512 → getD ids h 0 ≢ id → seek ids next none id (suc n) h ≡ seek ids next none id n (getD next h 0)
   unfolding seek
   seek-on n h l e = rw (lt-ltb h 512 l, ne-eqb (getD ids h 0) id e)
 

@@ -3,10 +3,9 @@ ghost use mathlib.Core.Path.{_≡_};
 ghost use mathlib.Core.List.{map};
 ghost use Prim.Native.Nat.{_≤_, _<_};
 ghost use lib.ListN.{take};
-ghost use Rattle.network.specs.Limits.{busId, switchId};
+ghost use Rattle.network.specs.Limits.{busId};
 ghost use Rattle.ids.specs.Ids.{bucketOf, idArray, rowsOf, idRows, positionOf};
 use network::bus::Bus;
-use network::switch::Switch;
 use network::topology::PowerNetwork;
 use numbers::at_most;
 use numbers::wide16;
@@ -29,7 +28,7 @@ impl IdRows {
 }
 
 // Any number below BUCKETS is right. This one, by 65,536 times the golden ratio's fraction, spreads ids that rise in equal steps.
-fn bucket(id: u16) -> usize
+pub fn bucket(id: u16) -> usize
     ensures { λ r. ⌜ (r ≡ bucketOf id) × (r < 256) ⌝ }
 {
     wide16(id) * 40503 % 65536 / 256
@@ -74,29 +73,8 @@ pub fn bus_rows(buses: [Bus; PowerNetwork::MAX_BUSES], count: usize) -> IdRows
     rows_of(bus_ids(buses, n), n)
 }
 
-fn switch_ids(switches: [Switch; PowerNetwork::MAX_SWITCHES], n: usize) -> [u16; IdRows::MAX_IDS]
-    requires { ⌜ n ≤ 512 ⌝ }
-    ensures { λ r. ⌜ r ≡ idArray (map switchId (take n switches)) ⌝ }
-{
-    let mut ids = [0u16; IdRows::MAX_IDS];
-    let mut i: usize = 0;
-    while i < n {
-        ids[i] = switches[i].id;
-        i += 1;
-    }
-    ids
-}
-
-// The rows of the listed switches.
-pub fn switch_rows(switches: [Switch; PowerNetwork::MAX_SWITCHES], count: usize) -> IdRows
-    ensures { λ r. ⌜ r ≡ idRows (map switchId (take count switches)) ⌝ }
-{
-    let n = at_most(count, PowerNetwork::MAX_SWITCHES);
-    rows_of(switch_ids(switches, n), n)
-}
-
-// The first position of an id among count ids in rows, and count where it has none (`IdLaws.position-found`). Rows of no list of ids are followed all the
-// same, count steps at most.
+// The first position of an id among count ids in rows, and count where it has none (`IdLaws.position-found`); in rows that are being filled, some position of it
+// (`PutIds.put-before`). Rows of no list of ids are followed all the same, count steps at most.
 pub fn position_of<'a>(
     ids: &'a [u16; IdRows::MAX_IDS],
     first: &'a [u16; IdRows::BUCKETS],

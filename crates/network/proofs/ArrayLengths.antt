@@ -8,7 +8,6 @@ use Rattle.numbers.specs.Arrays.{length-of}
 use Rattle.network.specs.declared.topology.PowerNetwork.{PowerNetwork}
 use Rattle.network.proofs.bus.Bus as BusType
 use Rattle.network.proofs.branch.Branch as BranchType
-use Rattle.network.proofs.switch.Switch as SwitchType
 use Rattle.network.proofs.topology.PowerNetwork.{the-row, the-type}
 use Rattle.network.proofs.topology.PowerNetwork.Laws.{the-laws}
 
@@ -21,6 +20,3 @@ module _ (n : PowerNetwork) (owned : Owned n) where
 
   pub branches-512 : length (n .branches) ≡ 512
   branches-512 = length-of (BranchType.the-type .to) (n .branches) (owned .1 .1 .1 .0 .1 .0 .1)
-
-  pub switches-512 : length (n .switches) ≡ 512
-  switches-512 = length-of (SwitchType.the-type .to) (n .switches) (owned .1 .1 .1 .1 .0 .1 .0 .1)

@@ -1,7 +1,7 @@
 -- Laws of choosing: what `those`, `firstOf` and `indexOf` find.
 use mathlib.Core.Path.{_≡_, refl, sym, ap, _∙_}
 use mathlib.Core.Logic.{_⊎_, inl, inr, _≢_}
-use mathlib.Core.Bool.{Bool, true, false, cond, true≢false}
+use mathlib.Core.Bool.{Bool, true, false, cond, true≢false, _||_, or-false}
 use mathlib.Core.List.{List, [], _∷_, _++_, List·Memᴰ, List·Memᴰ·head, List·Memᴰ·tail, List·Memᴰ·not-nil, List·Memᴰ·cases-cons, List·Memᴰ·append-cases, List·Memᴰ·eq-of-singleton, Memᴰ·append-left, Memᴰ·append-right}
 use Prim.Native.Nat.{ℕ, zero, suc, _+_, _<_}
 use native.Mathlib.Nat.{add-zero}
@@ -15,7 +15,7 @@ use borrow.Author.Tests.{eq-eqb, ne-eqb}
 use Rattle.numbers.specs.Counts.{count}
 use Rattle.numbers.specs.CountLaws.{counted-before}
 use Rattle.numbers.specs.UpTo.{upTo}
-use Rattle.numbers.specs.Choose.{those, firstOf, indexOf}
+use Rattle.numbers.specs.Choose.{those, firstOf, indexOf, among}
 
 module _ (p : ℕ → Bool) where
   -- one number more
@@ -150,3 +150,13 @@ module _ (x : ℕ) (l : List ℕ) (i : ℕ) (h : i < length l) where
   index-behind n =
       let e : indexOf x (drop i l) ≡ suc (indexOf x (drop (i + 1) l)) = rw (drop-cons l i 0 h, ne-eqb x (getD l i 0) (λ q. n (sym q)), add-one) in
       omega arith
+
+-- one more at the end
+pub among-more : (y x : ℕ) (xs : List ℕ) → among y (xs ++ (x ∷ [])) ≡ (among y xs || eqb y x)
+unfolding among
+among-more y x [] = or-false (eqb y x)
+among-more y x (z ∷ xs) = rw (among-more y x xs) (go (eqb y z))
+  where
+    go : (b : Bool) → (b || (among y xs || eqb y x)) ≡ (b || among y xs || eqb y x)
+    go true = refl
+    go false = refl

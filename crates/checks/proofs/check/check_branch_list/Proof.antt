@@ -12,8 +12,8 @@ use Rattle.network.specs.Answers.{answerOf, judge}
 use Rattle.checks.specs.CheckLaws.{Passed, passed-none, passed-more, passed-refused, passed-all}
 use Rattle.network.specs.Limits.{busId}
 use Rattle.network.specs.Faults.{branchFaults}
-use Rattle.checks.specs.FaultLaws.{branch-faults, stands-before}
-use Rattle.ids.specs.Ids.{rows, idRows}
+use Rattle.checks.specs.FaultLaws.{branch-faults}
+use Rattle.ids.specs.PutIds.{Holding, put-before}
 use Rattle.network.specs.ReadLaws.{branch-read}
 use Rattle.network.specs.Records.{noBranch}
 use Rattle.checks.proofs.check.check_branch_list.Statement.{statement}
@@ -22,7 +22,7 @@ use Rattle.checks.proofs.check.check_branch_list.Tie as tie
 abbrev Inv-loop : tie.InvT-loop
 Inv-loop count start bus-count ids first next branches place₀ i₀ place i =
     (i ≤ count) × (place ≡ start + i)
-    × ((bus : ℕ → Bus) → rows ids first next ≡ idRows (map busId (table bus bus-count))
+    × ((bus : ℕ → Bus) → Holding bus-count (map busId (table bus bus-count)) ids first next
     → Passed (λ before. branchFaults (table bus bus-count)) start (λ j. getD branches j noBranch) count place i)
 
 abbrev μ-loop : tie.MeasureT-loop
@@ -56,17 +56,16 @@ enum-told-2 c = search needs
 judged : (c : tie.After-judge-branch Inv-loop μ-loop)
     → let loop = c .before .before .before .before .before in
     let a = loop .before .args in
-    (bus : ℕ → Bus) → rows (a .ids .now) (a .first .now) (a .next .now) ≡ idRows (map busId (table bus (a .bus-count)))
+    (bus : ℕ → Bus) → Holding (a .bus-count) (map busId (table bus (a .bus-count))) (a .ids .now) (a .first .now) (a .next .now)
     → answerOf (c .judge-branch .result) ≡ judge (branchFaults (table bus (a .bus-count)) (getD (a .t1) (loop .loop .i) noBranch)) (loop .loop .place)
 judged c bus e =
     let to = c .before in
     let loop = to .before .before .before .before in
     let start = loop .before in
-    let small : start .args .bus-count ≤ 512 = omega arith in
     let read = branch-read (start .args .t1) (loop .loop .i) (search needs) (omega arith) in
     let within : start .args .bus-count ≤ start .args .bus-count = omega arith in
-    let from-listed = stands-before busId bus _ small _ _ _ e _ _ _ within (to .before .position-of .ensures) in
-    let to-listed = stands-before busId bus _ small _ _ _ e _ _ _ within (to .position-of2 .ensures) in
+    let from-listed = put-before e _ _ _ within (to .before .position-of .ensures) in
+    let to-listed = put-before e _ _ _ within (to .position-of2 .ensures) in
     c .judge-branch .ensures ∙ ap (λ l. judge l (loop .loop .place)) (branch-faults _ _ _ _ _ read from-listed to-listed)
 
 returns : tie.Need-returns Inv-loop μ-loop

@@ -1,4 +1,4 @@
--- `check_switch_list` meets its contract: the first i switches passed, the flags are those of their branch positions, and their ties are counted.
+-- `check_switch_list` meets its contract: the first i switches passed, the flags are those of their branch positions, their ties are counted, and their ids are in rows.
 use mathlib.Core.Path.{_≡_, refl, sym, _∙_}
 use mathlib.Core.List.{map}
 use Prim.Native.Nat.{_+_, _-_, _≤_, _<_}
@@ -12,28 +12,30 @@ use Rattle.checks.specs.CheckLaws.{Passed, passed-none, passed-more, pas
 use Rattle.network.specs.Limits.{Head, switchId, on, ties}
 use Rattle.network.specs.Faults.{switchFaults}
 use Rattle.network.specs.TieLaws.{ties-next, ties-so-far}
-use Rattle.checks.specs.FaultLaws.{stands-before, switch-judged, passed-below, flag-more}
+use Rattle.ids.specs.PutIds.{Holding, none-held, put-before}
+use Rattle.checks.specs.FaultLaws.{switch-judged, passed-below, flag-more, put-more}
 use Rattle.checks.specs.Flags.{flags}
 use Rattle.network.specs.Records.{noSwitch, listed}
 use Rattle.checks.proofs.check.check_switch_list.Statement.{statement}
 use Rattle.checks.proofs.check.check_switch_list.Tie as tie
 
 abbrev Inv-loop : tie.InvT-loop
-Inv-loop count start branch-count algorithm ids first next switches taken₀ ties₀ place₀ i₀ taken t place i =
+Inv-loop count start branch-count algorithm switches ids₀ first₀ next₀ taken₀ ties₀ place₀ i₀ ids first next taken t place i =
     (i ≤ count) × (place ≡ start + i)
     × ((h : Head) → h .branches ≡ branch-count → h .algorithm ≡ algorithm → Passed (switchFaults h) start (λ j. getD switches j noSwitch) count place i)
     × (taken ≡ flags 512 (map on (listed noSwitch switches i)))
     × (t ≡ ties (listed noSwitch switches i))
+    × Holding i (map switchId (listed noSwitch switches i)) ids first next
 
 abbrev μ-loop : tie.MeasureT-loop
-μ-loop count start branch-count algorithm ids first next switches taken₀ ties₀ place₀ i₀ taken ties place i = count - i
+μ-loop count start branch-count algorithm switches ids₀ first₀ next₀ taken₀ ties₀ place₀ i₀ ids first next taken t place i = count - i
 
 no-switches-requires : tie.Need-no-switches-requires Inv-loop μ-loop
 no-switches-requires c κs = search needs
 
 loop-holds : tie.Need-loop-holds Inv-loop μ-loop
 unfolding table ties
-loop-holds c = (omega arith, sym (add-zero _), λ h p q. passed-none _ _ _ _, c .no-switches .ensures, refl)
+loop-holds c = (omega arith, sym (add-zero _), λ h p q. passed-none _ _ _ _, c .no-switches .ensures, refl, none-held)
 
 mul-switch : tie.Need-mul-switch Inv-loop μ-loop
 mul-switch c = search needs
@@ -60,43 +62,49 @@ enum-told-2 : tie.Need-enum-told-2 Inv-loop μ-loop
 enum-told-2 c = search needs
 
 judged : (c : tie.After-judge-switch Inv-loop μ-loop)
-    → let loop = c .before .before .before .before .before .before .before in
+    → let loop = c .before .before .before .before .before .before .before .before .before .before in
     let a = loop .before .before .args in
     (h : Head) → h .branches ≡ a .branch-count → h .algorithm ≡ a .algorithm
     → answerOf (c .judge-switch .result) ≡ judge (switchFaults h (listed noSwitch (a .t1) (loop .loop .i)) (getD (a .t1) (loop .loop .i) noSwitch)) (loop .loop .place)
 judged c h p q =
     let flagged = c .before in
     let sought = flagged .before .before in
-    let loop = sought .before .before .before .before in
+    let wide = sought .before .before .before .before in
+    let loop = wide .before .before .before in
     let start = loop .before .before in
     let a = start .args in
     let within : loop .loop .i ≤ a .count = omega arith in
-    let twice = stands-before switchId _ (a .count) (start .pre .0) _ _ _ (start .pre .3) _ _ (loop .loop .i) within (sought .position-of .ensures) in
+    let twice = put-before (loop .loop .inv .5) _ _ _ within (sought .position-of .ensures) in
     c .judge-switch .ensures
-    ∙ switch-judged h _ _ _ _ _ _ _ _ _ _ p q (start .pre .2) twice (flagged .has-flag .ensures) (loop .loop .inv .3) (sought .before .wide16 .ensures .0) (loop .loop .inv .4)
+    ∙ switch-judged h _ _ _ _ _ _ _ _ _ _ p q (start .pre .2) twice (flagged .has-flag .ensures) (loop .loop .inv .3) (wide .wide16 .ensures .0) (loop .loop .inv .4)
 
 returns : tie.Need-returns Inv-loop μ-loop
 returns c h p q =
     let b = c .before .before in
-    let l = b .before .before .before .before .before .before in
+    let l = b .before .before .before .before .before .before .before .before .before in
     passed-refused _ _ _ _ (l .before .loop .inv .2 h p q) (l .loop-test .taken) _ (judged b h p q) _ _ (c .enum-told2 .given .1)
 
 -- a switch that passed is on a branch
-below-512 : (c : tie.After-enum-told Inv-loop μ-loop) → c .before .before .before .before .before .before .wide16 .result < 512
+below-512 : (c : tie.After-enum-told Inv-loop μ-loop) → c .before .before .before .before .before .before .before .before .before .wide16 .result < 512
 below-512 c =
     let b = c .before .before in
-    let w = b .before .before .before .before in
+    let w = b .before .before .before .before .before .before .before in
     let loop = w .before .before .before in
     let a = loop .before .before .args in
     let below : getD (a .t1) (loop .loop .i) noSwitch .«branch_idx» < a .branch-count = passed-below _ (getD (a .t1) (loop .loop .i) noSwitch) (a .branch-count) (a .algorithm) _ _ (loop .loop .ties) (loop .loop .place) (c .enum-told .given .1) (b .judge-switch .ensures) in
     omega (arith, w .wide16 .ensures .0)
 
+put-id-requires : tie.Need-put-id-requires Inv-loop μ-loop
+put-id-requires c κs =
+    let held = c .before .before .before .before .before .before .before .before .before .before .before .before .before .before .before .loop .inv .5 in
+    (held .ids-long, held .first-long, held .next-long, omega arith)
+
 array-write-taken : tie.Need-array-write-taken Inv-loop μ-loop
-array-write-taken c = below-512 c
+array-write-taken c = below-512 (c .before .before .before .before)
 
 ties-with-requires : tie.Need-ties-with-requires Inv-loop μ-loop
 ties-with-requires c κs =
-    let loop = c .before .before .before .before .before .before .before .before .before .loop in
+    let loop = c .before .before .before .before .before .before .before .before .before .before .before .before .before .before .before .before .loop in
     omega (arith, ties-so-far _ _ _ (loop .inv .4))
 
 add-place : tie.Need-add-place Inv-loop μ-loop
@@ -110,9 +118,10 @@ loop-less c = search needs
 
 loop-again : tie.Need-loop-again Inv-loop μ-loop
 loop-again c =
-    let e = c .before in
+    let put = c .before in
+    let e = put .before .before .before .before in
     let b = e .before .before in
-    let w = b .before .before .before .before in
+    let w = b .before .before .before .before .before .before .before in
     let l = w .before .before in
     let loop = l .before .loop in (
       omega arith,
@@ -120,6 +129,7 @@ loop-again c =
       λ h p q. passed-more _ _ _ _ (loop .inv .2 h p q) (l .loop-test .taken) _ (judged b h p q) (e .enum-told .given .1),
       flag-more on _ _ _ _ _ _ refl (loop .inv .3) (w .wide16 .ensures .0, below-512 e),
       c .ties-with .ensures ∙ ties-next _ _ _ (loop .inv .4),
+      put-more switchId _ _ (loop .inv .5) (omega arith) _ refl (put .put-id .ensures .0) (put .put-id .ensures .1) (put .put-id .ensures .2),
     )
 
 returns-2 : tie.Need-returns-2 Inv-loop μ-loop
@@ -142,6 +152,7 @@ check-switch-list-spec =
     enum-told
     enum-told-2
     returns
+    put-id-requires
     array-write-taken
     ties-with-requires
     add-place
