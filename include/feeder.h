@@ -21,7 +21,7 @@
 extern "C" {
 #endif
 
-#define FEEDER_VERSION "0.4"
+#define FEEDER_VERSION "0.5"
 
 /* What a text may list, how many iterations its head may ask for, and how many of its switches may be normally open with method 02. */
 #define FEEDER_MAX_BUSES 256

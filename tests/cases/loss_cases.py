@@ -6,11 +6,12 @@ usage: tests/cases/loss_cases.py
 Each case of stdin is a line 'LENGTH NAME', a frame text, a line feed, and a line 'CHANGE STATE' (crates/loss_cases/src/main.rt). Each line
 of stdout is 'NAME BITS' or 'NAME NUMBER PLACE'. The refusals and the marked losses are written by hand from documents 01 and 02; the others are
 reckoned here with floats that round each operation once, by document 01's section Loss. With a supply the side of a branch that counts is found by
-labels, and each way of WRONG to take that loss must fail on a case.
+labels, and each way of WRONG to take that loss must fail on a case. Where a walk's queue is full, it is said which ways of WRONG_QUEUE fail.
 """
 import os
 import random
 import struct
+from collections import deque
 from fractions import Fraction
 
 ROOT = os.path.join(os.path.dirname(os.path.abspath(__file__)), '..', '..', 'crates', 'loss_cases')
@@ -18,6 +19,8 @@ CHANGES = {'iterations 1001': 'A', 'switch 10 a tie': 'F', 'no supply': 'W', '':
 # With a supply: the to side, as without one; the side that holds the supply; the bus at the position that the id is; what each branch of a bus brings added to its own load, up the
 # tree; each branch followed to its end first; neighbours by falling branch position.
 WRONG = 'to side', 'supply side', 'id as position', 'up the tree', 'depth first', 'by falling position'
+# A walk's queue in which the last of 256 buses has no room; positions in seven bits; the loads added from the queue's end.
+WRONG_QUEUE = 'queue of 255', 'positions of seven bits', 'from the last'
 cases, told_apart = [], set()
 
 
@@ -37,20 +40,43 @@ def text(feeder, method=0, ties=0, supply=None):
     return ''.join(line + '\n' for line in lines).encode()
 
 
-def load_of(loads, branches, live, start, barred, wrong=''):
-    """The loads on the side of the start, added in breadth-first order; neighbours come by rising branch position."""
+def neighbours(branches, live, wrong=''):
+    """Of each bus, by rising branch position."""
     beside = {}
     for k in reversed(live) if wrong == 'by falling position' else live:
         a, b = branches[k][:2]
-        beside.setdefault(a, []).append(b)
-        beside.setdefault(b, []).append(a)
-    left, seen, load = [start], {start, barred}, 0.0
+        beside.setdefault(a, {})[b] = True
+        beside.setdefault(b, {})[a] = True
+    return beside
+
+
+def order_of(beside, start, barred, wrong=''):
+    """The buses on the side of the start in breadth-first order, as they stand in the queue."""
+    left, seen, order = deque([start]), {start, barred}, []
     while left:
-        u = left.pop(0)
-        load += loads[u - 1]
-        found = [v for v in dict.fromkeys(beside.get(u, [])) if v not in seen]
+        u = left.popleft()
+        order.append(u)
+        found = [v for v in beside.get(u, ()) if v not in seen]
         seen.update(found)
-        left = found + left if wrong == 'depth first' else left + found
+        if wrong == 'positions of seven bits':
+            found = [(v - 1) % 128 + 1 for v in found]
+        if wrong == 'depth first':
+            left.extendleft(reversed(found))
+        else:
+            left.extend(found)
+    return order
+
+
+def load_of(loads, beside, start, barred, wrong=''):
+    """The loads on the side of the start, added in breadth-first order."""
+    order = order_of(beside, start, barred, wrong)
+    if wrong == 'queue of 255':
+        order = order[:255]
+    if wrong == 'from the last':
+        order = order[::-1]
+    load = 0.0
+    for u in order:
+        load += loads[u - 1]
     return load
 
 
@@ -101,10 +127,11 @@ def is_radial(feeder, live):
 def loss(feeder, state, fused=False, supply=None, wrong=''):
     loads, branches, switches, base = feeder
     live = live_in(feeder, state)
+    beside = neighbours(branches, live, wrong)
     total = 0.0
     for k in live if loads else []:
         ends = ends_of(feeder, live, k, supply, wrong)
-        load = up_the_tree(loads, branches, live, *ends) if wrong == 'up the tree' else load_of(loads, branches, live, *ends, wrong)
+        load = up_the_tree(loads, branches, live, *ends) if wrong == 'up the tree' else load_of(loads, beside, *ends, wrong)
         p = load / base
         term = (branches[k][2] * p) * p
         total = float(Fraction(term) * Fraction(base) + Fraction(total)) if fused else total + term * base
@@ -269,6 +296,99 @@ def chains():
         case('chain-of-256-supply-' + name, row, '', supply=supply)
 
 
+STAR = [(77, u) for u in range(1, 256) if u != 77]
+
+
+def near_tree(draw):
+    return [(draw.randrange(max(1, u - 3), u), u) for u in range(2, 257)]
+
+
+def full_size(draw, ends, starts=(), last=()):
+    """256 buses, loads of either sign, the branches in a drawn order and drawn either way; behind them one from each start to itself, each with a switch."""
+    listed = draw.sample([draw.sample(pair, 2) for pair in ends], len(ends)) + list(last)
+    own = list(range(len(listed), len(listed) + len(starts)))
+    branches = [(a, b, draw.random(), 1) for a, b in listed + [(u, u) for u in starts]]
+    return [draw.uniform(-9, 9) for _ in range(256)], branches, own, draw.uniform(1, 9)
+
+
+def queue(feeder, start, barred):
+    """What stands in the queue of a walk, all switches closed. Where the start is barred that is the walk from a branch with equal ends, or from a supply."""
+    return order_of(neighbours(feeder[1], live_in(feeder, '0' * len(feeder[2]))), start, barred)
+
+
+def placed(feeder, start, places):
+    """Whether all 256 buses stand in the queue, that at position 255 at one of these places."""
+    order = queue(feeder, start, start)
+    return len(order) == 256 and order.index(256) in places
+
+
+def told_from(feeder, state, wrong, starts=(), supply=None):
+    """Whether each wrong way gives the loss other bits, and the load of the walk from each start to itself."""
+    live = live_in(feeder, state)
+    load = lambda start, way='': bits(load_of(feeder[0], neighbours(feeder[1], live, way), start, start, way))
+    if not all(load(start, way) != load(start) for start in starts for way in wrong):
+        return False
+    right = bits(loss(feeder, state, supply=supply))
+    return all(bits(loss(feeder, state, supply=supply, wrong=way)) != right for way in wrong)
+
+
+def drawn_until(make, holds):
+    feeder = make()
+    while not holds(feeder):
+        feeder = make()
+    return feeder
+
+
+def own_loops():
+    """From a branch with equal ends the walk bars nothing but its start: 256 buses stand in its queue. Where its switch is open there is no such walk."""
+    draw, starts, wrong = random.Random(22), (1, 256, 101), WRONG_QUEUE + ('depth first', 'by falling position')
+    states = {start: ''.join('01'[other != start] for other in starts) for start in starts}
+    told = lambda feeder: all(told_from(feeder, state, wrong, [start]) for start, state in states.items())
+    feeder = drawn_until(lambda: full_size(draw, near_tree(draw), starts), told)
+    for start, state in states.items():
+        assert placed(feeder, start, range(256))
+        case('own-loop-at-position-%d' % (start - 1), feeder, state)
+    without = (feeder[0], feeder[1][:255], [], feeder[3])
+    case('own-loops-open', feeder, '111', loss(without, ''))
+
+
+def first_of_a_chain():
+    """Only the first branch of a chain of 256 has a resistance: drawn away from the first bus it has 255 buses in the queue, the other way one."""
+    draw, rest = random.Random(23), [(u, u + 1, 0.0, 1) for u in range(2, 256)]
+    feeder = [draw.uniform(-9, 9) for _ in range(256)], [(1, 2, 0.7, 1)] + rest, [], 3.0
+    turned = feeder[0], [(2, 1, 0.7, 1)] + rest, [], 3.0
+    assert [len(queue(feeder, 2, 1)), len(queue(turned, 1, 2))] == [255, 1]
+    assert told_from(feeder, '', ('from the last', 'positions of seven bits'))
+    case('first-of-a-chain-255-in-the-queue', feeder, '')
+    case('first-of-a-chain-one-in-the-queue', turned, '')
+
+
+def stars_chains_trees():
+    """Each with branches from a bus to itself, so that position 255 stands first, last and in between in a full queue."""
+    draw, between, wrong = random.Random(24), range(1, 255), WRONG_QUEUE + ('by falling position',)
+    row = draw.sample(range(1, 256), 255) + [256]
+    for name, ends, last, starts, places in [
+        ('star', STAR + [(77, 256)], [], (256, 77, 9), ([0], between, between)),
+        ('star-listed-last', STAR, [(256, 77)], (256, 77, 9), ([0], [255], [255])),
+        ('chain', list(zip(row, row[1:])), [], (256, row[0], row[200]), ([0], [255], between)),
+        ('tree', near_tree(draw), [], (256, 1, 200), ([0], range(1, 256), between)),
+    ]:
+        # from its end a chain has one order only
+        ways = wrong if name != 'chain' else WRONG_QUEUE
+        feeder = drawn_until(lambda: full_size(draw, ends, starts, last), lambda feeder: told_from(feeder, '000', ways, starts))
+        assert all(placed(feeder, start, wanted) for start, wanted in zip(starts, places)), name
+        case('full-queue-' + name, feeder, '000')
+
+
+def supply_walks():
+    """The walk from the supply has all 256 buses in its queue, that at position 255 last and in between."""
+    draw, wrong = random.Random(25), ('from the last', 'positions of seven bits', 'by falling position')
+    for name, ends, last, supply, places in [('star', STAR, [(256, 77)], 9, [255]), ('tree', near_tree(draw), [], 200, range(1, 255))]:
+        feeder = drawn_until(lambda: full_size(draw, ends, (), last), lambda feeder: told_from(feeder, '', wrong, supply=supply))
+        assert placed(feeder, supply, places), name
+        case('%s-of-256-supply' % name, feeder, '', supply=supply)
+
+
 def drawn_with_supply():
     """Trees of up to 12 buses, fed anywhere."""
     draw = random.Random(21)
@@ -278,7 +398,8 @@ def drawn_with_supply():
 
 
 def main():
-    for make in (marked, faulty_records, ranges, fused, drawn, with_supply, refused_with_supply, other_bits, at_every_bus, chains, drawn_with_supply):
+    for make in (marked, faulty_records, ranges, fused, drawn, with_supply, refused_with_supply, other_bits, at_every_bus, chains, drawn_with_supply,
+                 own_loops, first_of_a_chain, stars_chains_trees, supply_walks):
         make()
     assert told_apart == set(WRONG), set(WRONG) - told_apart
     names = [case[0] for case in cases]
@@ -287,7 +408,7 @@ def main():
     with open(os.path.join(ROOT, 'stdin'), 'wb') as out:
         for name, data, change, state, _ in cases:
             out.write(b'%d %s\n' % (len(data), name.encode()) + data + b'\n' + ('%s %s\n' % (change, state)).encode())
-        assert out.tell() <= 147456, 'the program has no room for the cases'
+        assert out.tell() <= 327680, 'the program has no room for the cases'
     with open(os.path.join(ROOT, 'stdout'), 'w') as out:
         for name, _, _, _, answer in cases:
             out.write('%s %s\n' % (name, answer))

@@ -138,6 +138,8 @@ pub fn walk_load(
     ensures { λ r. ⌜ r ≡ busLoad (now (mw .entry)) (walkBy (listed (now (at .entry)) (now (near .entry))) start barred) ⌝ }
 {
     let mut seen = [false; Graph::MAX_BUSES];
+    // The queue: bus positions, eight bits an entry. What counts entries goes up to 256 and is wider: from a branch with equal ends the walk bars nothing but its
+    // own start, so all 256 buses of a connected feeder come to stand in the queue. From any other branch one bus is barred, and at most 255 do.
     let mut bus = [0u8; Graph::MAX_BUSES];
     let bar = wide8(barred);
     seen[bar] = true;

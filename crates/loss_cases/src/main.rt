@@ -96,10 +96,10 @@ fn print_cases(input: &[u8]) {
 }
 
 // Room for all cases.
-fn buffer() -> [u8; 147456]
-    ensures { λ r. ⌜ 147456 ≡ length r ⌝ }
+fn buffer() -> [u8; 327680]
+    ensures { λ r. ⌜ 327680 ≡ length r ⌝ }
 {
-    [0; 147456]
+    [0; 327680]
 }
 
 fn main() {

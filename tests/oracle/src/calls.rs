@@ -9,7 +9,7 @@ use crate::feeder::Feeder;
 use crate::random::Random;
 use crate::reckoning::plan::{self, plan, well_formed};
 use crate::reckoning::{judge, reader, searches, Network, Refusal};
-use crate::states::{any_plan, any_state, near, OPERATION_LENGTH};
+use crate::states::{any_plan, any_state, more_closed, near, OPERATION_LENGTH};
 use crate::{damage, shapes, supplied, supply};
 
 /// One question of a program under test.
@@ -91,7 +91,22 @@ pub fn questions(count: usize, seed: u64) -> impl Iterator<Item = Vec<u8>> + Sen
     (0..count).map(move |number| any_question(&mut Random::new(seed, "questions", number), number))
 }
 
-/// The same of texts with the 05 line.
+pub const FULL_QUEUE_QUESTIONS: &str = "a full queue: questions";
+
+/// Radiality and loss on feeders of `shapes::full_queue`. Three states in four have the base's live branches and more, so that a queue
+/// is full; the others are any.
+pub fn full_queue_questions(count: usize, seed: u64) -> impl Iterator<Item = Vec<u8>> + Send {
+    (0..count).map(move |number| {
+        let random = &mut Random::new(seed, FULL_QUEUE_QUESTIONS, number);
+        let text = shapes::full_queue(random, number).text();
+        let network = reader::read(&text).expect("shapes are acceptable");
+        let present = if number % 4 == 3 { any_state(random, &network) } else { more_closed(random, &network) };
+        let (name, call, wanted) = (format!("S{number}"), Call::State, Vec::new());
+        Question { name, text, call, change: '-', present, wanted, room: 0 }.written()
+    })
+}
+
+/// Any questions of texts with the 05 line.
 pub fn questions_with_line(count: usize, seed: u64) -> impl Iterator<Item = Vec<u8>> + Send {
     (0..count).map(move |number| any_question_with_line(&mut Random::new(seed, "05 line: questions", number), number))
 }

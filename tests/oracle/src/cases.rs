@@ -18,7 +18,9 @@ pub struct Size {
     pub damaged: usize,
     pub three_buses: usize,
     pub full: usize,
+    pub full_queue: usize,
     pub questions: usize,
+    pub full_queue_questions: usize,
     /// The same with the 05 line.
     pub with_line: WithLine,
 }
@@ -40,7 +42,9 @@ impl Size {
                 damaged: 4_000,
                 three_buses: 2_000,
                 full: 3,
+                full_queue: 36,
                 questions: 20_000,
+                full_queue_questions: 60,
                 with_line: WithLine { few_buses: 600, each_shape: 40, damaged: 500, full: 3, questions: 2_000 },
             }),
             "large" => Some(Size {
@@ -48,7 +52,9 @@ impl Size {
                 damaged: 200_000,
                 three_buses: 200_000,
                 full: 30,
+                full_queue: 540,
                 questions: 200_000,
+                full_queue_questions: 1_000,
                 with_line: WithLine {
                     few_buses: 30_000,
                     each_shape: 2_000,
@@ -73,7 +79,8 @@ pub fn cases(size: Size, seed: u64) -> Cases {
         .chain(every_shape(size.each_shape, seed))
         .chain(seeded("damaged copies", size.damaged, seed, damage::damaged))
         .chain(full_size(size.full, seed))
-        .chain(full_size_not_radial(seed));
+        .chain(full_size_not_radial(seed))
+        .chain(full_queue(size.full_queue, seed));
     Box::new(fixed.chain(seeded))
 }
 
@@ -139,5 +146,14 @@ fn full_size_not_radial(seed: u64) -> impl Iterator<Item = Case> + Send {
     MAKE.into_iter().enumerate().map(move |(number, make)| {
         let feeder = make(&mut Random::new(seed, "full size, not radial", number));
         Case { kind: FULL_SIZE, text: feeder.text() }
+    })
+}
+
+pub const FULL_QUEUE: &str = "a full queue";
+
+fn full_queue(count: usize, seed: u64) -> impl Iterator<Item = Case> + Send {
+    (0..count).map(move |number| {
+        let feeder = shapes::full_queue(&mut Random::new(seed, FULL_QUEUE, number), number);
+        Case { kind: FULL_QUEUE, text: feeder.text() }
     })
 }

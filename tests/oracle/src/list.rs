@@ -2,15 +2,17 @@
 //! texts that show it. An entry is a line of eight hexadecimal digits, the text's length and the output's length (u16
 //! each), then the text, then the output.
 
-use crate::cases::{cases, Case, Size};
+use crate::cases::{cases, Case, Size, FULL_QUEUE};
 use crate::compare::Tally;
 use crate::expected::{expected, Expected};
 use crate::supplied;
 use crate::wrong::{self, Mistake};
 
-/// How many texts are kept of a kind (evenly chosen; with the 05 line fewer), for each mistake and of each refusal number.
+/// How many texts are kept of a kind (evenly chosen; fewer with the 05 line, and of a full queue, which are long), for each mistake and
+/// of each refusal number.
 const OF_A_KIND: usize = 35;
 const OF_A_KIND_WITH_LINE: usize = 12;
+const OF_A_FULL_QUEUE: usize = 8;
 const FOR_A_MISTAKE: usize = 3;
 const OF_A_REFUSAL: usize = 10;
 /// Texts that are longer need a length of more than 16 bits in a program that replays the list.
@@ -45,7 +47,11 @@ fn evenly_chosen(all: &[Case]) -> Vec<bool> {
     all.iter()
         .map(|case| {
             if case.kind != kind.0 {
-                let most = if case.kind.starts_with(supplied::LINE) { OF_A_KIND_WITH_LINE } else { OF_A_KIND };
+                let most = match case.kind {
+                    FULL_QUEUE => OF_A_FULL_QUEUE,
+                    kind if kind.starts_with(supplied::LINE) => OF_A_KIND_WITH_LINE,
+                    _ => OF_A_KIND,
+                };
                 kind = (case.kind, of_kind(case.kind).div_ceil(most), 0);
             }
             kind.2 += 1;

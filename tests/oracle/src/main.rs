@@ -64,7 +64,8 @@ fn main() -> ExitCode {
             compare::compare(questions, &arguments[3..], workers())
         }
         ["compare-written", size, seed, _, ..] => {
-            let texts = Compared { name: "texts written back", cases: written_back(size, seed), expected: calls::expected };
+            let texts =
+                Compared { name: "texts written back", cases: written_back(size, seed), expected: calls::expected };
             compare::compare(texts, &arguments[3..], workers())
         }
         ["check"] => check::worked_examples(),
@@ -98,12 +99,15 @@ fn set(size: &str, seed: &str) -> cases::Cases {
     Box::new(cases::cases(size, seed).chain(supplied::cases(size, seed)))
 }
 
-/// Questions on texts without the 05 line, then on those with it.
+/// Questions on texts without the 05 line, then on feeders with a full queue, then on texts with the line.
 fn questions(size: &str, seed: &str) -> cases::Cases {
     let (size, seed) = (named(size), number(seed));
     let before = calls::runs("questions", calls::questions(size.questions, seed));
+    let full_queue = calls::full_queue_questions(size.full_queue_questions, seed);
     let with_line = calls::questions_with_line(size.with_line.questions, seed);
-    Box::new(before.chain(calls::runs("05 line: questions", with_line)))
+    let later =
+        calls::runs(calls::FULL_QUEUE_QUESTIONS, full_queue).chain(calls::runs("05 line: questions", with_line));
+    Box::new(before.chain(later))
 }
 
 /// The accepted texts of the set, to be written back.

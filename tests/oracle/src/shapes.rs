@@ -467,6 +467,29 @@ pub fn full_size_in_pieces(random: &mut Random) -> Feeder {
     feeder
 }
 
+/// 256 connected buses with one to three branches from a bus to itself, at least one of them live in the base: its loss walks from that
+/// bus and bars no other, so that all 256 stand in the walk's queue. The styles of tree and the methods come in turn.
+pub fn full_queue(random: &mut Random, number: usize) -> Feeder {
+    let mix = Mix {
+        style: number % 4,
+        own: random.between(1, 3),
+        ties: random.between(1, 3),
+        turned: 50,
+        ..Mix::plain(random, 256, 256)
+    };
+    let values = random.pick(&[Values::Signed, Values::Signed, Values::Plain, Values::Spread]);
+    let own = |feeder: &Feeder| feeder.branches.iter().filter(|branch| branch.from == branch.to).count();
+    let mut feeder = mix.feeder_of(random, values);
+    // a drawn tie may be one more
+    while own(&feeder) > 3 {
+        feeder = mix.feeder_of(random, values);
+    }
+    (feeder.method, feeder.iterations) = ((number % 3) as u8, random.pick(&[0, 1, 2, 3]));
+    let first = feeder.branches.iter().position(|branch| branch.from == branch.to).expect("the mix has one");
+    feeder.switches.iter_mut().filter(|s| usize::from(s.branch) == first).for_each(|s| s.flags &= !TIE);
+    feeder
+}
+
 /// For each bus the piece of the base that it is in.
 fn pieces(feeder: &Feeder) -> HashMap<u16, u16> {
     let tie = |k: usize| feeder.switches.iter().any(|s| usize::from(s.branch) == k && s.flags & TIE != 0);

@@ -32,6 +32,12 @@ pub fn any_state(random: &mut Random, network: &Network) -> Vec<u8> {
     }
 }
 
+/// The base with some of its open switches closed, none or all among them.
+pub fn more_closed(random: &mut Random, network: &Network) -> Vec<u8> {
+    let chance = random.pick(&[0, 50, 50, 100]);
+    network.base().iter().map(|&byte| if random.percent(chance) { CLOSED } else { byte }).collect()
+}
+
 /// A present and a wanted state, mostly radial, and a slice about as long as their plan.
 pub fn any_plan(random: &mut Random, network: &Network) -> (Vec<u8>, Vec<u8>, usize) {
     let radial = |random: &mut Random| radial_state(random, network).unwrap_or_else(|| any_state(random, network));

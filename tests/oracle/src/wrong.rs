@@ -165,9 +165,10 @@ impl Mistake {
             (Mistake::Reading(mistake), _) => mistake.output(text, right),
             (Mistake::Print(mistake), _) => mistake.output(right),
             (_, Expected::Refused(refusal)) => refusal.line(),
-            (Mistake::Search(slip), Expected::Answered(answered)) => match answered.network.supply {
-                None if slip.needs_line() => right.output(),
-                _ => search_output(&answered.network, slip),
+            (Mistake::Search(slip), Expected::Answered(answered)) => match &answered.network {
+                network if network.supply.is_none() && slip.needs_line() => right.output(),
+                network if network.buses.len() < slip.needs_buses() => right.output(),
+                network => search_output(network, slip),
             },
             (Mistake::Plan(mistake), Expected::Answered(answered)) => {
                 answered.search.clone() + &mistake.lines(answered)

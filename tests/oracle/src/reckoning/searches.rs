@@ -55,12 +55,14 @@ pub enum Slip {
     DrawnInBase,
     SupplyIdAsPosition,
     LoadsByTree,
+    QueueOf255,
+    PositionsOfSevenBits,
 }
 
 impl Slip {
     /// No text can show these: the first move leaves a radial state, and every later one keeps its live branches.
     pub const UNSEEN: [Slip; 2] = [Slip::TabuOneRound, Slip::TabuNothingBarred];
-    pub const ALL: [Slip; 45] = [
+    pub const ALL: [Slip; 47] = [
         Slip::SupplySide,
         Slip::DepthFirst,
         Slip::LoadsBackwards,
@@ -106,11 +108,22 @@ impl Slip {
         Slip::DrawnInBase,
         Slip::SupplyIdAsPosition,
         Slip::LoadsByTree,
+        Slip::QueueOf255,
+        Slip::PositionsOfSevenBits,
     ];
 
     /// Whether only a text with the 05 line can show it.
     pub fn needs_line(self) -> bool {
-        self as usize >= Slip::ToSideWithLine as usize
+        (Slip::ToSideWithLine as usize..=Slip::LoadsByTree as usize).contains(&(self as usize))
+    }
+
+    /// The fewest buses that a text which shows it has.
+    pub fn needs_buses(self) -> usize {
+        match self {
+            Slip::QueueOf255 => 256,
+            Slip::PositionsOfSevenBits => 129,
+            _ => 0,
+        }
     }
 }
 
@@ -259,8 +272,10 @@ impl<'a> Searches<'a> {
         }
         let barred = if self.slips(Slip::EntersFromBus) { None } else { Some(from) };
         let mut order = self.walk(live, to, barred, self.slips(Slip::DepthFirst)).0;
-        if self.slips(Slip::LoadsBackwards) {
-            order.reverse();
+        match self.slip {
+            Some(Slip::LoadsBackwards) => order.reverse(),
+            Some(Slip::QueueOf255) => order.truncate(255),
+            _ => (),
         }
         order.iter().fold(0.0, |load, &bus| load + self.network.buses[bus].pd)
     }
@@ -278,6 +293,8 @@ impl<'a> Searches<'a> {
         let mut by = vec![None; reached.len()];
         let mut order = Vec::new();
         let mut waiting = VecDeque::from([start]);
+        // a loss's walk alone bars a bus
+        let narrow = self.slips(Slip::PositionsOfSevenBits) && barred.is_some();
         reached[start] = true;
         barred.into_iter().for_each(|bus| reached[bus] = true);
         while let Some(bus) = if depth_first { waiting.pop_back() } else { waiting.pop_front() } {
@@ -287,7 +304,7 @@ impl<'a> Searches<'a> {
                 if !reached[next] {
                     reached[next] = true;
                     by[next] = Some((bus, k));
-                    waiting.push_back(next);
+                    waiting.push_back(if narrow { next % 128 } else { next });
                 }
             }
         }
