@@ -8,7 +8,8 @@
  * length may be handed over: what is not acceptable is refused.
  *
  * What the caller owes, and nothing tests: each pointer is good for as many bytes as the length behind it says (with length 0 it may
- * be null), nothing else writes these bytes during the call, and `out` overlaps no other slice. No alignment is asked for.
+ * be null), nothing else writes these bytes during the call, and a slice that a call writes to (`out`, `remaining`, `back`) overlaps no other slice of it. No
+ * alignment is asked for.
  * A call keeps nothing: it may run in several threads at once. It allocates nothing; it runs on FEEDER_STACK bytes of stack.
  */
 #ifndef FEEDER_H
@@ -21,7 +22,7 @@
 extern "C" {
 #endif
 
-#define FEEDER_VERSION "0.5"
+#define FEEDER_VERSION "0.6"
 
 /* What a text may list, how many iterations its head may ask for, and how many of its switches may be normally open with method 02. */
 #define FEEDER_MAX_BUSES 256
@@ -53,16 +54,18 @@ extern "C" {
     (FEEDER_HEAD_BYTES + FEEDER_MAX_BUSES * FEEDER_BUS_BYTES + FEEDER_MAX_BRANCHES * FEEDER_BRANCH_BYTES                                   \
      + FEEDER_MAX_SWITCHES * FEEDER_SWITCH_BYTES + FEEDER_SUPPLY_BYTES)
 
-/* Bytes of an 81, an 82 and an 83 line. */
+/* Bytes of an 81, an 82 and an 83 line; a single move of feeder_resume is an 82 line. */
 #define FEEDER_ANSWER_LENGTH 59
 #define FEEDER_OPERATION_LENGTH 9
 #define FEEDER_PAIR_LENGTH 11
+#define FEEDER_MOVE_LENGTH 9
 
 /* Bytes of out that are enough for every text and every state: for feeder_operations; for feeder_plan, as a plan has fewer pairs than there are
- * buses; for feeder_answer_text; for feeder_write_text (27436, the longest accepted text). FEEDER_MAX_SWITCHES are enough for feeder_base_state and
- * feeder_solve. */
+ * buses; for either slice of feeder_resume (4590, two moves for each pair); for feeder_answer_text; for feeder_write_text (27436, the longest accepted
+ * text). FEEDER_MAX_SWITCHES are enough for feeder_base_state and feeder_solve. */
 #define FEEDER_OPERATIONS_LENGTH (FEEDER_MAX_SWITCHES * FEEDER_OPERATION_LENGTH)
 #define FEEDER_PLAN_LENGTH ((FEEDER_MAX_BUSES - 1) * FEEDER_PAIR_LENGTH)
+#define FEEDER_MOVES_LENGTH (2 * (FEEDER_MAX_BUSES - 1) * FEEDER_MOVE_LENGTH)
 #define FEEDER_TEXT_LENGTH (FEEDER_ANSWER_LENGTH + FEEDER_OPERATIONS_LENGTH + FEEDER_PLAN_LENGTH)
 #define FEEDER_FRAMES_LENGTH FEEDER_LONGEST_TEXT
 
@@ -72,6 +75,7 @@ extern "C" {
 #define FEEDER_RADIALITY_STACK 192896
 #define FEEDER_LOSS_STACK 201600
 #define FEEDER_PLAN_STACK 179520
+#define FEEDER_RESUME_STACK 192960
 #define FEEDER_ANSWER_TEXT_STACK 205056
 #define FEEDER_BASE_STATE_STACK 195456
 #define FEEDER_SOLVE_STACK 179584
@@ -81,8 +85,9 @@ extern "C" {
 
 /* The refusals, as docs/INTERFACE.md has them. The place of 1 to 9, 14 and 15 is the text's line, from 1: the first faulty line is answered, and of its numbers the lowest (2
  * where it is over 36 characters). The place of 10 and 11 is 0 for the present, first or only state and 1 for the wanted or second one; that of 12 is the
- * switch's id, the first in list order; that of 13 is 0. A faulty text comes before 10, and 10 to 13 come in this order. Records in bytes are refused as their text
- * is, so with its line: the head's is 1, the first bus's 2. They are never refused with 1: their lines are ended and have two digits for a byte. */
+ * switch's id, the first in list order; that of 16 and of 13 is 0. A faulty text comes before 10, and then the order is 10, 11, 12, 16, 13. Records in bytes are
+ * refused as their text is, so with its line: the head's is 1, the first bus's 2. They are never refused with 1: their lines are ended and have two digits for a
+ * byte. */
 enum feeder_refusal {
     FEEDER_BAD_CHARACTERS = 1,     /* an unended line, an odd number of digits, another character */
     FEEDER_BAD_LINE = 2,           /* a line of the wrong kind or length, missing or too many; any line over 36 characters */
@@ -96,9 +101,10 @@ enum feeder_refusal {
     FEEDER_BAD_STATE = 10,         /* a state isn't one byte 0 or 1 for each switch */
     FEEDER_NOT_RADIAL = 11,        /* a plan's state isn't radial, or with a supply that of a loss */
     FEEDER_LOCKED = 12,            /* the plan would move a locked switch */
-    FEEDER_NO_ROOM = 13,           /* out is shorter than the answer */
+    FEEDER_NO_ROOM = 13,           /* out is shorter than the answer, or either slice of a resumed plan than its moves */
     FEEDER_SUPPLY_NOT_LISTED = 14, /* the supply is the id of no bus that is listed */
-    FEEDER_BASE_NOT_RADIAL = 15    /* a supply is named, and the base isn't radial */
+    FEEDER_BASE_NOT_RADIAL = 15,   /* a supply is named, and the base isn't radial */
+    FEEDER_TOO_MANY_MOVES = 16     /* more moves are said to be done than the plan has */
 };
 
 /* number 0: not refused, and value is what was asked for (place is 0). Else number is an enum feeder_refusal, place is its place, and value is 0. */
@@ -120,7 +126,7 @@ struct feeder_solved {
     double reduction;    /* of the base's loss, in percent; below 0 where the best state loses more */
 };
 
-/* A call that is lent out writes its bytes to the front of it; what is behind them stays. A refusal writes nothing. */
+/* A call that is lent out writes its bytes to the front of it; what is behind them stays. A refusal writes nothing. So it is with remaining and back. */
 
 /* Is the state radial? value is 1 or 0. Refusals 1 to 10, 14 and 15. */
 struct feeder_answer feeder_radiality(const uint8_t *text, size_t text_length, const uint8_t *state, size_t state_length);
@@ -133,6 +139,17 @@ struct feeder_answer feeder_loss(const uint8_t *text, size_t text_length, const 
  * (4 digits each) and a line feed. Refusals 1 to 15. */
 struct feeder_answer feeder_plan(const uint8_t *text, size_t text_length, const uint8_t *present, size_t present_length,
                                  const uint8_t *wanted, size_t wanted_length, uint8_t *out, size_t out_length);
+
+/* The plan from the present state to the wanted one, cut off when count of its single moves were done: value is the number of moves that remain. A pair of
+ * the plan is two moves, its closing and then its opening. The text and wanted are those of the plan, and present is the state in which it BEGAN, the one that
+ * feeder_plan had, and not the one after the cut. In remaining stands an 82 line for each move that is left, in their order: carried out, they finish the plan.
+ * In back stand count 82 lines, the moves that were done, inverted and the last one first: carried out, they go back to the present state. A line is "82",
+ * switch id (4 digits), 00 to open or 01 to close, and a line feed; that is the opposite of a state's byte, which is 1 where a switch is open. remaining and back
+ * overlap neither each other nor any other slice; FEEDER_MOVES_LENGTH bytes are enough for each. Refusals 1 to 16; where either slice is too short, 13, and
+ * neither is written to. README says what a controller stores, and what it does first where the cut may have come between a move and the storing of count. */
+struct feeder_answer feeder_resume(const uint8_t *text, size_t text_length, const uint8_t *present, size_t present_length,
+                                   const uint8_t *wanted, size_t wanted_length, uint64_t count, uint8_t *remaining, size_t remaining_length,
+                                   uint8_t *back, size_t back_length);
 
 /* What the program feeder prints for an accepted text: value is the number of bytes. In out stand the search's 81 line, an 82 line for each switch that
  * stands otherwise than in the base and, where the base is radial, the plan's 83 lines. Refusals 1 to 9 and 13 to 15. */

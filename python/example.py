@@ -1,4 +1,4 @@
-"""A feeder of three buses: what its search finds, and in which order the switches move to it. Before it: python/build."""
+"""A feeder of three buses: what its search finds, in which order the switches move to it, and what is left to do after a power cut. Before it: python/build."""
 import lugwefa
 
 FEEDER = '''\
@@ -18,6 +18,9 @@ found = lugwefa.solve(FEEDER)
 print(f'base {base}: {lugwefa.loss(FEEDER, base)} MW lost; best {found.state}: {found.best_loss} MW, {found.reduction} percent less')
 for pair in lugwefa.plan(FEEDER, base, found.state):
     print(f'close switch {pair.close}, then open switch {pair.open}')
+cut = lugwefa.resume(FEEDER, base, found.state, 1)
+print('power lost after one move: to finish,', ', '.join(f'{switch} {stands}' for switch, stands in cut.remaining), end='; ')
+print('to go back,', ', '.join(f'{switch} {stands}' for switch, stands in cut.back))
 try:
     lugwefa.plan(FEEDER, base, {10: lugwefa.OPEN, 11: lugwefa.OPEN})
 except lugwefa.Refused as refusal:

@@ -16,6 +16,7 @@ from a database.
 """
 
 import ctypes
+import operator
 import os
 import struct
 from collections import namedtuple
@@ -29,6 +30,10 @@ _STANDS = (CLOSED, OPEN)
 Pair = namedtuple('Pair', 'close open')
 # What is done with a switch. A list of these is NO order to switch in: that is the plan's.
 Operation = namedtuple('Operation', 'switch stands')
+# A single move of a plan: the switch, and how it stands then. Moves are carried out in their order.
+Move = namedtuple('Move', 'switch stands')
+# A plan that was cut off: the moves that finish it, and those that go back to the state in which it began.
+Resumed = namedtuple('Resumed', 'remaining back')
 # What a search answers: its best state, and the fields of the 81 line. Losses are in MW, the reduction in percent of the base's loss.
 Solution = namedtuple('Solution', 'state radial base_loss best_loss reduction iterations converged')
 
@@ -39,7 +44,7 @@ Bus = namedtuple('Bus', 'id pd')
 Branch = namedtuple('Branch', 'from_bus to_bus r status')
 Switch = namedtuple('Switch', 'id branch normally_open can_operate')
 
-# the words of document 01; of 02 the second half of 11, 14 and 15
+# the words of document 01; of 02 the second half of 11, and 14 to 16
 CONDITIONS = {
     1: 'unended line, odd digits, another character',
     2: 'wrong kind or length, line missing or too many',
@@ -56,6 +61,7 @@ CONDITIONS = {
     13: 'lent slice shorter than the answer',
     14: 'supply bus not listed',
     15: 'a supply is named, and the base is not radial',
+    16: "count above the plan's moves",
 }
 
 
@@ -70,7 +76,7 @@ class Refused(ValueError):
         return f'refused {self.number} at {self._where()}: {CONDITIONS[self.number]}' + (f' ({self.why})' if self.why else '')
 
     def _where(self):
-        if self.number <= 9 or self.number >= 14:
+        if self.number <= 9 or self.number in (14, 15):
             return f'line {self.place}'
         if self.number <= 11:
             return 'the wanted state' if self.place else 'the present or only state'
@@ -123,8 +129,15 @@ def loss(text, state):
 
 def plan(text, present, wanted):
     """The pairs that lead from the present state to the wanted one, in the order in which they are carried out."""
-    lines = _lines_on_states(_library().feeder_plan, text, present, wanted)
+    lines, = _lines_on_states(_library().feeder_plan, text, present, wanted)
     return [Pair(int(line[2:6], 16), int(line[6:10], 16)) for line in lines]
+
+
+def resume(text, present, wanted, count):
+    """The plan from the present state to the wanted one, cut off when so many of its single moves were done: a pair is two, its closing and then its opening. Present is the state
+    in which the plan began, and not the one after the cut. `Resumed` has the moves that remain and those that go back; a count below 0 is a ValueError."""
+    remaining, back = _lines_on_states(_library().feeder_resume, text, present, wanted, _count(count))
+    return Resumed(*([Move(*_operation(line)) for line in lines] for lines in (remaining, back)))
 
 
 def answer_text(text):
@@ -152,8 +165,8 @@ def solve(text):
 
 def operations(text, present, wanted):
     """The switches that stand otherwise in the wanted state, in the text's order, and how they stand there."""
-    lines = _lines_on_states(_library().feeder_operations, text, present, wanted)
-    return [Operation(int(line[2:6], 16), CLOSED if line[6:8] == '01' else OPEN) for line in lines]
+    lines, = _lines_on_states(_library().feeder_operations, text, present, wanted)
+    return [Operation(*_operation(line)) for line in lines]
 
 
 def switch_ids(text):
@@ -195,9 +208,12 @@ class _Solved(ctypes.Structure):
                 ('iterations', ctypes.c_uint16), ('base_loss', ctypes.c_double), ('best_loss', ctypes.c_double), ('reduction', ctypes.c_double)]
 
 
-# each call with what it answers and how many slices it takes
-_CALLS = {'feeder_radiality': (_Answer, 2), 'feeder_loss': (_Answer, 2), 'feeder_plan': (_Answer, 4), 'feeder_answer_text': (_Answer, 2),
-          'feeder_base_state': (_Answer, 2), 'feeder_solve': (_Solved, 2), 'feeder_operations': (_Answer, 4), 'feeder_write_text': (_Answer, 2)}
+# each call with what it answers and what it takes: slices, and a number
+_SLICE, _NUMBER = (ctypes.c_char_p, ctypes.c_size_t), (ctypes.c_uint64,)
+_CALLS = {'feeder_radiality': (_Answer, 2 * _SLICE), 'feeder_loss': (_Answer, 2 * _SLICE), 'feeder_plan': (_Answer, 4 * _SLICE),
+          'feeder_resume': (_Answer, 3 * _SLICE + _NUMBER + 2 * _SLICE), 'feeder_answer_text': (_Answer, 2 * _SLICE),
+          'feeder_base_state': (_Answer, 2 * _SLICE), 'feeder_solve': (_Solved, 2 * _SLICE), 'feeder_operations': (_Answer, 4 * _SLICE),
+          'feeder_write_text': (_Answer, 2 * _SLICE)}
 _loaded = None
 
 
@@ -210,11 +226,11 @@ def _library():
         if path is None:
             raise OSError('liblugwefa.so is not there: python/build makes it, or LUGWEFA_LIBRARY names it')
         library = ctypes.CDLL(path)
-        for name, (answer, slices) in _CALLS.items():
+        for name, (answer, parameters) in _CALLS.items():
             call = getattr(library, name, None)
             if call is None:
                 raise OSError(f'{path} has no {name}: python/build makes it anew')
-            call.restype, call.argtypes = answer, [ctypes.c_char_p, ctypes.c_size_t] * slices
+            call.restype, call.argtypes = answer, parameters
         _loaded = library
     return _loaded
 
@@ -223,18 +239,26 @@ def _bytes(text):
     return text.encode(errors='surrogatepass') if isinstance(text, str) else bytes(iter(text))
 
 
-def _call(call, slices):
-    return call(*(word for each in slices for word in (each, len(each))))
+def _count(count):
+    """A count above every u64 is above every plan's moves: the call refuses the largest u64 too. `ctypes` would drop its upper bits."""
+    count = operator.index(count)
+    if count < 0:
+        raise ValueError(f'the count is {count}, which is no number of moves')
+    return min(count, 2 ** 64 - 1)
 
 
-def _lent(call, *slices):
-    """The call with a slice of its own to write to, doubled while it is too short; what it answers, and the slice."""
+def _call(call, parameters):
+    return call(*(word for each in parameters for word in ((each,) if isinstance(each, int) else (each, len(each)))))
+
+
+def _lent(call, *parameters, slices=1):
+    """The call with slices of its own to write to, doubled while they are too short; what it answers, and the slices."""
     size = 8192
     while True:
-        room = ctypes.create_string_buffer(size)
-        answer = _call(call, (*slices, room))
+        rooms = [ctypes.create_string_buffer(size) for _ in range(slices)]
+        answer = _call(call, (*parameters, *rooms))
         if answer.number != 13:
-            return answer, room.raw
+            return answer, *(room.raw for room in rooms)
         size *= 2
 
 
@@ -251,12 +275,18 @@ def _on_states(call, text, state):
     return _checked(answer, answer, [why])
 
 
-def _lines_on_states(call, text, present, wanted):
+def _lines_on_states(call, text, present, wanted, *done):
+    """The lines of the call's slices: in the first as many as it answers, in the second, where moves were done, one for each of these."""
     text = _bytes(text)
     (present, why), (wanted, other_why) = _in_order(text, present), _in_order(text, wanted)
-    answer, room = _lent(call, text, present, wanted)
+    answer, *rooms = _lent(call, text, present, wanted, *done, slices=1 + len(done))
     _checked(answer, None, [why, other_why])
-    return [line.decode() for line in room.split(b'\n')[:answer.value]]
+    return [[line.decode() for line in room.split(b'\n')[:count]] for room, count in zip(rooms, (answer.value, *done))]
+
+
+def _operation(line):
+    """An 82 line: the switch, and how it stands then."""
+    return int(line[2:6], 16), CLOSED if line[6:8] == '01' else OPEN
 
 
 def _ids(text):

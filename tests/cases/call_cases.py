@@ -5,7 +5,7 @@ usage: tests/cases/call_cases.py
 
 Each case of stdin is a line 'LENGTH NAME', a frame text, a line feed, and three lines: the letters CALL and CHANGE with a blank and PRESENT, then
 WANTED, then SLICE (crates/call_cases/src/calls.rt). Each case of stdout is 'NAME FIELDS [SLICE]' or 'NAME refused NUMBER PLACE [SLICE]', with
-the slice as the call leaves it; call S is two calls without a slice. Every answer is written by hand from documents 01 and 02, and tests/oracle/self-test
+the slice as the call leaves it; call S is two calls without a slice, and call R has two, the second in a line of its own. Every answer is written by hand from documents 01 and 02, and tests/oracle/self-test
 holds them against the original Rust.
 """
 import os
@@ -51,10 +51,15 @@ PARALLEL = Feeder([0.0, 2.0], [(1, 2, 0.25), (1, 2, 0.5)], [(7, 1, 2)])
 RING = Feeder([0.0, 2.0, 3.0, 1.0, 2.0], [(1, 2, 0.25), (2, 3, 0.25), (3, 4, 0.25), (4, 5, 0.25), (5, 1, 0.25)], [(10 + k, k, 3 if k == 2 else 2) for k in range(5)])
 # ids fall, and every second switch is a locked tie
 LARGEST = Feeder([0.0], [(1, 1, 0.0)] * 512, [(1000 - i, i, i % 2) for i in range(512)])
+LOCKED = Feeder([0.0, 1.0, 2.0], SIDES, [(10, 1, 0), (11, 2, 3)])
+# three buses in a row, joined by two branches each
+ROW = Feeder([0.0, 1.0, 2.0], [(1, 2, 0.25), (2, 3, 0.25)] * 2, [(40, 0, 2), (30, 1, 2), (20, 2, 3), (10, 3, 3)])
+# bus 1 joined with each of 255 others by two branches, the second of them a tie
+LONGEST = Feeder([0.0] * 256, [(1, 2 + k, 0.0) for k in range(255)] * 2, [(1000 - i, i, 2 if i < 255 else 3) for i in range(510)])
 
 
-def case(call, name, text, printed, present='', wanted='', room=0, change='-'):
-    cases.append((name, '%d %s\n%s\n%s%s %s\n%s\n%s\n' % (len(text), name, text, call, change, present, wanted, '.' * room), printed))
+def case(call, name, text, printed, present='', wanted='', room=0, change='-', slices=None):
+    cases.append((name, '%d %s\n%s\n%s%s %s\n%s\n%s\n' % (len(text), name, text, call, change, present, wanted, slices or '.' * room), printed))
 
 
 def refused(number, place):
@@ -84,6 +89,13 @@ def state(name, feeder, bytes_, radial, loss):
 def plan(name, present, wanted, room, known, feeder=TRIANGLE, method=EXCHANGE):
     lines = ''.join('83%04X%04X\n' % pair for pair in known)
     slice_case('P', 'plan-' + name, feeder.text(method), room, '%04x' % len(known), lines, present=present, wanted=wanted)
+
+
+def cut_plan(name, count, rooms, fields, remaining=(), back=(), text=TRIANGLE.text(), present='01', wanted='10', change='-'):
+    """The count and the rooms of the two slices; of a move the id, and 00 open or 01 close."""
+    lists = [''.join('82%04X%02X\n' % move for move in moves) for moves in (remaining, back)]
+    left = ['[%s]' % (written + '.' * (room - len(written))) for written, room in zip(lists, rooms)]
+    case('R', 'cut-plan-' + name, text, '%s %s\n %s' % (fields, *left), present, wanted, change=change, slices='%016X %04X %04X' % (count, *rooms))
 
 
 def best_states():
@@ -239,15 +251,51 @@ def calls_with_supply():
             slice_case(call, 'supply-%s-%s' % (name, call), feeder.text(), 11, refused(*fault), '', present='2', wanted='2')
 
 
+def cut_plans():
+    """The triangle's plan closes 11, then opens 10."""
+    there, back = [(11, 1), (10, 0)], [(10, 1), (11, 0)]
+    for done, rooms in [(0, (18, 0)), (1, (9, 9)), (2, (0, 18)), (0, (19, 1)), (1, (12, 10)), (2, (18, 27))]:
+        cut_plan('%d-done-%d-%d' % (done, *rooms), done, rooms, '%04x' % (2 - done), there[done:], back[2 - done:])
+    for done, rooms in [(0, (17, 18)), (0, (0, 0)), (1, (8, 9)), (1, (9, 8)), (1, (8, 8)), (1, (0, 9)), (1, (18, 0)), (2, (18, 17)), (2, (0, 0))]:
+        cut_plan('no-room-%d-done-%d-%d' % (done, *rooms), done, rooms, refused(13, 0))
+    for done in [3, 4, 255, 256, 65535, 65536, 65537, 2**32, 2**32 + 1, 2**63, 2**64 - 1]:
+        cut_plan('of-2-moves-%d-done' % done, done, (18, 18), refused(16, 0))
+    cut_plan('16-before-13', 3, (0, 0), refused(16, 0))
+    cut_plan('with-supply', 1, (9, 9), '0001', [(10, 0)], [(11, 0)], TRIANGLE.fed(1).text())
+    cut_plan('equal-states', 0, (2, 3), '0000', wanted='01')
+    cut_plan('equal-states-one-done', 1, (2, 3), refused(16, 0), wanted='01')
+    cut_plan('no-buses', 0, (0, 0), '0000', text=NO_BUSES.text(), present='', wanted='')
+    cut_plan('no-buses-one-done', 1, (9, 9), refused(16, 0), text=NO_BUSES.text(), present='', wanted='')
+    for done in (0, 3):
+        cut_plan('locked-%d-done' % done, done, (0, 0), refused(12, 10), text=LOCKED.text())
+    for name, present, wanted, fault in [('present-02', '02', '2', (10, 0)), ('wanted-too-long', '00', '101', (10, 1)), ('present-looped', '00', '11', (11, 0)), ('wanted-in-pieces', '01', '11', (11, 1))]:
+        cut_plan(name, 2**64 - 1, (4, 5), refused(*fault), present=present, wanted=wanted)
+    for change, fault in [('I', (3, 1)), ('U', (6, 5)), ('W', (4, 1))]:
+        cut_plan('change-' + change, 3, (18, 17), refused(*fault), present='02', change=change)
+    cut_plan('of-no-text', 3, (4, 5), refused(1, 1), text='0G\n')
+    cut_plan('supply-not-listed', 3, (4, 5), refused(14, 10), text=TRIANGLE.fed(9).text())
+    # closes 20, opens 40, closes 10, opens 30
+    there, back = [(20, 1), (40, 0), (10, 1), (30, 0)], [(30, 1), (10, 0), (40, 1), (20, 0)]
+    for done in range(5):
+        cut_plan('row-%d-done' % done, done, (9 * (4 - done), 9 * done), '%04x' % (4 - done), there[done:], back[4 - done:], ROW.text(), '0011', '1100')
+    cut_plan('row-5-done', 5, (36, 36), refused(16, 0), text=ROW.text(), present='0011', wanted='1100')
+
+
 def largest():
     best('512-switches', LARGEST, 512, 0, 0.0, 0.0, 1, 1, '01' * 256)
     slice_case('B', 'best-512-switches-one-byte-short', LARGEST.text(), 511, refused(13, 0), '')
     operations('512', LARGEST, '0' * 512, '1' * 512, 4608, [(1000 - i, 0) for i in range(512)])
     slice_case('O', 'operations-512-one-byte-short', LARGEST.text(), 4607, refused(13, 0), '', present='0' * 512, wanted='1' * 512)
+    longest = {'text': LONGEST.text(), 'present': '0' * 255 + '1' * 255, 'wanted': '1' * 255 + '0' * 255}
+    # switch 745 - k closes before switch 1000 - k opens; with 255 moves done switch 618 is closed, and switch 873 is to be opened
+    remaining = [(873, 0)] + [move for k in range(128, 255) for move in [(745 - k, 1), (1000 - k, 0)]]
+    back = [(618, 0)] + [move for k in reversed(range(127)) for move in [(1000 - k, 1), (745 - k, 0)]]
+    cut_plan('510-moves-255-done', 255, (2295, 2296), '00ff', remaining, back, **longest)
+    cut_plan('510-moves-510-done-one-byte-short', 510, (0, 4589), refused(13, 0), **longest)
 
 
 def main():
-    for make in (best_states, moved_bytes, listed_operations, refused_states, network_refusals, states_and_plans, written_texts, searches_with_supply, calls_with_supply, largest):
+    for make in (best_states, moved_bytes, listed_operations, refused_states, network_refusals, states_and_plans, written_texts, searches_with_supply, calls_with_supply, cut_plans, largest):
         make()
     names = [name for name, _, _ in cases]
     assert len(names) == len(set(names)), 'a name stands twice'

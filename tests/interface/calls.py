@@ -9,7 +9,7 @@ import sys
 from contextlib import redirect_stdout
 
 import lugwefa
-from lugwefa import CLOSED, OPEN, Branch, Bus, Head, NoRoom, Operation, Pair, Refused, Switch
+from lugwefa import CLOSED, OPEN, Branch, Bus, Head, Move, NoRoom, Operation, Pair, Refused, Resumed, Switch
 
 HEAD = '010003000300023FF0000000000000000064\n'
 BUSES = '0200010000000000000000\n0200023FF0000000000000\n0200034000000000000000\n'
@@ -78,6 +78,62 @@ def states_by_id():
                 expect((refused.number, refused.place, refused.why), (10, number, why), 'a state that is none')
     expect(refusal(lugwefa.plan, TRIANGLE, b'\2', {}), (10, 0), "the present state's refusal first")
     expect(refusal(lugwefa.plan, TRIANGLE, ALL_OPEN, {}), (10, 1), '10 before 11')
+
+
+def other(stands):
+    return OPEN if stands == CLOSED else CLOSED
+
+
+def live(text, state):
+    """The positions of the live branches, by the text's own lines."""
+    _, _, branches, switches, *_ = in_records(text)
+    dead = {switch.branch for switch in switches if state[switch.id] == OPEN}
+    return [k for k, branch in enumerate(branches) if branch.status and k not in dead]
+
+
+def carried_out(state, moves):
+    """A state after the moves; each must change its switch."""
+    state = dict(state)
+    for switch, stands in moves:
+        if state[switch] == stands:
+            return None
+        state[switch] = stands
+    return state
+
+
+def every_cut(text, present, wanted, what):
+    """A plan cut off at every count, against the pairs that `plan` answers."""
+    moves = [move for closes, opens in lugwefa.plan(text, present, wanted) for move in (Move(closes, CLOSED), Move(opens, OPEN))]
+    for count in range(len(moves) + 1):
+        right = Resumed(moves[count:], [Move(switch, other(stands)) for switch, stands in reversed(moves[:count])])
+        cut, state = lugwefa.resume(text, present, wanted, count), carried_out(present, moves[:count])
+        expect(cut, right, f'{what}, cut off at {count}')
+        expect(live(text, carried_out(state, cut.remaining)), live(text, wanted), f'{what}, finished from {count}')
+        expect(carried_out(state, cut.back), dict(present), f'{what}, gone back from {count}')
+        expect(lugwefa.radiality(text, state), count == 0 or moves[count - 1].stands == OPEN, f'{what}, at {count}')
+    for count in (len(moves) + 1, 65536, 65536 + len(moves), 2 ** 32, 2 ** 64 - 1, 2 ** 64, 2 ** 64 + len(moves), 10 ** 30):
+        expect(refusal(lugwefa.resume, text, present, wanted, count), (16, 0), f'{what}, cut off behind its end')
+
+
+def resumed():
+    expect(lugwefa.resume(TRIANGLE, BASE, BEST, 0), Resumed([Move(11, CLOSED), Move(10, OPEN)], []), 'no move done')
+    expect(lugwefa.resume(TRIANGLE, BASE, BEST, 1), Resumed([Move(10, OPEN)], [Move(11, OPEN)]), 'the closing done')
+    expect(lugwefa.resume(TRIANGLE, BASE, BEST, 2), Resumed([], [Move(10, CLOSED), Move(11, OPEN)]), 'both moves done')
+    expect(lugwefa.resume(TRIANGLE, b'\1\0', [0, 1], True), Resumed([Move(11, OPEN)], [Move(10, OPEN)]), "states in the call's bytes")
+    for text in (TRIANGLE, TURNED + '050001\n'):
+        for present, wanted in ((BASE, BEST), (BEST, BASE), (BASE, BASE)):
+            every_cut(text, present, wanted, "the triangle's plan")
+    expect(refusal(lugwefa.resume, TRIANGLE, b'\2', {}, 99), (10, 0), "the present state's refusal first")
+    expect(refusal(lugwefa.resume, TRIANGLE, ALL_OPEN, {}, 99), (10, 1), '10 before 11')
+    expect(refusal(lugwefa.resume, TRIANGLE, ALL_CLOSED, BEST, 1), (11, 0), 'the state after the cut is no present state')
+    expect(refusal(lugwefa.resume, LOCKED, BASE, ALL_OPEN, 99), (11, 1), '11 before 16')
+    expect(refusal(lugwefa.resume, LOCKED, BASE, BEST, 99), (12, 10), '12 before 16')
+    expect(str(Refused(16, 0)), "refused 16 at place 0: count above the plan's moves", 'words')
+    for count, error in ((-1, ValueError), (-2 ** 64, ValueError), (1.0, TypeError), ('1', TypeError), (None, TypeError)):
+        try:
+            expect(lugwefa.resume(TRIANGLE, BASE, BEST, count), error, 'no count')
+        except (ValueError, TypeError) as raised:
+            expect(type(raised), error, 'no count')
 
 
 def in_bytes(text):
@@ -204,6 +260,7 @@ def refusals():
             expect(refusal(ask, text, b'\2'), right, f'{right[0]} before the state')
         for ask in (lugwefa.plan, lugwefa.operations):
             expect(refusal(ask, text, BASE, {}), right, f'{right[0]} before the states')
+        expect(refusal(lugwefa.resume, text, BASE, {}, 99), right, f'{right[0]} before the states and the count')
     expect(refusal(lugwefa.plan, LOCKED, ALL_CLOSED, BEST), (11, 0), 'a present state that is not radial')
     expect(refusal(lugwefa.plan, LOCKED, BASE, ALL_OPEN), (11, 1), 'a wanted state that is not radial')
     expect(refusal(lugwefa.plan, LOCKED, BASE, BEST), (12, 10), 'a locked switch')
@@ -212,7 +269,7 @@ def refusals():
     expect(str(Refused(11, 1)), "refused 11 at the wanted state: a plan's state isn't radial, or with a supply that of a loss", 'words')
     expect(str(Refused(14, 10)), 'refused 14 at line 10: supply bus not listed', 'words')
     expect(str(Refused(15, 10)), 'refused 15 at line 10: a supply is named, and the base is not radial', 'words')
-    expect(sorted(lugwefa.CONDITIONS), list(range(1, 16)), 'a condition for each number')
+    expect(sorted(lugwefa.CONDITIONS), list(range(1, 17)), 'a condition for each number')
 
 
 def tails():
@@ -232,6 +289,22 @@ def tails():
             right = b'\xAA' * 16 + (written if fits else b'')
             expect(buffer.raw, right + b'\xAA' * (256 - len(right)), f'{name}: the bytes with room for {room}')
             expect((answer.number, answer.place), (0 if fits else 13, 0), f'{name}: the answer with room for {room}')
+
+
+def two_tails():
+    """The same around the two slices of a plan that was cut off, at each count with room and without."""
+    text, moves, undone = TRIANGLE.encode(), (b'82000B01\n', b'82000A00\n'), (b'82000A01\n', b'82000B00\n')
+    for count in range(4):
+        written = b''.join(moves[count:]), b''.join(undone[2 - count:]) if count <= 2 else b''
+        for spare in ((8, 8), (0, 0), (-1, 8), (8, -1), (-1, -1)):
+            rooms = [max(len(each) + more, 0) for each, more in zip(written, spare)]
+            number = 16 if count > 2 else 13 if any(room < len(each) for room, each in zip(rooms, written)) else 0
+            buffers = [ctypes.create_string_buffer(b'\xAA' * 64, 64) for _ in written]
+            middles = [ctypes.c_char_p(ctypes.addressof(buffer) + 16) for buffer in buffers]
+            answer = lugwefa._library().feeder_resume(text, len(text), b'\0\1', 2, b'\1\0', 2, count, middles[0], rooms[0], middles[1], rooms[1])
+            rights = [b'\xAA' * 16 + (b'' if number else each) for each in written]
+            expect([buffer.raw for buffer in buffers], [right + b'\xAA' * (64 - len(right)) for right in rights], f'two slices at {count} with room for {rooms}')
+            expect((answer.number, answer.place, answer.value), (number, 0, 0 if number else 2 - count), f'the answer at {count} with room for {rooms}')
 
 
 def bits(x):
@@ -261,8 +334,10 @@ def every_text(path):
         lines += [f'82{switch:04X}{stands == CLOSED:02X}' for switch, stands in lugwefa.operations(text, base, found.state)]
         if lugwefa.radiality(text, base):
             lines += [f'83{pair.close:04X}{pair.open:04X}' for pair in lugwefa.plan(text, base, found.state)]
+            every_cut(text.decode(), base, found.state, what)
         else:
             expect(refusal(lugwefa.plan, text, base, found.state), (11, 0), what)
+            expect(refusal(lugwefa.resume, text, base, found.state, 0), (11, 0), what)
         expect('\n'.join(lines) + '\n', printed, what)
         losses = [lugwefa.loss(text, state) for state in (base, found.state)]
         expect((losses, lugwefa.radiality(text, found.state)), ([found.base_loss, found.best_loss], found.radial), what)
@@ -274,16 +349,19 @@ def example(path):
         runpy.run_path(path)
     expect(printed.getvalue(), "base {10: 'closed', 11: 'open'}: 4.0 MW lost; best {10: 'open', 11: 'closed'}: 1.0 MW, 75.0 percent less\n"
            'close switch 11, then open switch 10\n'
+           'power lost after one move: to finish, 10 open; to go back, 11 open\n'
            "refused 11 at the wanted state: a plan's state isn't radial, or with a supply that of a loss\n", 'the example')
 
 
 triangle()
 states_by_id()
+resumed()
 written_texts()
 supplies()
 values_without_room()
 refusals()
 tails()
+two_tails()
 example(sys.argv[2])
 texts, written = every_text(sys.argv[1])
 print(f'interface: Python: {checks} checks, {wrong} wrong ({texts} texts of the list, {written} of them accepted and written back)')

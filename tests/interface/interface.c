@@ -117,6 +117,179 @@ static void plans(void) {
     plan(TRIANGLE "04", "\0\1", 2, "\1\0", 2, ROOM, 1, 10, 0, "", "an unended line too many");
 }
 
+/* A plan that was cut off writes into two slices, each between guard bytes of its own. */
+struct lent {
+    uint8_t bytes[MARGIN + FEEDER_MOVES_LENGTH + MARGIN], right[MARGIN + FEEDER_MOVES_LENGTH + MARGIN];
+};
+static struct lent remaining, back;
+
+static void lay_lent(struct lent *slice, const char *written) {
+    memset(slice->bytes, GUARD, sizeof slice->bytes);
+    memset(slice->right, GUARD, sizeof slice->right);
+    memcpy(slice->right + MARGIN, written, strlen(written));
+}
+
+static int is_right(const struct lent *slice) { return memcmp(slice->bytes, slice->right, sizeof slice->bytes) == 0; }
+
+/* `left` and `undone` are what must stand at the fronts of the two slices. */
+static void resume(const char *text, const char *present, size_t present_length, const char *wanted, size_t wanted_length, uint64_t count,
+                   size_t room, size_t back_room, unsigned number, unsigned place, uint64_t value, const char *left, const char *undone,
+                   const char *what) {
+    lay_lent(&remaining, left);
+    lay_lent(&back, undone);
+    expect_answer(feeder_resume((const uint8_t *)text, strlen(text), (const uint8_t *)present, present_length, (const uint8_t *)wanted,
+                                wanted_length, count, remaining.bytes + MARGIN, room, back.bytes + MARGIN, back_room),
+                  number, place, value, what);
+    expect(is_right(&remaining) && is_right(&back), what);
+}
+
+/* Counts that are above every plan's moves, however many of their bits are looked at. */
+static const uint64_t too_many[] = {511, 512, 65535, 65536, 65538, (uint64_t)1 << 32, ((uint64_t)1 << 32) + 2, (uint64_t)1 << 63, UINT64_MAX};
+enum { TOO_MANY = sizeof too_many / sizeof too_many[0] };
+
+static void resumed_plans(void) {
+    static uint8_t one_behind_the_other[18];
+    resume(TRIANGLE, "\0\1", 2, "\1\0", 2, 0, ROOM, ROOM, 0, 0, 2, "82000B01\n82000A00\n", "", "no move done, the rest of the slices kept");
+    resume(TRIANGLE, "\0\1", 2, "\1\0", 2, 1, ROOM, ROOM, 0, 0, 1, "82000A00\n", "82000B00\n", "the closing done");
+    resume(TRIANGLE, "\0\1", 2, "\1\0", 2, 2, ROOM, ROOM, 0, 0, 0, "", "82000A01\n82000B00\n", "both moves done");
+    resume(TRIANGLE, "\1\0", 2, "\0\1", 2, 1, 9, 9, 0, 0, 1, "82000B00\n", "82000A00\n", "the plan the other way, exactly full slices");
+    resume(TRIANGLE, "\0\1", 2, "\0\1", 2, 0, 0, 0, 0, 0, 0, "", "", "equal states, no room needed");
+    resume(TRIANGLE, "\0\1", 2, "\0\1", 2, 1, ROOM, ROOM, FEEDER_TOO_MANY_MOVES, 0, 0, "", "", "equal states, a move done");
+    resume(TRIANGLE, "\0\1", 2, "\1\0", 2, 0, 18, 0, 0, 0, 2, "82000B01\n82000A00\n", "", "no room to go back, and none needed");
+    resume(TRIANGLE, "\0\1", 2, "\1\0", 2, 2, 0, 18, 0, 0, 0, "", "82000A01\n82000B00\n", "no room to go on, and none needed");
+    resume(TRIANGLE, "\0\1", 2, "\1\0", 2, 0, 17, ROOM, FEEDER_NO_ROOM, 0, 0, "", "", "no move done, one byte short");
+    resume(TRIANGLE, "\0\1", 2, "\1\0", 2, 2, ROOM, 17, FEEDER_NO_ROOM, 0, 0, "", "", "both moves done, one byte short");
+    resume(TRIANGLE, "\0\1", 2, "\1\0", 2, 1, 8, ROOM, FEEDER_NO_ROOM, 0, 0, "", "", "the closing done, the first slice one byte short");
+    resume(TRIANGLE, "\0\1", 2, "\1\0", 2, 1, ROOM, 8, FEEDER_NO_ROOM, 0, 0, "", "", "the closing done, the second slice one byte short");
+    resume(TRIANGLE, "\0\1", 2, "\1\0", 2, 1, 8, 8, FEEDER_NO_ROOM, 0, 0, "", "", "the closing done, each slice one byte short");
+    resume(TRIANGLE, "\0\1", 2, "\1\0", 2, 1, 0, 0, FEEDER_NO_ROOM, 0, 0, "", "", "the closing done, no room");
+    resume(TRIANGLE, "\0\1", 2, "\1\0", 2, 3, 0, 0, FEEDER_TOO_MANY_MOVES, 0, 0, "", "", "a move too many, before the room");
+    for (size_t k = 0; k < TOO_MANY; k++)
+        resume(TRIANGLE, "\0\1", 2, "\1\0", 2, too_many[k], ROOM, ROOM, FEEDER_TOO_MANY_MOVES, 0, 0, "", "", "many moves too many");
+    resume(LOCKED, "\0\1", 2, "\1\0", 2, UINT64_MAX, 0, 0, FEEDER_LOCKED, 10, 0, "", "", "switch 10 locked, before the count and the room");
+    resume(LOCKED, "\0\0", 2, "\1\0", 2, UINT64_MAX, 0, 0, FEEDER_NOT_RADIAL, 0, 0, "", "", "the present state is not radial");
+    resume(LOCKED, "\0\1", 2, "\1\1", 2, UINT64_MAX, 0, 0, FEEDER_NOT_RADIAL, 1, 0, "", "", "the wanted state is not radial");
+    resume(TRIANGLE, "\0\0", 2, "\1\0", 2, 1, ROOM, ROOM, FEEDER_NOT_RADIAL, 0, 0, "", "", "the state after the cut is no present state");
+    resume(TRIANGLE, "\0\0", 2, "\2\0", 2, 9, 0, 0, FEEDER_BAD_STATE, 1, 0, "", "", "a faulty wanted state before a present one that is not radial");
+    resume(TRIANGLE, "\0", 1, "\2\0", 2, 9, 0, 0, FEEDER_BAD_STATE, 0, 0, "", "", "a short present state before a faulty wanted one");
+    resume(TRIANGLE, "\0\1\0", 3, "\1\0", 2, 1, ROOM, ROOM, FEEDER_BAD_STATE, 0, 0, "", "", "a present state one byte long");
+    resume(HEAD RECORDS, "\0", 1, "\2", 1, 9, 0, 0, FEEDER_BAD_LINE, 8, 0, "", "", "the text before the states");
+    resume(TRIANGLE "04", "\0\1", 2, "\1\0", 2, 1, ROOM, ROOM, FEEDER_BAD_CHARACTERS, 10, 0, "", "", "an unended line too many");
+
+    expect_answer(feeder_resume((const uint8_t *)TRIANGLE, strlen(TRIANGLE), (const uint8_t *)"\0\1", 2, (const uint8_t *)"\1\0", 2, 1,
+                                one_behind_the_other + 9, 9, one_behind_the_other, 9),
+                  0, 0, 1, "two slices that touch");
+    expect(memcmp(one_behind_the_other, "82000B00\n82000A00\n", 18) == 0, "two slices that touch");
+}
+
+/* A single move: the id of a switch, and 1 where it is closed, 0 where it is opened, as in an 82 line. */
+struct move {
+    unsigned id, closes;
+};
+enum { MOVES = 2 * (FEEDER_MAX_BUSES - 1) };
+static struct move moves[MOVES];
+static unsigned switch_ids[FEEDER_MAX_SWITCHES];
+
+static unsigned digits_at(const char *at, int count) {
+    unsigned number = 0;
+    for (int k = 0; k < count; k++)
+        number = number * 16 + (unsigned)(strchr("0123456789ABCDEF", at[k]) - "0123456789ABCDEF");
+    return number;
+}
+
+/* From the lines of feeder_plan, which other checks are about: of each pair the closing, then the opening. How many they are. */
+static size_t lay_moves(const char *text, const char *present, const char *wanted, size_t switches) {
+    static char lines[FEEDER_PLAN_LENGTH];
+    struct feeder_answer answer = feeder_plan((const uint8_t *)text, strlen(text), (const uint8_t *)present, switches,
+                                              (const uint8_t *)wanted, switches, (uint8_t *)lines, sizeof lines);
+    expect(answer.number == 0, "there is a plan");
+    for (size_t k = 0; k < answer.value; k++) {
+        struct move closing = {digits_at(lines + k * FEEDER_PAIR_LENGTH + 2, 4), 1};
+        struct move opening = {digits_at(lines + k * FEEDER_PAIR_LENGTH + 6, 4), 0};
+        moves[2 * k] = closing;
+        moves[2 * k + 1] = opening;
+    }
+    return 2 * answer.value;
+}
+
+static size_t lay_switch_ids(const char *text) {
+    size_t count = 0;
+    for (; *text != '\0'; text = strchr(text, '\n') + 1)
+        if (strncmp(text, "04", 2) == 0)
+            switch_ids[count++] = digits_at(text + 2, 4);
+    return count;
+}
+
+static char *lay_line(char *at, unsigned id, unsigned closes) { return at + sprintf(at, "82%04X%02X\n", id, closes); }
+
+/* Carries out one 82 line: the switch stands the other way before it. A state's byte is the opposite of the line's. */
+static int carry_out(const uint8_t *line, char *state, size_t switches) {
+    unsigned id = digits_at((const char *)line + 2, 4), closes = digits_at((const char *)line + 6, 2);
+    size_t k = 0;
+    while (k < switches && switch_ids[k] != id)
+        k++;
+    if (k == switches || (unsigned)state[k] != closes)
+        return 0;
+    state[k] = !closes;
+    return 1;
+}
+
+static int carry_out_all(const uint8_t *lines, size_t count, char *state, size_t switches) {
+    for (size_t k = 0; k < count; k++)
+        if (!carry_out(lines + k * FEEDER_MOVE_LENGTH, state, switches))
+            return 0;
+    return 1;
+}
+
+/* A whole list, from a radial state: behind a closing the state is not radial, behind an opening it is. */
+static void is_by_pairs(const char *text, const char *from, const uint8_t *lines, size_t count, size_t switches, const char *what) {
+    static char state[FEEDER_MAX_SWITCHES];
+    memcpy(state, from, switches);
+    for (size_t k = 0; k < count; k++) {
+        expect(carry_out(lines + k * FEEDER_MOVE_LENGTH, state, switches), what);
+        expect_answer(radiality(text, state, switches), 0, 0, lines[k * FEEDER_MOVE_LENGTH + 7] == '0', what); /* the action byte: 00 opens */
+    }
+}
+
+/* A plan cut off at every count, each slice exactly full and one byte short. Finishing from there reaches the wanted state, and going back the present one; every switch here is on a
+ * branch in service, so all bytes are reached. */
+static void cut_plan(const char *text, const char *present, const char *wanted, size_t pairs, const char *what) {
+    static char cut[FEEDER_MAX_SWITCHES], state[FEEDER_MAX_SWITCHES];
+    static char left[FEEDER_MOVES_LENGTH + 1], undone[FEEDER_MOVES_LENGTH + 1];
+    size_t n = lay_switch_ids(text), length = lay_moves(text, present, wanted, n);
+    expect(length == 2 * pairs, what);
+    memcpy(cut, present, n);
+    for (size_t count = 0; count <= length; count++) {
+        size_t room = (length - count) * FEEDER_MOVE_LENGTH, back_room = count * FEEDER_MOVE_LENGTH;
+        char *at = left;
+        *left = *undone = '\0';
+        for (size_t k = count; k < length; k++)
+            at = lay_line(at, moves[k].id, moves[k].closes);
+        at = undone;
+        for (size_t k = count; k > 0; k--)
+            at = lay_line(at, moves[k - 1].id, !moves[k - 1].closes);
+        if (room > 0)
+            resume(text, present, n, wanted, n, count, room - 1, FEEDER_MOVES_LENGTH, FEEDER_NO_ROOM, 0, 0, "", "", what);
+        if (back_room > 0)
+            resume(text, present, n, wanted, n, count, FEEDER_MOVES_LENGTH, back_room - 1, FEEDER_NO_ROOM, 0, 0, "", "", what);
+        resume(text, present, n, wanted, n, count, FEEDER_MOVES_LENGTH, FEEDER_MOVES_LENGTH, 0, 0, length - count, left, undone, what);
+        resume(text, present, n, wanted, n, count, room, back_room, 0, 0, length - count, left, undone, what);
+        memcpy(state, cut, n);
+        expect(carry_out_all(remaining.bytes + MARGIN, length - count, state, n) && memcmp(state, wanted, n) == 0, what);
+        memcpy(state, cut, n);
+        expect(carry_out_all(back.bytes + MARGIN, count, state, n) && memcmp(state, present, n) == 0, what);
+        if (count == 0)
+            is_by_pairs(text, present, remaining.bytes + MARGIN, length, n, what);
+        if (count == length)
+            is_by_pairs(text, wanted, back.bytes + MARGIN, length, n, what);
+        else
+            expect(carry_out(remaining.bytes + MARGIN, cut, n), what);
+    }
+    resume(text, present, n, wanted, n, length + 1, FEEDER_MOVES_LENGTH, FEEDER_MOVES_LENGTH, FEEDER_TOO_MANY_MOVES, 0, 0, "", "", what);
+    for (size_t k = 0; k < TOO_MANY; k++)
+        resume(text, present, n, wanted, n, too_many[k], 0, 0, FEEDER_TOO_MANY_MOVES, 0, 0, "", "", what);
+}
+
 #define PRINTED "810140100000000000003FF00000000000004052C00000000000000201\n82000A00\n82000B01\n83000B000A\n"
 #define BASE_KEPT "8101401000000000000040100000000000000000000000000000"
 
@@ -229,11 +402,13 @@ static void operation_lists(void) {
 static void nulls(void) {
     const uint8_t *text = (const uint8_t *)NO_BUSES;
     const uint8_t *triangle = (const uint8_t *)TRIANGLE;
+    const uint8_t *base = (const uint8_t *)"\0\1", *best = (const uint8_t *)"\1\0";
     size_t length = strlen(NO_BUSES);
     struct feeder_solved nothing = {0, 0, 1, 1, 1, 0.0, 0.0, 0.0};
     expect_answer(feeder_radiality(NULL, 0, NULL, 0), 2, 1, 0, "radiality, a null text");
     expect_answer(feeder_loss(NULL, 0, NULL, 0), 2, 1, 0, "loss, a null text");
     expect_answer(feeder_plan(NULL, 0, NULL, 0, NULL, 0, NULL, 0), 2, 1, 0, "plan, a null text");
+    expect_answer(feeder_resume(NULL, 0, NULL, 0, NULL, 0, 0, NULL, 0, NULL, 0), 2, 1, 0, "resuming, a null text");
     expect_answer(feeder_answer_text(NULL, 0, NULL, 0), 2, 1, 0, "answer, a null text");
     expect_answer(feeder_base_state(NULL, 0, NULL, 0), 2, 1, 0, "base, a null text");
     expect_solved(feeder_solve(NULL, 0, NULL, 0), not_solved(2, 1), "search, a null text");
@@ -243,6 +418,13 @@ static void nulls(void) {
     expect_answer(feeder_loss(text, length, NULL, 0), 0, 0, 0, "loss, a null state");
     expect_answer(feeder_plan(text, length, NULL, 0, NULL, 0, NULL, 0), 0, 0, 0, "plan, null states and a null slice");
     expect_answer(feeder_plan(triangle, strlen(TRIANGLE), NULL, 0, NULL, 0, NULL, 0), 10, 0, 0, "plan, a null state for two switches");
+    expect_answer(feeder_resume(text, length, NULL, 0, NULL, 0, 0, NULL, 0, NULL, 0), 0, 0, 0, "resuming, null states and null slices");
+    expect_answer(feeder_resume(text, length, NULL, 0, NULL, 0, 1, NULL, 0, NULL, 0), 16, 0, 0, "resuming, null states and a move done");
+    expect_answer(feeder_resume(triangle, strlen(TRIANGLE), NULL, 0, NULL, 0, 0, NULL, 0, NULL, 0), 10, 0, 0, "resuming, a null state for two switches");
+    expect_answer(feeder_resume(triangle, strlen(TRIANGLE), base, 2, best, 2, 0, bytes, 18, NULL, 0), 0, 0, 2, "resuming, a null slice for no move done");
+    expect_answer(feeder_resume(triangle, strlen(TRIANGLE), base, 2, best, 2, 2, NULL, 0, bytes, 18), 0, 0, 0, "resuming, a null slice for no move left");
+    expect_answer(feeder_resume(triangle, strlen(TRIANGLE), base, 2, best, 2, 1, NULL, 0, bytes, 18), 13, 0, 0, "resuming, a null slice for the move left");
+    expect_answer(feeder_resume(triangle, strlen(TRIANGLE), base, 2, best, 2, 1, bytes, 18, NULL, 0), 13, 0, 0, "resuming, a null slice for the move done");
     expect_answer(feeder_answer_text(text, length, NULL, 0), 13, 0, 0, "answer, a null slice");
     expect_answer(feeder_base_state(text, length, NULL, 0), 0, 0, 0, "base of no switches, a null slice");
     expect_answer(feeder_base_state(triangle, strlen(TRIANGLE), NULL, 0), 13, 0, 0, "base, a null slice for two switches");
@@ -410,6 +592,8 @@ static void fed(const char *text, double base, double exchanged, const char *wha
     expect_answer(radiality(text, "\0\0", 2), 0, 0, 0, what);
     plan(text, "\0\1", 2, "\1\0", 2, 11, 0, 0, 1, "83000B000A\n", what);
     plan(text, "\0\1", 2, "\1\1", 2, ROOM, FEEDER_NOT_RADIAL, 1, 0, "", what);
+    resume(text, "\0\1", 2, "\1\1", 2, 0, ROOM, ROOM, FEEDER_NOT_RADIAL, 1, 0, "", "", what);
+    cut_plan(text, "\0\1", "\1\0", 1, what);
     operations(text, "\0\0", 2, "\1\0", 2, 9, 0, 0, 1, "82000A00\n", what);
     base_state(text, 2, 0, 0, "\0\1", 2, what);
     comes_back(text, what);
@@ -421,6 +605,8 @@ static void refused_by_all(const char *text, unsigned number, unsigned place, co
     expect_answer(radiality(text, "\2", 1), number, place, 0, what);
     expect_answer(loss(text, "\2", 1), number, place, 0, what);
     plan(text, "\2", 1, "\2", 1, 0, number, place, 0, "", what);
+    resume(text, "\2", 1, "\2", 1, UINT64_MAX, 0, 0, number, place, 0, "", "", what);
+    resume(text, "\0\1", 2, "\1\0", 2, 1, FEEDER_MOVES_LENGTH, FEEDER_MOVES_LENGTH, number, place, 0, "", "", what);
     operations(text, "\2", 1, "\2", 1, 0, number, place, 0, "", what);
     answer_text(text, FEEDER_TEXT_LENGTH, number, place, "", what);
     answer_text(text, 0, number, place, "", what);
@@ -519,12 +705,13 @@ static void largest_texts(unsigned supply) {
 
 /* Every branch of the row leads away from bus 1: with the supply there all is as without one. */
 static void largest_feeder(unsigned supply) {
-    static char row[BRANCHES], beside[BRANCHES], all_closed[BRANCHES], all_open[BRANCHES], written[FEEDER_TEXT_LENGTH + 1];
+    static char row[BRANCHES], beside[BRANCHES], mixed[BRANCHES], all_closed[BRANCHES], all_open[BRANCHES], written[FEEDER_TEXT_LENGTH + 1];
     struct feeder_solved best = {0, 0, 1, 0, 1, 255.0, 254.0, 0.0};
     char *at = written;
     for (int k = 0; k < BRANCHES; k++) {
         row[k] = k >= ROW;
         beside[k] = !(ROW <= k && k < 2 * ROW);
+        mixed[k] = k % ROW % 3 == 0 ? row[k] : beside[k];
         all_open[k] = 1;
     }
     largest_texts(supply);
@@ -536,6 +723,11 @@ static void largest_feeder(unsigned supply) {
         at += sprintf(at, "83%04X%04X\n", FIRST_ID + ROW + k, FIRST_ID + k);
     plan(largest, row, BRANCHES, beside, BRANCHES, FEEDER_PLAN_LENGTH, 0, 0, ROW, written, "the longest plan, an exactly full slice");
     plan(largest, row, BRANCHES, beside, BRANCHES, FEEDER_PLAN_LENGTH - 1, 13, 0, 0, "", "the longest plan, one byte short");
+
+    cut_plan(largest, row, beside, ROW, "the longest plan, cut off");
+    if (supply == 0)
+        cut_plan(largest, beside, row, ROW, "the longest plan the other way, cut off");
+    cut_plan(largest, mixed, beside, ROW / 3, "a plan of 85 pairs, cut off");
 
     base_state(largest, FEEDER_MAX_SWITCHES, 0, 0, row, BRANCHES, "the largest base, an exactly full slice");
     base_state(largest, FEEDER_MAX_SWITCHES - 1, FEEDER_NO_ROOM, 0, "", 0, "the largest base, one byte short");
@@ -593,6 +785,10 @@ static void *run(void *unused) {
     radialities();
     losses();
     plans();
+    resumed_plans();
+    cut_plan(TRIANGLE, "\0\1", "\1\0", 1, "the triangle's plan, cut off");
+    cut_plan(TRIANGLE, "\1\0", "\0\1", 1, "the triangle's plan the other way, cut off");
+    cut_plan(TRIANGLE, "\1\0", "\1\0", 0, "no plan, cut off");
     texts();
     bases();
     searches();
@@ -616,6 +812,7 @@ int main(void) {
     expect(sizeof(struct feeder_answer) == 16, "the answer has 16 bytes");
     expect(sizeof(struct feeder_solved) == 32, "a search's answer has 32 bytes");
     expect(FEEDER_FRAMES_LENGTH == 27436, "room for every text");
+    expect(FEEDER_MOVES_LENGTH == 4590, "room for every move");
     expect(FEEDER_LONGEST_RECORDS == 13077, "the records of the longest text");
     if (pthread_attr_init(&attributes) != 0 || pthread_attr_setstacksize(&attributes, FEEDER_STACK) != 0
         || pthread_create(&thread, &attributes, run, NULL) != 0 || pthread_join(thread, NULL) != 0) {

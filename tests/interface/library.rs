@@ -48,6 +48,19 @@ extern "C" {
         out: *mut u8,
         out_length: usize,
     ) -> Answer;
+    fn feeder_resume(
+        text: *const u8,
+        text_length: usize,
+        present: *const u8,
+        present_length: usize,
+        wanted: *const u8,
+        wanted_length: usize,
+        count: u64,
+        remaining: *mut u8,
+        remaining_length: usize,
+        back: *mut u8,
+        back_length: usize,
+    ) -> Answer;
     fn feeder_answer_text(text: *const u8, text_length: usize, out: *mut u8, out_length: usize) -> Answer;
     fn feeder_base_state(text: *const u8, text_length: usize, out: *mut u8, out_length: usize) -> Answer;
     fn feeder_solve(text: *const u8, text_length: usize, out: *mut u8, out_length: usize) -> Solved;
@@ -85,6 +98,24 @@ pub fn plan(text: &[u8], present: &[u8], wanted: &[u8], out: &mut [u8]) -> Answe
             wanted.len(),
             out.as_mut_ptr(),
             out.len(),
+        )
+    }
+}
+
+pub fn resume(text: &[u8], present: &[u8], wanted: &[u8], count: u64, remaining: &mut [u8], back: &mut [u8]) -> Answer {
+    unsafe {
+        feeder_resume(
+            text.as_ptr(),
+            text.len(),
+            present.as_ptr(),
+            present.len(),
+            wanted.as_ptr(),
+            wanted.len(),
+            count,
+            remaining.as_mut_ptr(),
+            remaining.len(),
+            back.as_mut_ptr(),
+            back.len(),
         )
     }
 }

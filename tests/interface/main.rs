@@ -11,6 +11,7 @@ mod damage;
 mod feeder;
 #[path = "../timing/feeders.rs"]
 mod feeders;
+mod cut;
 mod library;
 #[path = "../oracle/src/limits.rs"]
 mod limits;
@@ -51,6 +52,7 @@ const MAX_BUSES: usize = 256;
 const MAX_SWITCHES: usize = 512;
 const FRAMES_LENGTH: usize = 27436;
 const PAIR_LENGTH: usize = 11;
+const MOVES_LENGTH: usize = 2 * (MAX_BUSES - 1) * OPERATION_LENGTH;
 const TEXT_LENGTH: usize = ANSWER_LENGTH + MAX_SWITCHES * OPERATION_LENGTH + (MAX_BUSES - 1) * PAIR_LENGTH;
 
 /// The calls, and the refusals that each can answer.
@@ -59,11 +61,13 @@ const OF_A_STATE: [u8; 12] = [1, 2, 3, 4, 5, 6, 7, 8, 9, 14, 15, 10];
 const OF_A_LOSS: [u8; 13] = [1, 2, 3, 4, 5, 6, 7, 8, 9, 14, 15, 10, 11];
 const OF_TWO_STATES: [u8; 13] = [1, 2, 3, 4, 5, 6, 7, 8, 9, 14, 15, 10, 13];
 const OF_A_PLAN: [u8; 15] = [1, 2, 3, 4, 5, 6, 7, 8, 9, 14, 15, 10, 11, 12, 13];
+const OF_A_CUT: [u8; 16] = [1, 2, 3, 4, 5, 6, 7, 8, 9, 14, 15, 10, 11, 12, 16, 13];
 const OF_RECORDS: [u8; 11] = [2, 3, 4, 5, 6, 7, 8, 9, 14, 15, 13];
-const CALLS: [(&str, &[u8]); 8] = [
+const CALLS: [(&str, &[u8]); 9] = [
     ("radiality", &OF_A_STATE),
     ("loss", &OF_A_LOSS),
     ("plan", &OF_A_PLAN),
+    ("resume", &OF_A_CUT),
     ("answer", &OF_A_TEXT),
     ("base", &OF_A_TEXT),
     ("solve", &OF_A_TEXT),
@@ -113,7 +117,8 @@ fn fed(feeder: &Feeder) -> [Feeder; 3] {
     [None, Some(last), Some(last + 1)].map(|supply| Feeder { supply, ..feeder.clone() })
 }
 
-/// The triangle, 33 buses and the largest feeder, without a supply and with one, forward and back, with room for the plan, and one byte less.
+/// The triangle, 33 buses and the largest feeder, without a supply and with one, forward and back, with room for the plan, and one byte less; the plan is cut off
+/// at every count, with a supply at every seventh.
 fn timed_feeders(checks: &mut Checks) -> bool {
     feeders::all().iter().all(|timed| fed(&timed.feeder)[..2].iter().all(|feeder| {
         let text = feeder.text();
@@ -124,6 +129,7 @@ fn timed_feeders(checks: &mut Checks) -> bool {
         [a, b].iter().all(|state| state_answers(checks, &text, state))
             && [room, room - 1].iter().all(|&room| plan_answer(checks, &text, a, b, room) && plan_answer(checks, &text, b, a, room))
             && [list, list - 1].iter().all(|&room| operations_answer(checks, &text, a, b, room))
+            && [(a, b), (b, a)].iter().all(|(a, b)| cut_everywhere(checks, &text, a, b, if feeder.supply.is_none() { 1 } else { 7 }))
     }))
 }
 
@@ -152,6 +158,7 @@ fn answers_on(checks: &mut Checks, random: &mut Random, feeder: Feeder, text: Ve
     let list = states::near(random, operations(&network, &state, &wanted).len());
     state_answers(checks, &text, &state)
         && plan_answer(checks, &text, &present, &wanted, room)
+        && cut_anywhere(checks, random, &text, &present, &wanted)
         && operations_answer(checks, &text, &state, &wanted, list)
         && text_answers(checks, &text)
 }
@@ -287,6 +294,56 @@ fn plan_answer(checks: &mut Checks, text: &[u8], present: &[u8], wanted: &[u8], 
         Ok((pairs.len() as u64, lines(&network, &pairs).into_bytes()))
     });
     lent(checks, "plan", text, room, expected, numbers, |out| library::plan(text, present, wanted, out))
+}
+
+/// At counts of the plan and above it, in slices that are exactly full; at each seventh also with room for all moves, and with one byte less in either slice.
+fn cut_everywhere(checks: &mut Checks, text: &[u8], present: &[u8], wanted: &[u8], step: usize) -> bool {
+    let plan = cut::Plan::of(text, present, wanted);
+    let length = plan.as_ref().map_or(0, |plan| plan.moves.len());
+    (0..length).step_by(step).chain([length, length + 1]).all(|count| {
+        let (left, undone) = (OPERATION_LENGTH * length.saturating_sub(count), OPERATION_LENGTH * count);
+        let others = [(MOVES_LENGTH, MOVES_LENGTH), (left.saturating_sub(1), undone), (left, undone.saturating_sub(1))];
+        cut_answer(checks, text, &plan, count as u64, (left, undone))
+            && (count % 7 != 0 || others.iter().all(|&rooms| cut_answer(checks, text, &plan, count as u64, rooms)))
+    })
+}
+
+/// At a few counts, some of them above the plan's moves, with slices about as long as their lists.
+fn cut_anywhere(checks: &mut Checks, random: &mut Random, text: &[u8], present: &[u8], wanted: &[u8]) -> bool {
+    let plan = cut::Plan::of(text, present, wanted);
+    let length = plan.as_ref().map_or(0, |plan| plan.moves.len());
+    (0..4).all(|_| {
+        let above = [length + 1, length + 2, 65_535, 65_536, 65_536 + length, usize::MAX];
+        let count = if random.percent(15) { random.pick(&above) } else { random.below(length + 1) };
+        let left = states::near(random, OPERATION_LENGTH * length.saturating_sub(count));
+        let undone = states::near(random, OPERATION_LENGTH * count.min(length));
+        cut_answer(checks, text, &plan, count as u64, (left, undone))
+    })
+}
+
+/// The two lists, and where carrying them out leads; a refusal touches neither slice.
+fn cut_answer(checks: &mut Checks, text: &[u8], plan: &Result<cut::Plan, cut::Refused>, count: u64, rooms: (usize, usize)) -> bool {
+    let (present, wanted) = plan.as_ref().map_or_else(|refused| (&refused.present, &refused.wanted), |plan| (&plan.present, &plan.wanted));
+    let expected = plan.as_ref().map_err(|refused| refused.refusal).and_then(|plan| plan.cut(count, rooms));
+    let mut lists = [rooms.0, rooms.1].map(|room| vec![GUARD; MARGIN + room + MARGIN]);
+    let mut right = lists.clone();
+    if let Ok(cut) = &expected {
+        right[0][MARGIN..MARGIN + cut.remaining.len()].copy_from_slice(&cut.remaining);
+        right[1][MARGIN..MARGIN + cut.back.len()].copy_from_slice(&cut.back);
+    }
+    let [first, second] = &mut lists;
+    let (remaining, back) = (&mut first[MARGIN..MARGIN + rooms.0], &mut second[MARGIN..MARGIN + rooms.1]);
+    let answer = library::resume(text, present, wanted, count, remaining, back);
+    let kept = lists == right;
+    if !kept {
+        println!("interface: Rust: resume: the lent bytes are wrong at {count}, text:\n{}", String::from_utf8_lossy(text));
+    }
+    let leads = expected.is_err() || plan.as_ref().is_ok_and(|plan| plan.leads(count as usize, &lists[0][MARGIN..], &lists[1][MARGIN..]));
+    if !leads {
+        println!("interface: Rust: resume: the moves lead elsewhere at {count}, text:\n{}", String::from_utf8_lossy(text));
+    }
+    let value = expected.map(|cut| (cut.remaining.len() / OPERATION_LENGTH) as u64);
+    kept && leads && compare(checks, "resume", text, value, numbers, answer)
 }
 
 fn operations_answer(checks: &mut Checks, text: &[u8], from: &[u8], to: &[u8], room: usize) -> bool {

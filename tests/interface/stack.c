@@ -35,12 +35,17 @@ static void expect(int good, const char *name, const char *what) {
 /* What the calls are asked about: a text, its records in bytes, its base, and what its search finds. */
 static const uint8_t *text;
 static size_t text_length, records_length, switches;
-static uint8_t records[LONGEST], present[FEEDER_MAX_SWITCHES], wanted[FEEDER_MAX_SWITCHES], out[FEEDER_FRAMES_LENGTH];
+static uint8_t records[LONGEST], present[FEEDER_MAX_SWITCHES], wanted[FEEDER_MAX_SWITCHES], out[FEEDER_FRAMES_LENGTH], back[FEEDER_MOVES_LENGTH];
 static volatile uint8_t number;
 
 static void ask_radiality(void) { number = feeder_radiality(text, text_length, present, switches).number; }
 static void ask_loss(void) { number = feeder_loss(text, text_length, wanted, switches).number; }
 static void ask_plan(void) { number = feeder_plan(text, text_length, present, switches, wanted, switches, out, sizeof out).number; }
+/* with no move done, and with as many as a plan has that is a pair or more */
+static void ask_resume(void) {
+    for (uint64_t count = 0; count <= 2; count += 2)
+        number = feeder_resume(text, text_length, present, switches, wanted, switches, count, out, sizeof out, back, sizeof back).number;
+}
 static void ask_answer_text(void) { number = feeder_answer_text(text, text_length, out, sizeof out).number; }
 static void ask_base_state(void) { number = feeder_base_state(text, text_length, out, sizeof out).number; }
 static void ask_solve(void) { number = feeder_solve(text, text_length, out, sizeof out).number; }
@@ -59,6 +64,7 @@ static const struct call calls[] = {
     {"FEEDER_RADIALITY_STACK", ask_radiality, FEEDER_RADIALITY_STACK},
     {"FEEDER_LOSS_STACK", ask_loss, FEEDER_LOSS_STACK},
     {"FEEDER_PLAN_STACK", ask_plan, FEEDER_PLAN_STACK},
+    {"FEEDER_RESUME_STACK", ask_resume, FEEDER_RESUME_STACK},
     {"FEEDER_ANSWER_TEXT_STACK", ask_answer_text, FEEDER_ANSWER_TEXT_STACK},
     {"FEEDER_BASE_STATE_STACK", ask_base_state, FEEDER_BASE_STATE_STACK},
     {"FEEDER_SOLVE_STACK", ask_solve, FEEDER_SOLVE_STACK},

@@ -14,6 +14,11 @@ pub fn all() -> Vec<Timed> {
     vec![small(), middle(), chains("64 buses", 64), chains("128 buses", 128), full(), colliding()]
 }
 
+/// Those whose plans are cut off.
+pub fn cut() -> Vec<Timed> {
+    vec![small(), middle(), full()]
+}
+
 /// Where a supply is named, and how many times as long as the same call without it a loss call may then take: the base's radiality is tested, and one walk more
 /// is made.
 pub fn supplied() -> Vec<(&'static str, Timed, f64)> {

@@ -8,6 +8,8 @@ mod driver;
 #[path = "../oracle/src/feeder.rs"]
 mod feeder;
 mod feeders;
+#[path = "../interface/library.rs"]
+mod library;
 #[path = "../oracle/src/reckoning/mod.rs"]
 mod reckoning;
 #[path = "../oracle/src/supply.rs"]
@@ -28,6 +30,9 @@ const LOSS: u8 = 2;
 const PLAN: u8 = 3;
 const SEARCH: u8 = 4;
 const WRITING: u8 = 5;
+
+/// Bytes that are enough for the moves of every plan, and for its pairs.
+const MOVES_LENGTH: usize = 4590;
 
 const SAMPLES: usize = 15;
 const SAMPLE: Duration = Duration::from_millis(40);
@@ -116,6 +121,7 @@ fn main() -> ExitCode {
     for timed in &timed {
         row("plan", timed, None, PLAN);
     }
+    feeders::cut().iter().for_each(rows_of_a_cut);
     for (name, timed) in &feeders::searched() {
         row(name, timed, Some(Rust::search), SEARCH);
     }
@@ -159,6 +165,32 @@ fn row_with_supply((place, timed, most): &(&str, Timed, f64)) -> Beside {
     println!("| loss of a state, {place} | {} | none | {} |  |", timed.name, shown(ours));
     let ratio = ours / before.expect("both are sampled");
     Beside { name: format!("{place}, {}", timed.name), ratio, most: *most }
+}
+
+/// Two lines of the table, through the library for controllers, so that the reading of the text is in both: a plan, and the same plan cut off after half of its moves.
+/// As many remain as it has pairs. They are sampled in turn; the Rust has neither.
+fn rows_of_a_cut(timed: &Timed) {
+    let text = timed.feeder.text();
+    let states = [&timed.first[..], &timed.second[..]];
+    let plan = |i: usize, out: &mut [u8]| library::plan(&text, states[i], states[1 - i], out).value;
+    let pairs = [0, 1].map(|i| plan(i, &mut [0; MOVES_LENGTH]));
+    let plans = |times| {
+        let mut out = [0; MOVES_LENGTH];
+        in_turn(times, |i| plan(i, &mut out))
+    };
+    let cuts = |times| {
+        let (mut remaining, mut back) = ([0; MOVES_LENGTH], [0; MOVES_LENGTH]);
+        in_turn(times, |i| library::resume(&text, states[i], states[1 - i], pairs[i], &mut remaining, &mut back).value)
+    };
+    assert_eq!(plans(2), cuts(2), "{}: half of the moves remain", timed.name);
+    let (plan, resumed) = Sampled::new(plans).least(Some(Sampled::new(cuts)));
+    println!("| plan, with the reading | {} | none | {} |  |", timed.name, shown(plan));
+    println!("| resuming in its middle, with the reading | {} | none | {} |  |", timed.name, shown(resumed.expect("both are sampled")));
+}
+
+/// So many rounds, from the one state and from the other in turn, and the sum of what they answer.
+fn in_turn(times: u64, mut call: impl FnMut(usize) -> u64) -> u64 {
+    (0..times).fold(0, |sum: u64, i| sum.wrapping_add(call((i % 2) as usize)))
 }
 
 /// A line of the table. The Rust has no reader, no writer and no planner.

@@ -1,9 +1,9 @@
--- Demand 1's first sentence, call by call: with records inside the limits and a supply, where one is named, as document 02 wants it, states of one byte 00 or 01 for each switch and room in the lent slice, nothing is refused,
+-- Demand 1's first sentence, call by call: with records inside the limits and a supply, where one is named, as document 02 wants it, states of one byte 00 or 01 for each switch and room in the lent slice, or in both, nothing is refused,
 -- and the answer is the full one: the value, and the bytes at the front of the slice, which keeps its tail. What a text says is `frames.specs.Claim.accepted-texts`; the
 -- calls that take a text and states are in `controller.specs.Full`. The last law is on every other text.
 use mathlib.Core.Path.{_≡_, refl, sym, _∙_}
 use mathlib.Core.List.{List, _++_}
-use Prim.Native.Nat.{ℕ, _*_, _≤_}
+use Prim.Native.Nat.{ℕ, _*_, _-_, _≤_}
 use native.Mathlib.Omega.{arith}
 use lib.ListN.{length, drop}
 use Rattle.network.specs.Records.{Network}
@@ -16,7 +16,7 @@ use Rattle.lines.specs.Lines.{cut}
 use Rattle.frames.specs.Acceptable.{Acceptable}
 use Rattle.frames.specs.Conditions.{conditions, judgeLines}
 use Rattle.frames.specs.Proof.{claim}
-use Rattle.printing.specs.Lengths.{operationLength, pairLength, printedLength}
+use Rattle.printing.specs.Lengths.{operationLength, pairLength, movesLength, printedLength}
 use Rattle.printing.specs.CallLaws.{call-refused, in-full}
 use Rattle.graph.specs.Graph.{Tree}
 use Rattle.feeders.specs.Feeder.{feeder, LiveIn, radialIn}
@@ -29,12 +29,15 @@ use Rattle.losses.specs.Loss.{lossIn}
 use Rattle.losses.specs.LossCall.{lossCall}
 use Rattle.losses.specs.LossCallLaws.{loss-answered}
 use Rattle.losses.specs.SupplySide.{Fed}
+use Rattle.changes.specs.Change.{checkPlan}
 use Rattle.plan.specs.Plan.{plan, planText, planned}
 use Rattle.states.specs.Switches.{State, GoodState}
 use Rattle.plan.specs.Plannable.{Free}
 use Rattle.states.specs.Listed.{state-accepted}
 use Rattle.plan.specs.Accepted.{plan-accepted}
 use Rattle.plan.specs.Length as PlanLength
+use Rattle.resumption.specs.Resume.{movesOfPlan, resumed, fullAnswer}
+use Rattle.resumption.specs.ResumeLaws.{resumed-with-room, moves-fit}
 use Rattle.searches.specs.Results.{resultBy, solvedBy}
 use Rattle.reconfiguration.specs.Solve.{bestBy, best, result, solved}
 use Rattle.reconfiguration.specs.AnswersHavePlans.{search-sound}
@@ -84,17 +87,36 @@ module _ (N : Network) (inside : Inside N) (supplied : Supplied N) where
       let passed = then-iff (checkNetwork N) _ .1 (checked, then-iff (checkState N from 0) (checkState N to 1) .1 (state-accepted N from 0 .1 f, state-accepted N to 1 .1 t)) in
       in-full (length l) (operationsText l) out passed (rw (Operations.length-text l) room) ∙ rw (Operations.length-text l)
 
-  -- `plan`, between radial states whose switches that must move are operable: a line for each pair
-  pub planned-in-full : (present wanted : State) → GoodState N present → GoodState N wanted → Tree (feeder N) (LiveIn N present) → Tree (feeder N) (LiveIn N wanted)
-      → Free N present wanted → (out : List ℕ)
-      → let moves = plan N present wanted in
-      pairLength * length moves ≤ length out → planned N present wanted out ≡ record { answer = accepted (length moves); out = planText moves ++ drop (pairLength * length moves) out }
-  unfolding planned
-  planned-in-full present wanted p w r v free out room =
-      let moves = plan N present wanted in
-      let ok = network-records N checked in
-      let passed = plan-accepted N present wanted .1 (checked, p, w, radial-in-tree N ok present .1 r, radial-in-tree N ok wanted .1 v, free) in
-      in-full (length moves) (planText moves) out passed (rw (PlanLength.length-text moves) room) ∙ rw (PlanLength.length-text moves)
+  module _ (present wanted : State) (p : GoodState N present) (w : GoodState N wanted) (r : Tree (feeder N) (LiveIn N present)) (v : Tree (feeder N) (LiveIn N wanted)) (free : Free N present wanted) where
+    planner-accepts : checkPlan N present wanted ≡ accepted tt
+    planner-accepts =
+        let ok = network-records N checked in
+        plan-accepted N present wanted .1 (checked, p, w, radial-in-tree N ok present .1 r, radial-in-tree N ok wanted .1 v, free)
+
+    -- `plan`, between radial states whose switches that must move are operable: a line for each pair
+    pub planned-in-full : (out : List ℕ)
+        → let moves = plan N present wanted in
+        pairLength * length moves ≤ length out → planned N present wanted out ≡ record { answer = accepted (length moves); out = planText moves ++ drop (pairLength * length moves) out }
+    unfolding planned
+    planned-in-full out room =
+        let moves = plan N present wanted in
+        in-full (length moves) (planText moves) out planner-accepts (rw (PlanLength.length-text moves) room) ∙ rw (PlanLength.length-text moves)
+
+    -- `resume`, between such states at every number of moves that the plan has: a line for each move that remains, and one for each that goes back
+    pub resumed-in-full : (count : ℕ) (remaining back : List ℕ)
+        → let moves = movesOfPlan N present wanted in
+        count ≤ length moves → operationLength * (length moves - count) ≤ length remaining → operationLength * count ≤ length back
+        → resumed N present wanted count remaining back ≡ fullAnswer N present wanted count remaining back
+    resumed-in-full count remaining back few room also = resumed-with-room N present wanted count remaining back planner-accepts few room also
+
+    -- and `movesLength` bytes are room in each slice, at every number
+    pub always-resumed : (count : ℕ) (remaining back : List ℕ)
+        → let moves = movesOfPlan N present wanted in
+        count ≤ length moves → movesLength ≤ length remaining → movesLength ≤ length back
+        → resumed N present wanted count remaining back ≡ fullAnswer N present wanted count remaining back
+    always-resumed count remaining back few room also =
+        let fits = moves-fit N present wanted planner-accepts in
+        resumed-in-full count remaining back few (omega arith) (omega arith)
 
 -- `answer_text`: the lines of the text's records
 pub printed-in-full : (text : List ℕ) (N : Network) → Acceptable text N → (out : List ℕ) → length (networkText N) ≤ length out

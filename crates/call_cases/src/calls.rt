@@ -1,7 +1,8 @@
 // The cases. A case is a line 'LENGTH NAME', a frame text, a line feed, and three lines: the letters CALL and CHANGE with a blank and PRESENT, then
-// WANTED, then SLICE. CALL is S (83) for radiality and loss of PRESENT, P (80) for the plan from PRESENT to WANTED, O (79) for the operations, B (66)
-// for the best state, T (84) for the text. CHANGE is I (73) for 1,001 iterations, U (85) for only two buses, W (87) for 513 switches in the records that O, B and T
-// get, or a hyphen for none. PRESENT and WANTED have a digit for each byte of the states, SLICE has a dot for each byte of the lent slice.
+// WANTED, then SLICE. CALL is S (83) for radiality and loss of PRESENT, P (80) for the plan from PRESENT to WANTED, R (82) for that plan cut off, O (79) for the
+// operations, B (66) for the best state, T (84) for the text. CHANGE is I (73) for 1,001 iterations, U (85) for only two buses, W (87) for 513 switches in the
+// records that R, O, B and T get, or a hyphen for none. PRESENT and WANTED have a digit for each byte of the states, SLICE has a dot for each byte of the lent slice;
+// of R it has the count in 16 hexadecimal digits and the lengths of the two slices, for the remaining moves and those that go back, in four each, a blank between them.
 ghost use mathlib.Core.Path.{_≡_};
 ghost use Prim.Native.Nat.{_≤_};
 ghost use lib.ListN.{length};
@@ -20,12 +21,15 @@ use controller::calls::feeder_plan;
 use controller::calls::feeder_radiality;
 use frames::reader::read_text;
 use libc::STDOUT_FILENO;
+use lines::hex::number_at;
 use network::error::Verdict;
 use network::topology::PowerNetwork;
 use numbers::at_most;
 use operations::operations::OperationsAnswer;
 use operations::operations::compute_switch_operations;
 use reconfiguration::solve::solve;
+use resumption::resume::ResumeAnswer;
+use resumption::resume::resume;
 use searches::answer::SolveAnswer;
 use texts::writer::WriteAnswer;
 use texts::writer::write_text;
@@ -84,6 +88,44 @@ fn print_written(network: PowerNetwork, room: usize)
     print_slice(out, room);
 }
 
+// The length of a slice, in four digits of a line.
+fn room_at(line: &[u8], at: usize) -> usize
+    ensures { λ r. ⌜ r ≤ 28672 ⌝ }
+{
+    at_most(number_at(line, at, 4) as usize, 28672)
+}
+
+fn print_cut_plan(network: PowerNetwork, present: &[u8], wanted: &[u8], slices: &[u8]) {
+    let mut remaining = dots();
+    let mut back = dots();
+    let room = room_at(slices, 17);
+    let room_back = room_at(slices, 22);
+    let count = number_at(slices, 0, 16);
+    match resume(
+        network,
+        present,
+        wanted,
+        count,
+        &mut remaining[0..room],
+        &mut back[0..room_back],
+    ) {
+        ResumeAnswer::Remaining(moves) => print_count(moves),
+        ResumeAnswer::Refused { number, place } => print_refusal(number, place),
+    }
+    print_slice(remaining, room);
+    print_slice(back, room_back);
+}
+
+// The slices of a text that is refused.
+fn print_unwritten(call: u8, slice: &[u8]) {
+    if call == 82 {
+        print_slice(dots(), room_at(slice, 17));
+        print_slice(dots(), room_at(slice, 22));
+        return;
+    }
+    print_slice(dots(), at_most(slice.len(), 28672));
+}
+
 // A fault that the records get once they are read: a text with it would not be.
 fn changed(mut network: PowerNetwork, change: u8) -> PowerNetwork {
     if change == 73 {
@@ -99,27 +141,27 @@ fn changed(mut network: PowerNetwork, change: u8) -> PowerNetwork {
 }
 
 // The calls on records. A text that is refused keeps every byte of the slice.
-fn print_on_records(text: &[u8], line: &[u8], present: &[u8], wanted: &[u8], room: usize)
-    requires { ⌜ (room ≤ 28672) × (2 ≤ length (now line)) ⌝ }
+fn print_on_records(text: &[u8], line: &[u8], present: &[u8], wanted: &[u8], slice: &[u8])
+    requires { ⌜ 2 ≤ length (now line) ⌝ }
 {
     let reading = read_text(text);
     let verdict = reading.verdict;
     if let Verdict::Refused { number, place } = verdict {
         print_refusal(number, place);
-        print_slice(dots(), room);
+        print_unwritten(line[0], slice);
         return;
     }
     let network = changed(reading.network, line[1]);
+    let room = at_most(slice.len(), 28672);
     match line[0] {
         66 => print_best(network, room),
+        82 => print_cut_plan(network, present, wanted, slice),
         84 => print_written(network, room),
         _ => print_operations(network, present, wanted, room),
     }
 }
 
-fn print_call(text: &[u8], line: &[u8], wanted: &[u8], room: usize)
-    requires { ⌜ room ≤ 28672 ⌝ }
-{
+fn print_call(text: &[u8], line: &[u8], wanted: &[u8], slice: &[u8]) {
     if line.len() < 3 {
         return;
     }
@@ -129,8 +171,8 @@ fn print_call(text: &[u8], line: &[u8], wanted: &[u8], room: usize)
     let m = at_most(wanted.len(), MAX_STATE);
     match line[0] {
         83 => print_state(text, &from[0..n]),
-        80 => print_plan(text, &from[0..n], &to[0..m], room),
-        _ => print_on_records(text, line, &from[0..n], &to[0..m], room),
+        80 => print_plan(text, &from[0..n], &to[0..m], at_most(slice.len(), 28672)),
+        _ => print_on_records(text, line, &from[0..n], &to[0..m], slice),
     }
 }
 
@@ -147,7 +189,7 @@ fn print_case(input: &[u8]) -> usize
         part_of(input, case.text),
         part_of(input, line),
         part_of(input, wanted),
-        at_most(slice.to - slice.from, 28672),
+        part_of(input, slice),
     );
     slice.to
 }

@@ -7,12 +7,13 @@ use lib.Dec.{T}
 use lib.Ieee.{Float, isNan}
 use Rattle.network.specs.Answers.{Answer, accepted, refused, _andThen_, Judgement}
 use Rattle.network.specs.Records.{Network}
-use Rattle.printing.specs.Calls.{Call}
+use Rattle.printing.specs.Calls.{Call, TwoSlices}
 use Rattle.frames.specs.Text.{readText}
 use Rattle.feeders.specs.SupplyLaws.{network-records}
 use Rattle.losses.specs.Accepted.{loss-finite}
 use Rattle.losses.specs.LossCall.{lossCall}
-use Rattle.controller.specs.Calls.{numbered, onRecords, onText, writtenAs}
+use Rattle.controller.specs.declared.answer.CallAnswer.{CallAnswer}
+use Rattle.controller.specs.Calls.{numbered, numbersOf, onRecords, onText, onTextInTwo, writtenAs, writtenNumbersInTwo}
 
 -- ---- a loss has bits
 abbrev pub NoNan : Answer Float → Type 0
@@ -52,3 +53,18 @@ module _ {A : Type 0} (t : List ℕ) (call : Network → List ℕ → Call A) (o
 pub numbers-beside : {A B : Type 0} (inNumbers : Answer A → B) {b : B} {x : Answer A} {held : List ℕ} {p : Call A} → b ≡ inNumbers x → record { answer = x; out = held } ≡ p
     → record { answer = b; out = held } ≡ writtenAs inNumbers p
 numbers-beside inNumbers {held = held} q h = ap (λ y. record { answer = y; out = held }) q ∙ ap (writtenAs inNumbers) h
+
+-- ---- the same, with two slices
+module _ {A : Type 0} (t : List ℕ) (call : Network → List ℕ → List ℕ → TwoSlices A) (first second : List ℕ) where
+  pub text-untouched-in-two : {n p : ℕ} → readText t ≡ refused n p
+      → record { answer = refused n p; first = first; second = second } ≡ onTextInTwo (readText t) call first second
+  unfolding onTextInTwo
+  text-untouched-in-two so = rw so
+
+  pub text-called-in-two : {N : Network} → readText t ≡ accepted N → {p : TwoSlices A} → p ≡ call N first second → p ≡ onTextInTwo (readText t) call first second
+  unfolding onTextInTwo
+  text-called-in-two so h = rw so h
+
+pub numbers-beside-both : {b : CallAnswer} {x : Answer ℕ} {first second : List ℕ} {p : TwoSlices ℕ} → b ≡ numbersOf x → record { answer = x; first = first; second = second } ≡ p
+    → record { answer = b; first = first; second = second } ≡ writtenNumbersInTwo p
+numbers-beside-both {first = first} {second = second} q h = ap (λ y. record { answer = y; first = first; second = second }) q ∙ ap writtenNumbersInTwo h

@@ -7,13 +7,14 @@ use Rattle.network.specs.Answers.{Answer, accepted, refused}
 use Rattle.states.specs.Live.{baseState}
 use Rattle.states.specs.Switches.{size}
 use Rattle.network.specs.Records.{Network}
-use Rattle.printing.specs.Calls.{Call, called}
+use Rattle.printing.specs.Calls.{Call, called, TwoSlices}
 use Rattle.printing.specs.Printed.{truthByte}
 use Rattle.frames.specs.Text.{readText}
 use Rattle.feeders.specs.Feeder.{radialIn}
 use Rattle.feeders.specs.StateCalls.{onState}
 use Rattle.losses.specs.LossCall.{lossCall}
 use Rattle.plan.specs.Plan.{planned}
+use Rattle.resumption.specs.Resume.{resumed}
 use Rattle.searches.specs.Results.{Result}
 use Rattle.reconfiguration.specs.Solve.{solved}
 use Rattle.operations.specs.Operations.{operationsCall}
@@ -108,3 +109,21 @@ baseCall N out = called (accepted tt) (size N) (baseState N) out
 
 unfoldable pub textBase : List ℕ → List ℕ → Call ℕ
 textBase text out = onText (readText text) baseCall out
+
+-- ---- a call that writes into two slices: what it answers, and what each of them holds then
+pub record CallWrittenInTwo (A : Type 0) : Type 0 where
+  pub answer : A
+  pub first : List ℕ
+  pub second : List ℕ
+
+abbrev pub writtenNumbersInTwo : TwoSlices ℕ → CallWrittenInTwo CallAnswer
+writtenNumbersInTwo p = record { answer = numbersOf (p .answer); first = p .first; second = p .second }
+
+-- on a text: a refusal of its reading writes no byte of either
+unfoldable pub onTextInTwo : {A : Type 0} → Answer Network → (Network → List ℕ → List ℕ → TwoSlices A) → List ℕ → List ℕ → TwoSlices A
+onTextInTwo (accepted N) call first second = call N first second
+onTextInTwo (refused number place) call first second = record { answer = refused number place; first = first; second = second }
+
+-- how many moves remain, after refusals 10 to 12, 16 and 13, and an 82 line for each; and an 82 line for each that goes back
+unfoldable pub textResume : List ℕ → List ℕ → List ℕ → ℕ → List ℕ → List ℕ → TwoSlices ℕ
+textResume text present wanted count remaining back = onTextInTwo (readText text) (λ N. resumed N present wanted count) remaining back

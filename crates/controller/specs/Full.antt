@@ -1,8 +1,8 @@
 -- Demand 1's first sentence for the calls that take a text or records in bytes: a text of records inside the limits, with a supply, where one is named, as document 02 wants it, with states of one byte 00 or 01 for each switch and room in the lent
--- slice, is answered in full. The calls on records, and `answer_text`, are in `answers.specs.Full`.
+-- slice, or in both, is answered in full. The calls on records, and `answer_text`, are in `answers.specs.Full`.
 use mathlib.Core.Path.{_≡_, refl, _∙_}
 use mathlib.Core.List.{List, _++_}
-use Prim.Native.Nat.{ℕ, _*_, _≤_}
+use Prim.Native.Nat.{ℕ, _-_, _*_, _≤_}
 use lib.Ieee.{binary64, toBits}
 use lib.ListN.{length, drop}
 use Rattle.network.specs.Answers.{accepted}
@@ -23,14 +23,15 @@ use Rattle.losses.specs.Loss.{lossIn}
 use Rattle.losses.specs.SupplySide.{Fed}
 use Rattle.plan.specs.Plan.{plan, planText}
 use Rattle.plan.specs.Plannable.{Free}
+use Rattle.resumption.specs.Resume.{movesOfPlan, fullAnswer}
 use Rattle.states.specs.BaseLaws.{base-good}
 use Rattle.reconfiguration.specs.Solve.{best, result}
 use Rattle.operations.specs.Operations.{operations, operationsText}
-use Rattle.answers.specs.Full.{radiality-in-full, loss-in-full, solved-in-full, operations-in-full, planned-in-full}
+use Rattle.answers.specs.Full.{radiality-in-full, loss-in-full, solved-in-full, operations-in-full, planned-in-full, resumed-in-full}
 use Rattle.texts.specs.Proof as writer
 use Rattle.record_bytes.specs.RecordBytes.{writtenRecords, bytesOfRecords}
 use Rattle.record_bytes.specs.RecordBytesLaws.{records-alike}
-use Rattle.controller.specs.Calls.{numbered, onRecords, textRadiality, textLoss, onText, textPlan, textOperations, textSolved, baseCall, textBase}
+use Rattle.controller.specs.Calls.{numbered, onRecords, textRadiality, textLoss, onText, textPlan, textOperations, textSolved, baseCall, textBase, onTextInTwo, textResume}
 
 module _ (t : List ℕ) (N : Network) (a : Acceptable t N) where
   has-records : readText t ≡ accepted N
@@ -54,6 +55,16 @@ module _ (t : List ℕ) (N : Network) (a : Acceptable t N) where
       → textPlan t present wanted out ≡ record { answer = accepted (length moves); out = planText moves ++ drop (pairLength * length moves) out }
   unfolding textPlan onText
   text-plan-in-full present wanted p w r v free out room = rw has-records (planned-in-full N (a .inside) (a .supplied) present wanted p w r v free out room)
+
+  -- `feeder_resume`, between such states with no more moves done than the plan has: a line for each move that remains, and one for each that goes back
+  pub text-resume-in-full : (present wanted : State) → GoodState N present → GoodState N wanted → Tree (feeder N) (LiveIn N present) → Tree (feeder N) (LiveIn N wanted)
+      → Free N present wanted → (count : ℕ) (remaining back : List ℕ)
+      → let moves = movesOfPlan N present wanted in
+      count ≤ length moves → operationLength * (length moves - count) ≤ length remaining → operationLength * count ≤ length back
+      → textResume t present wanted count remaining back ≡ fullAnswer N present wanted count remaining back
+  unfolding textResume onTextInTwo
+  text-resume-in-full present wanted p w r v free count remaining back few room also =
+      rw has-records (resumed-in-full N (a .inside) (a .supplied) present wanted p w r v free count remaining back few room also)
 
   -- `feeder_operations`, between any two states: `operationLength` bytes for each operation
   pub text-operations-in-full : (from to : State) → GoodState N from → GoodState N to → (out : List ℕ)

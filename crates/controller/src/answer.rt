@@ -6,6 +6,7 @@ ghost use Rattle.printing.specs.Printed.{truthByte};
 ghost use Rattle.radiality.specs.Answers.{radialityOf};
 ghost use Rattle.losses.specs.Answers.{lossAnswerOf};
 ghost use Rattle.plan.specs.Plan.{planAnswerOf};
+ghost use Rattle.resumption.specs.Resume.{resumeAnswerOf};
 ghost use Rattle.searches.specs.Results.{solveAnswerOf};
 ghost use Rattle.operations.specs.Operations.{operationsAnswerOf};
 ghost use Rattle.answers.specs.Printing.{textAnswerOf};
@@ -18,6 +19,7 @@ use operations::operations::OperationsAnswer;
 use plan::planner::PlanAnswer;
 use printing::writer::truth_byte;
 use radiality::radiality::Radiality;
+use resumption::resume::ResumeAnswer;
 use searches::answer::SolveAnswer;
 use texts::writer::WriteAnswer;
 
@@ -88,6 +90,15 @@ pub(crate) fn plan_numbers(answer: PlanAnswer) -> CallAnswer
     match answer {
         PlanAnswer::Refused { number, place } => refusal(number, place),
         PlanAnswer::Pairs(count) => answered(count as u64),
+    }
+}
+
+pub(crate) fn resume_numbers(answer: ResumeAnswer) -> CallAnswer
+    ensures { λ r. ⌜ r ≡ numbersOf (resumeAnswerOf answer) ⌝ }
+{
+    match answer {
+        ResumeAnswer::Refused { number, place } => refusal(number, place),
+        ResumeAnswer::Remaining(count) => answered(count as u64),
     }
 }
 

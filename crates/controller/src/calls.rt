@@ -5,7 +5,7 @@ ghost use Rattle.network.specs.Check.{checkRecords};
 ghost use Rattle.network.specs.Records.{recordsOf};
 ghost use Rattle.answers.specs.Printing.{answeredText};
 ghost use Rattle.record_bytes.specs.RecordBytes.{writtenRecords};
-ghost use Rattle.controller.specs.Calls.{numbersOf, textRadiality, textLoss, textPlan, textOperations, textSolved, baseCall, textBase, writtenNumbers, writtenSolved};
+ghost use Rattle.controller.specs.Calls.{numbersOf, textRadiality, textLoss, textPlan, textResume, textOperations, textSolved, baseCall, textBase, writtenNumbers, writtenNumbersInTwo, writtenSolved};
 use crate::answer::CallAnswer;
 use crate::answer::SolvedAnswer;
 use crate::answer::answered;
@@ -15,6 +15,7 @@ use crate::answer::operations_numbers;
 use crate::answer::plan_numbers;
 use crate::answer::radiality_numbers;
 use crate::answer::refusal;
+use crate::answer::resume_numbers;
 use crate::answer::solved_numbers;
 use crate::answer::text_numbers;
 use crate::answer::write_numbers;
@@ -29,6 +30,7 @@ use plan::planner::plan;
 use radiality::radiality::verify_radiality;
 use reconfiguration::solve::solve;
 use record_bytes::records::write_records;
+use resumption::resume::resume;
 use slices::writer::write_bytes;
 use states::configuration::build_base_configuration;
 
@@ -76,6 +78,29 @@ pub extern "C" fn feeder_plan(
         return refusal(number, place);
     }
     plan_numbers(plan(reading.network, present, wanted, out))
+}
+
+// The plan from the present state, in which it began, to the wanted one, with so many of its single moves done: the value is the number of moves that
+// remain, and an 82 line for each stands at the front of the first slice; the moves that go back from there stand so at the front of the second, one for each
+// move done. Each slice keeps what is behind its lines. A refusal writes nothing.
+#[no_mangle]
+pub extern "C" fn feeder_resume(
+    text: &[u8],
+    present: &[u8],
+    wanted: &[u8],
+    count: u64,
+    remaining: &mut [u8],
+    back: &mut [u8],
+) -> CallAnswer
+    ensures { λ r. ⌜ record { answer = r; first = now (remaining .exit); second = now (back .exit) }
+        ≡ writtenNumbersInTwo (textResume (now (text .entry)) (now (present .entry)) (now (wanted .entry)) count (now (remaining .entry)) (now (back .entry))) ⌝ }
+{
+    let reading = read_text(text);
+    let verdict = reading.verdict;
+    if let Verdict::Refused { number, place } = verdict {
+        return refusal(number, place);
+    }
+    resume_numbers(resume(reading.network, present, wanted, count, remaining, back))
 }
 
 // The lines that the program `feeder` prints for the text: the value is how many bytes, and they stand at the front of the slice, which keeps what is behind

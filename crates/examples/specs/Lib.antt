@@ -5,3 +5,4 @@ pub mod Searches
 pub mod Answers
 pub mod ReadBack
 pub mod Supplies
+pub mod Resumptions

@@ -42,10 +42,10 @@ abbrev locked : Switch → Switch
 locked s = record { id = s .id; «branch_idx» = s .«branch_idx»; «normally_open» = s .«normally_open»; «can_operate» = false }
 
 -- the base, and the state in which the two switches have changed places
-abbrev present : State
+abbrev pub present : State
 present = 0 ∷ 1 ∷ []
 
-abbrev wanted : State
+abbrev pub wanted : State
 wanted = 1 ∷ 0 ∷ []
 
 -- Four buses in a row by branches 0, 1 and 2; branch 3 from the first to the third, branch 4 from the first to the last, and branch 5, out of service.
@@ -67,7 +67,7 @@ four-wanted = 0 ∷ 0 ∷ 1 ∷ 1 ∷ 0 ∷ []
 -- The triangle's pair is document 01's line 83000B000A. In the feeder of four buses, branch 4 comes first by switch order, and on the path 0, 1, 2 between its ends branch 1 is the first
 -- that is not wanted; then branch 3, on the path 4, 2. By branch order the pairs would be 21 with 23 and 20 with 22; along the path from the to bus, 20 with 22 and 21 with 23.
 -- Switch 24 is left as found, and that it is locked is no refusal
-computed : (baseState triangle ≡ present)
+pub computed : (baseState triangle ≡ present)
     × (checkPlan triangle present wanted ≡ accepted tt)
     × (plan triangle present wanted ≡ record { closes = 11; opens = 10 } ∷ [])
     × (checkPlan fourBuses four-present four-wanted ≡ accepted tt)

@@ -7,7 +7,7 @@ use Rattle.network.specs.declared.error.Verdict.the-variants.{Accepted, 
 
 pub data Answer (A : Type 0) : Type 0 where
   accepted : A → Answer A
-  -- document 01's refusal: its number, and its place: the line of a text or record, from 1; 0 or 1 for a state; a switch id for 12; 0 for 13
+  -- document 01's refusal: its number, and its place: the line of a text or record, from 1; 0 or 1 for a state; a switch id for 12; 0 for 13 and 16
   refused : (number place : ℕ) → Answer A
 
 -- what a test answers: nothing, or a refusal

@@ -2,14 +2,14 @@
 use mathlib.Core.Path.{_≡_, refl, sym, ap, _∙_}
 use mathlib.Core.Logic.{_≢_}
 use mathlib.Core.Bool.{Bool, true, false, cond}
-use mathlib.Core.List.{List, [], _∷_, _++_, map}
-use Prim.Native.Nat.{ℕ, zero, suc, _+_, _≤_, _<_, min}
+use mathlib.Core.List.{List, [], _∷_, _++_, map, reverse, reverse-append}
+use Prim.Native.Nat.{ℕ, zero, suc, _+_, _-_, _≤_, _<_, min}
 use native.Mathlib.Decide.{ℕ-discrete}
 use native.Mathlib.Numerals.{add-one}
 use native.Mathlib.Omega.{arith}
 use lib.Dec.{ltb}
-use lib.ListN.{length, getD, take, drop, set, replicate, length-append, length-take, length-set, length-replicate, getD-replicate, List·getD-append}
-use lib.Seq.{drop-cons, ext-getD, getD-take, getD-at, getD-set-same, getD-set-other}
+use lib.ListN.{length, getD, take, drop, set, replicate, length-append, length-take, length-drop, length-set, length-replicate, getD-replicate, List·getD-append}
+use lib.Seq.{drop-cons, ext-getD, getD-take, getD-drop, getD-at, getD-set-same, getD-set-other}
 use borrow.Author.Tests.{lt-ltb, le-ltb, ltb-true, ltb-false}
 use Rattle.numbers.specs.UpTo.{table}
 
@@ -53,6 +53,23 @@ take-table f n i h =
     as-table f i (f 0) (take i (table f n)) (simp (length-take, length-table) (omega arith))
     (λ j k. getD-take i (table f n) j (f 0) k ∙ getD-table f n j (f 0) (omega arith))
 
+-- the entries from i on
+pub table-rest {ℓ} : {A : Type ℓ} (f : ℕ → A) (n i : ℕ) → drop i (table f n) ≡ table (λ j. f (i + j)) (n - i)
+table-rest f n i =
+    as-table (λ j. f (i + j)) (n - i) (f 0) (drop i (table f n)) (simp (length-drop, length-table) (omega arith))
+    (λ j k. getD-drop i (table f n) j (f 0) ∙ getD-table f n (i + j) (f 0) (omega arith))
+
+pub reverse-table : {A : Type 0} (f : ℕ → A) (n : ℕ) → reverse (table f n) ≡ table (λ j. f (n - 1 - j)) n
+unfolding table
+reverse-table f zero = refl
+reverse-table {A} f (suc n) =
+    reverse-append (table f n) (f n ∷ []) ∙ ap (λ (l : List A). f n ∷ l) (reverse-table f n)
+    ∙ as-table (λ j. f (suc n - 1 - j)) (suc n) (f n) (f n ∷ table (λ j. f (n - 1 - j)) n) (ap suc (length-table _ n)) go
+  where
+    go : (i : ℕ) → i < suc n → getD (f n ∷ table (λ j. f (n - 1 - j)) n) i (f n) ≡ f (suc n - 1 - i)
+    go zero h = ap f (omega arith)
+    go (suc i) h = getD-table (λ j. f (n - 1 - j)) n i (f n) (omega arith) ∙ ap f (omega arith)
+
 pub replicate-table {ℓ} : {A : Type ℓ} (a : A) (n : ℕ) → replicate n a ≡ table (λ i. a) n
 replicate-table a n = as-table (λ i. a) n a (replicate n a) (length-replicate n a) (λ i h. getD-replicate n i a a h)
 
@@ -68,6 +85,14 @@ table-set f g n x v l e h = as-table g n v (set (table f n) x v) (length-set (ta
     go : (k : ℕ) → k < n → Dec (k ≡ x) → getD (set (table f n) x v) k v ≡ g k
     go k m (yes q) = rw (q, e) (getD-set-same (table f n) x v v (rw (length-table f n) l))
     go k m (no q) = getD-set-other (table f n) x k v v q ∙ getD-table f n k v m ∙ h k m q
+
+-- entries made of two arrays, into each of which one more is stored
+pub table-stored : {A B C : Type 0} (f : A → B → C) (d : A) (e : B) (xs : List A) (ys : List B) (n at : ℕ) (a : A) (b : B) → at ≡ n → n < length xs → n < length ys
+    → table (λ i. f (getD (set xs at a) i d) (getD (set ys at b) i e)) (n + 1) ≡ table (λ i. f (getD xs i d) (getD ys i e)) n ++ (f a b ∷ [])
+table-stored {C = C} f d e xs ys n at a b here l m =
+    rw here (table-more _ n
+    ∙ ap (λ (c : C). table (λ i. f (getD (set xs n a) i d) (getD (set ys n b) i e)) n ++ (c ∷ [])) (rw (getD-set-same xs n a d l, getD-set-same ys n b e m))
+    ∙ ap (λ (r : List C). r ++ (f a b ∷ [])) (table-cong _ _ n (λ i k. rw (getD-set-other xs n i a d (omega arith), getD-set-other ys n i b e (omega arith)))))
 
 module _ {A B : Type 0} (g : A → B) where
   pub map-snoc : (l : List A) (a : A) → map g (l ++ (a ∷ [])) ≡ map g l ++ (g a ∷ [])

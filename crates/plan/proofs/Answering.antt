@@ -15,8 +15,7 @@ use Rattle.plan.specs.declared.pairs.PairList.{PairList}
 use Rattle.changes.specs.Change.{checkPlan}
 use Rattle.plan.specs.Plan.{Moves, plan, planText, planned}
 use Rattle.plan.specs.Stored.{movesIn}
-use Rattle.plan.specs.Length.{length-text}
-use Rattle.plan.proofs.PairLists.{length-moves}
+use Rattle.plan.specs.Length.{length-text, length-moves}
 
 module _ (N : Network) (present wanted : State) (out : List ℕ) where
   abbrev moves : List Moves

@@ -34,12 +34,12 @@ use Rattle.plan.specs.Plan.{Pair, closings, opening, exchanged, pairsFro
 use Rattle.plan.specs.RowOpening.{row-opening}
 use Rattle.plan.specs.Stored.{movesIn}
 use Rattle.changes.specs.Onward.{onward, onward-all, onward-none, onward-yes, onward-no}
+use Rattle.plan.specs.Length.{length-moves}
 use Rattle.plan.specs.Exchanges.{opened-live}
 use Rattle.plan.specs.Stages.{Leads, next}
 use Rattle.plan.specs.Accepted.{plan-accepted, accepted-plannable}
 use Rattle.plan.specs.Planner.{pairs-lead}
 use Rattle.changes.specs.Passing.{Passed, inside, flag-live}
-use Rattle.plan.proofs.PairLists.{length-moves}
 
 -- the flags after a pair
 pub flags-exchanged : (flags : List Bool) (q : Pair) → q .closed < length flags → q .opened < length flags

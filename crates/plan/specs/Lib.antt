@@ -1,4 +1,5 @@
 pub mod Plan
+pub mod MadePlans
 pub mod RowOpening
 pub mod Stored
 pub mod Claim
@@ -12,3 +13,4 @@ pub mod Accepted
 pub mod Proof
 pub mod Empty
 pub mod Length
+pub mod MadePlanLaws

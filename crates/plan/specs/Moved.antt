@@ -118,6 +118,13 @@ module _ {N : Network} (regular : Regular N) {s : State} {E : ℕ → Bool} {q :
     opening = r .closing;
   }
 
+  -- before the pair the switch that it closes was open, and the one that it opens was closed
+  pub was-open : byte s (r .closing .at) ≡ 1
+  was-open = byte-open N s e c (r .closing .on) (h .good .long) (λ j p. regular .alone p (r .closing .on)) (r .closing .served) (h .flags e ∙ r .fits .dead)
+
+  pub was-closed : byte s (r .opening .at) ≡ 0
+  was-closed = byte-closed N s f o (r .opening .on) (h .good .bytes o (r .opening .on .listed)) (h .flags f ∙ opened-live (r .fits) .1)
+
   -- undone, the pair leaves the state as it was
   pub undone : carriedOut N (turned m) (carriedOut N m s) ≡ s
   unfolding carriedOut afterClosing
@@ -128,12 +135,6 @@ module _ {N : Network} (regular : Regular N) {s : State} {E : ℕ → Bool} {q :
       ∙ ap (λ t. set t o 0) (set-set s c 0 1 ∙ ap (set s c) (sym was-open) ∙ set-getD s c 0)
       ∙ ap (set s o) (sym was-closed)
       ∙ set-getD s o 0)
-    where
-      was-open : byte s c ≡ 1
-      was-open = byte-open N s e c (r .closing .on) (h .good .long) (λ j p. regular .alone p (r .closing .on)) (r .closing .served) (h .flags e ∙ r .fits .dead)
-
-      was-closed : byte s o ≡ 0
-      was-closed = byte-closed N s f o (r .opening .on) (h .good .bytes o (r .opening .on .listed)) (h .flags f ∙ opened-live (r .fits) .1)
 
   -- what demand 3 says of a pair that is carried out
   pub closed-on : branchOf N (switchAt N (m .closes)) ≡ e

@@ -56,7 +56,7 @@ module _ {N : Network} (regular : Regular N) where
   leads-at (there t e) h (suc n) b = absurd (omega arith)
   leads-at (next r w u l) h (suc n) b = leads-at l (end-shows regular h r) n (omega arith)
 
-  due-at : {W E : ℕ → Bool} {Q : List Pair} {s : State} → Leads N W E Q → Shows N s E → (n : ℕ) (m : Moves) → getElem? (map (movesOf N) Q) n ≡ some m
+  pub due-at : {W E : ℕ → Bool} {Q : List Pair} {s : State} → Leads N W E Q → Shows N s E → (n : ℕ) (m : Moves) → getElem? (map (movesOf N) Q) n ≡ some m
       → (n < length Q) × (stage N s (map (movesOf N) Q) (suc n) ≡ carriedOut N m (stage N s (map (movesOf N) Q) n)) × Due N (stage N s (map (movesOf N) Q) n) m
   unfolding stage
   due-at (there t e) h n m g = absurd (Option·none-ne-some m g)

@@ -24,7 +24,7 @@ use openings::opening::opening;
 
 // The pairs of a plan in order: for each the id of the switch that it closes and the id of the one that it opens. Each closes another switch,
 // so that there are no more of them than switches.
-pub(crate) struct PairList {
+pub struct PairList {
     pub count: u16,
     pub closes: [u16; PowerNetwork::MAX_SWITCHES],
     pub opens: [u16; PowerNetwork::MAX_SWITCHES],
@@ -32,7 +32,7 @@ pub(crate) struct PairList {
 
 impl PairList {
     // No pairs.
-    fn new() -> PairList
+    pub(crate) fn new() -> PairList
         ensures { λ r. ⌜ movesIn r ≡ [] ⌝ }
     {
         PairList {

@@ -6,7 +6,8 @@ ghost use Rattle.slices.specs.Written.{written};
 ghost use Rattle.network.specs.Records.{recordsOf};
 ghost use Rattle.printing.specs.Lengths.{pairLength};
 ghost use Rattle.plan.specs.Plan.{planText, planned, planAnswerOf};
-ghost use Rattle.plan.specs.Stored.{movesIn};
+ghost use Rattle.plan.specs.Stored.{movesIn, madeIn};
+ghost use Rattle.plan.specs.MadePlans.{madePlan};
 use crate::pairs::PairList;
 use crate::pairs::pairs_of;
 use changes::change::check_plan;
@@ -20,6 +21,12 @@ use printing::writer::write_pair;
 pub enum PlanAnswer {
     Pairs(u16),
     Refused { number: u8, place: u16 },
+}
+
+// The verdict of `check_plan`, and the pairs of the plan: none beside a refusal. What stands in their arrays behind the count is no pair, and nothing is promised of it.
+pub struct MadePlan {
+    pub verdict: Verdict,
+    pub pairs: PairList,
 }
 
 // A line for each pair, one behind the other.
@@ -36,17 +43,35 @@ fn write_pairs(out: &mut [u8], pairs: PairList)
     }
 }
 
+// The pairs of the plan from the present state to the wanted one, or the refusal beside which there are none.
+pub fn made_plan(network: PowerNetwork, present: &[u8], wanted: &[u8]) -> MadePlan
+    ensures { λ r. ⌜ madeIn r ≡ madePlan (recordsOf network) (now (present .entry)) (now (wanted .entry)) ⌝ }
+{
+    let change = check_plan(network, present, wanted);
+    let verdict = change.verdict;
+    let Verdict::Accepted = verdict else {
+        return MadePlan {
+            verdict,
+            pairs: PairList::new(),
+        };
+    };
+    MadePlan {
+        verdict,
+        pairs: pairs_of(network, change),
+    }
+}
+
 // The plan from the present state to the wanted one, as 83 lines at the front of the slice, and how many pairs it has.
 pub fn plan(network: PowerNetwork, present: &[u8], wanted: &[u8], out: &mut [u8]) -> PlanAnswer
     ensures { λ r. ⌜ record { answer = planAnswerOf r; out = now (out .exit) }
         ≡ planned (recordsOf network) (now (present .entry)) (now (wanted .entry)) (now (out .entry)) ⌝ }
 {
-    let change = check_plan(network, present, wanted);
-    let verdict = change.verdict;
+    let made = made_plan(network, present, wanted);
+    let verdict = made.verdict;
     match verdict {
         Verdict::Refused { number, place } => PlanAnswer::Refused { number, place },
         Verdict::Accepted => {
-            let pairs = pairs_of(network, change);
+            let pairs = made.pairs;
             if out.len() < PAIR_LENGTH * wide16(pairs.count) {
                 return PlanAnswer::Refused {
                     number: 13,

@@ -1,4 +1,4 @@
--- A call that is lent a slice, case by case: refused by its tests, without room, or done. What the code writes stands as `written` here.
+-- A call that is lent a slice, or two, case by case: refused by its tests, without room, or done. What the code writes stands as `written` here.
 use mathlib.Core.Path.{_≡_, refl, sym, ap, _∙_}
 use mathlib.Core.Logic.{_⊎_, inl, inr}
 use mathlib.Core.Bool.{Bool, true, false, cond}
@@ -11,7 +11,7 @@ use Rattle.network.specs.Answers.{Answer, accepted, refused, _andThen_, _if_, j
 use Rattle.network.specs.AnswerLaws.{same-value, no-refusal, judge-iff, then-iff}
 use Rattle.slices.specs.Written.{written}
 use Rattle.slices.specs.WrittenLaws.{written-room}
-use Rattle.printing.specs.Calls.{checkRoom, Call, answered, called}
+use Rattle.printing.specs.Calls.{checkRoom, Call, answered, called, calledInTwo}
 
 -- ---- room in a lent slice
 module _ {needed lent : ℕ} where
@@ -89,3 +89,31 @@ call-refusals {A} (accepted u) answer bytes out {n} {p} e = let (number, place, 
     go : (short : Bool) → ltb (length out) (length bytes) ≡ short → answered (judge ((13 if short) ∷ []) 0) answer bytes out .answer ≡ refused n p → (n ≡ 13) × (p ≡ 0) × (length out < length bytes)
     go true q a = let e : _≡_ {A = Answer A} (refused 13 0) (refused n p) = (unfold judge in a) in (cc, cc, ltb-true (length out) (length bytes) q)
     go false q a = let e : _≡_ {A = Answer A} (accepted answer) (refused n p) = (unfold judge in a) in no-refusal (sym e)
+
+-- ---- the call with two slices
+module _ {A : Type 0} {tests : Judgement} (answer : A) (bytes more first second : List ℕ) where
+  pub two-refused : {number place : ℕ} → tests ≡ refused number place
+      → record { answer = refused number place; first = first; second = second } ≡ calledInTwo tests answer bytes more first second
+  unfolding calledInTwo _andThen_
+  two-refused e = rw e
+
+  module _ (ok : tests ≡ accepted tt) {needed : ℕ} (long : length bytes ≡ needed) where
+    pub first-short : length first < needed → record { answer = refused 13 0; first = first; second = second } ≡ calledInTwo tests answer bytes more first second
+    unfolding calledInTwo _andThen_ checkRoom judge
+    first-short h = rw (ok, long, lt-ltb (length first) needed h)
+
+    module _ (room : needed ≤ length first) {asked : ℕ} (also : length more ≡ asked) where
+      pub second-short : length second < asked → record { answer = refused 13 0; first = first; second = second } ≡ calledInTwo tests answer bytes more first second
+      unfolding calledInTwo _andThen_ checkRoom judge
+      second-short h = rw (ok, long, le-ltb (length first) needed room, also, lt-ltb (length second) asked h)
+
+      pub two-done : asked ≤ length second → {after then : List ℕ} → after ≡ written bytes first → then ≡ written more second
+          → record { answer = accepted answer; first = after; second = then } ≡ calledInTwo tests answer bytes more first second
+      unfolding calledInTwo _andThen_ checkRoom judge
+      two-done h w v =
+          rw (w, written-room bytes first (rw long room), v, written-room more second (rw also h), ok, le-ltb (length first) (length bytes) (rw long room), le-ltb (length second) (length more) (rw also h))
+
+  pub two-in-full : tests ≡ accepted tt → length bytes ≤ length first → length more ≤ length second
+      → calledInTwo tests answer bytes more first second
+      ≡ record { answer = accepted answer; first = bytes ++ drop (length bytes) first; second = more ++ drop (length more) second }
+  two-in-full ok room also = sym (two-done ok refl room refl also (sym (written-room bytes first room)) (sym (written-room more second also)))

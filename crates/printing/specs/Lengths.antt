@@ -25,6 +25,10 @@ operationsLength = 512 * operationLength
 abbrev pub planLength : ℕ
 planLength = 255 * pairLength
 
+-- the single moves of the longest plan (`resumption.specs.ResumeLaws.moves-fit`): 4,590
+abbrev pub movesLength : ℕ
+movesLength = 510 * operationLength
+
 -- all that is printed for a text: 7,472
 abbrev pub printedLength : ℕ
 printedLength = answerLength + operationsLength + planLength

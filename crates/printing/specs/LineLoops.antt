@@ -3,7 +3,8 @@ use mathlib.Core.Path.{_≡_, sym, ap, _∙_}
 use mathlib.Core.List.{List, [], flatMap}
 use Prim.Native.Nat.{ℕ, _+_, _*_, _-_, _≤_, _<_}
 use native.Mathlib.Omega.{arith}
-use native.Mathlib.Nat.{mul-le-mul-left}
+use native.Mathlib.Nat.{mul-le-mul-left, mul-suc, mul-zero}
+use native.Mathlib.Numerals.{add-one}
 use lib.ListN.{length, take, drop}
 use borrow.Rule.Slice.PartMut.{putMid}
 use Rattle.numbers.specs.UpTo.{table}
@@ -53,3 +54,21 @@ module _ {A : Type 0} (line : A → List ℕ) (width : ℕ) (long : (a : A) → 
             written-append (lines i) (line (entry i)) out at (length-first i ∙ sym (l .here)) (omega (arith, long (entry i), lines-room, lines-length)) (l .so-far) (w ∙ rw e)
             ∙ rw (table-more entry i, lines-more line (table entry i) (entry i));
       }
+
+  -- ---- where a loop reckons the place of the next line from i, and room is tested by the width
+  pub record LinesTo (now : List ℕ) (i : ℕ) : Type 0 where
+    lines-so-far : Lines now (width * i) i
+
+  pub no-lines : LinesTo out 0
+  no-lines = record { lines-so-far = rw mul-zero lines-none }
+
+  module _ {now : List ℕ} {i : ℕ} (l : LinesTo now i) where
+    pub same-room : length now ≡ length out
+    same-room = lines-length now (width * i) i (l .lines-so-far)
+
+    pub lines-end : n ≤ i → now ≡ written (flatMap line (table entry n)) out
+    lines-end = lines-all now (width * i) i (l .lines-so-far)
+
+    pub lines-further : width * n ≤ length out → i < n → {x : A} → x ≡ entry i → {part : List ℕ} → part ≡ written (line x) (take (length now - width * i) (drop (width * i) now))
+        → LinesTo (putMid (width * i) (length now - width * i) now part) (i + 1)
+    lines-further room h e w = record { lines-so-far = lines-next now (width * i) i (l .lines-so-far) (rw (length-first n) room) h e (rw (add-one i, mul-suc) (omega arith)) w }

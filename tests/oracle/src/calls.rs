@@ -1,5 +1,5 @@
 //! Questions on calls that `feeder` doesn't show: radiality and loss of any state, the best state in a lent slice,
-//! operations and plans between any two states, the text of the records. A question is a case of the program `call_cases`
+//! operations and plans between any two states, plans cut off, the text of the records. A question is a case of the program `call_cases`
 //! (crates/call_cases/src/calls.rt), its answer what that program is to print.
 
 use crate::cases::{Case, Cases};
@@ -8,21 +8,23 @@ use crate::driver::Original;
 use crate::feeder::Feeder;
 use crate::random::Random;
 use crate::reckoning::plan::{self, plan, well_formed};
-use crate::reckoning::{judge, reader, searches, Network, Refusal};
-use crate::states::{any_plan, any_state, more_closed, near, OPERATION_LENGTH};
+use crate::reckoning::{judge, reader, resume, searches, Network, Refusal};
+use crate::states::{any_cut_plan, any_plan, any_state, more_closed, near, OPERATION_LENGTH};
 use crate::{damage, shapes, supplied, supply};
 
 /// One question of a program under test.
-struct Question {
-    name: String,
+pub struct Question {
+    pub name: String,
     text: Vec<u8>,
     call: Call,
     /// A fault that the records get once they are read, a hyphen for none.
     change: char,
-    present: Vec<u8>,
-    wanted: Vec<u8>,
-    /// Length of the lent slice.
-    room: usize,
+    pub present: Vec<u8>,
+    pub wanted: Vec<u8>,
+    /// How many single moves are done, where a plan was cut off.
+    pub count: u64,
+    /// Lengths of the lent slices.
+    pub rooms: Vec<usize>,
 }
 
 #[derive(Clone, Copy, PartialEq)]
@@ -32,22 +34,26 @@ enum Call {
     Operations,
     Plan,
     Text,
+    CutPlan,
 }
 
+type Listed = (char, Call, &'static str);
+
 /// The letter of each call, and what is asked.
-const CALLS: [(char, Call, &str); 5] = [
+const CALLS: [Listed; 6] = [
     ('S', Call::State, "radiality and loss of a state"),
     ('B', Call::Best, "the best state in a slice"),
     ('O', Call::Operations, "operations in a slice"),
     ('P', Call::Plan, "a plan in a slice"),
     ('T', Call::Text, "the text read, in a slice"),
+    ('R', Call::CutPlan, "a plan cut off, in two slices"),
 ];
 
-/// What an answered call prints: its fields, and what it writes into the slice.
+/// What an answered call prints: its fields, and what it writes into the slices.
 struct Answer {
     result: &'static str,
     fields: String,
-    written: String,
+    written: Vec<String>,
 }
 
 const ANSWERED: &str = "answered";
@@ -101,8 +107,8 @@ pub fn full_queue_questions(count: usize, seed: u64) -> impl Iterator<Item = Vec
         let text = shapes::full_queue(random, number).text();
         let network = reader::read(&text).expect("shapes are acceptable");
         let present = if number % 4 == 3 { any_state(random, &network) } else { more_closed(random, &network) };
-        let (name, call, wanted) = (format!("S{number}"), Call::State, Vec::new());
-        Question { name, text, call, change: '-', present, wanted, room: 0 }.written()
+        let (name, call) = (format!("S{number}"), Call::State);
+        Question { name, text, call, change: '-', present, wanted: Vec::new(), count: 0, rooms: Vec::new() }.written()
     })
 }
 
@@ -111,11 +117,26 @@ pub fn questions_with_line(count: usize, seed: u64) -> impl Iterator<Item = Vec<
     (0..count).map(move |number| any_question_with_line(&mut Random::new(seed, "05 line: questions", number), number))
 }
 
+pub const CUT_PLANS: &str = "a plan cut off: questions";
+pub const CUT_PLANS_WITH_LINE: &str = "05 line: a plan cut off: questions";
+
+/// Questions on plans cut off, of texts without the 05 line.
+pub fn cut_plans(count: usize, seed: u64) -> impl Iterator<Item = Vec<u8>> + Send {
+    (0..count).map(move |number| on_any_feeder(&mut Random::new(seed, CUT_PLANS, number), CALLS[5], number))
+}
+
+/// The same of texts with it.
+pub fn cut_plans_with_line(count: usize, seed: u64) -> impl Iterator<Item = Vec<u8>> + Send {
+    let random = move |number| Random::new(seed, CUT_PLANS_WITH_LINE, number);
+    (0..count).map(move |number| on_any_feeder_with_line(&mut random(number), CALLS[5], number))
+}
+
 /// A question for each accepted text: it is to be written back into a slice as long as it, or up to two bytes longer.
 pub fn written_back(texts: Cases) -> impl Iterator<Item = Vec<u8>> + Send {
     texts.map(|case| case.text).filter(|text| reader::read(text).is_ok()).enumerate().map(|(number, text)| {
-        let (name, room) = (format!("T{number}"), text.len() + number % 3);
-        Question { name, text, call: Call::Text, change: '-', present: Vec::new(), wanted: Vec::new(), room }.written()
+        let (name, rooms) = (format!("T{number}"), vec![text.len() + number % 3]);
+        let (present, wanted) = (Vec::new(), Vec::new());
+        Question { name, text, call: Call::Text, change: '-', present, wanted, count: 0, rooms }.written()
     })
 }
 
@@ -137,42 +158,61 @@ pub fn runs(kind: &'static str, questions: impl Iterator<Item = Vec<u8>> + Send 
 }
 
 fn any_question(random: &mut Random, number: usize) -> Vec<u8> {
-    let (letter, call, _) = CALLS[random.pick(&[0, 0, 1, 2, 3, 3])];
-    let feeder = match call {
+    let listed = CALLS[random.pick(&[0, 0, 1, 2, 3, 3])];
+    on_any_feeder(random, listed, number)
+}
+
+fn on_any_feeder(random: &mut Random, listed: Listed, number: usize) -> Vec<u8> {
+    let feeder = match listed.1 {
         // The original's searches would take minutes there.
-        Call::State | Call::Operations | Call::Plan if random.percent(2) => shapes::full_size(random, 0, 10, 100),
+        call if call != Call::Best && random.percent(2) => full_size(random, call),
         _ => (shapes::SHAPES[random.below(shapes::SHAPES.len())].make)(random),
     };
     let text = if random.percent(3) { damage::damaged(random) } else { feeder.text() };
     let network = reader::read(&text).or(reader::read(&feeder.text())).expect("shapes are acceptable");
-    asked(random, (letter, call), number, text, &network)
+    asked(random, listed, number, text, &network)
 }
 
 /// Half of them are on states, whose loss has a refusal of its own.
 fn any_question_with_line(random: &mut Random, number: usize) -> Vec<u8> {
-    let (letter, call, _) = CALLS[random.pick(&[0, 0, 0, 1, 2, 3])];
-    let full: fn(&mut Random) -> Feeder = |random| shapes::full_size(random, 0, 10, 100);
-    let large = call != Call::Best && random.percent(2);
+    let listed = CALLS[random.pick(&[0, 0, 0, 1, 2, 3])];
+    on_any_feeder_with_line(random, listed, number)
+}
+
+fn on_any_feeder_with_line(random: &mut Random, listed: Listed, number: usize) -> Vec<u8> {
+    let full: fn(&mut Random) -> Feeder = match listed.1 {
+        Call::CutPlan => |random| full_size(random, Call::CutPlan),
+        _ => |random| full_size(random, Call::State),
+    };
+    let large = listed.1 != Call::Best && random.percent(2);
     let make = if large { full } else { supplied::any_shape(random) };
     let feeder = supplied::feeder(random, make);
     let text = if random.percent(3) { damage::damaged_with_line(random) } else { feeder.text() };
     // Where the line is refused the states are those of the feeder without it.
     let without = Feeder { supply: None, ..feeder };
     let network = reader::read(&text).or(reader::read(&without.text())).expect("shapes are acceptable");
-    asked(random, (letter, call), number, text, &network)
+    asked(random, listed, number, text, &network)
 }
 
-fn asked(random: &mut Random, listed: (char, Call), number: usize, text: Vec<u8>, network: &Network) -> Vec<u8> {
-    let (letter, call) = listed;
-    let (present, wanted, room) = match call {
-        Call::State => (any_state(random, network), Vec::new(), 0),
-        Call::Best => (Vec::new(), Vec::new(), near(random, network.switches.len())),
-        Call::Operations => any_operations(random, network),
-        Call::Plan => any_plan(random, network),
+/// Long plans move switches that are locked in the others.
+fn full_size(random: &mut Random, call: Call) -> Feeder {
+    let operable = if call == Call::CutPlan && random.percent(75) { usize::MAX } else { 10 };
+    shapes::full_size(random, 0, operable, 100)
+}
+
+fn asked(random: &mut Random, listed: Listed, number: usize, text: Vec<u8>, network: &Network) -> Vec<u8> {
+    let (letter, call, _) = listed;
+    let one = |(present, wanted, room): (Vec<u8>, Vec<u8>, usize)| (present, wanted, 0, vec![room]);
+    let (present, wanted, count, rooms) = match call {
+        Call::State => (any_state(random, network), Vec::new(), 0, Vec::new()),
+        Call::Best => one((Vec::new(), Vec::new(), near(random, network.switches.len()))),
+        Call::Operations => one(any_operations(random, network)),
+        Call::Plan => one(any_plan(random, network)),
+        Call::CutPlan => any_cut_plan(random, network),
         Call::Text => unreachable!("each text of a set is asked for"),
     };
     let name = format!("{letter}{number}");
-    Question { name, text, call, change: '-', present, wanted, room }.written()
+    Question { name, text, call, change: '-', present, wanted, count, rooms }.written()
 }
 
 /// Any two states, and a slice about as long as their operations.
@@ -195,30 +235,44 @@ impl Question {
     fn written(&self) -> Vec<u8> {
         let head = format!("{} {}\n", self.text.len(), self.name);
         let first = format!("\n{}{} {}\n", self.listed().0, self.change, digits(&self.present));
-        let rest = format!("{}\n{}\n", digits(&self.wanted), ".".repeat(self.room));
+        let slices = match (self.call, &self.rooms[..]) {
+            (Call::CutPlan, [remaining, back]) => format!("{:016X} {remaining:04X} {back:04X}", self.count),
+            _ => self.rooms.iter().map(|&room| ".".repeat(room)).collect(),
+        };
+        let rest = format!("{}\n{slices}\n", digits(&self.wanted));
         [head.as_bytes(), &self.text, first.as_bytes(), rest.as_bytes()].concat()
     }
 
-    fn listed(&self) -> (char, Call, &'static str) {
+    fn listed(&self) -> Listed {
         CALLS.into_iter().find(|listed| listed.1 == self.call).expect("each call is listed")
     }
 
     fn printed(&self) -> Printed {
-        let answer = reader::read(&changed(&self.text, self.change)).and_then(|network| self.answer(&network));
+        let answer = self.network().and_then(|network| self.answer(&network));
         let (result, fields, written) = match answer {
             Ok(answer) => (answer.result.to_string(), answer.fields, answer.written),
-            Err(Refusal { number, place }) => (format!("refused {number}"), self.refusal(number, place), String::new()),
+            Err(Refusal { number, place }) => (format!("refused {number}"), self.refusal(number, place), Vec::new()),
         };
-        let slice = match self.call {
-            Call::State => String::new(),
-            _ => format!(" [{written}{}]", ".".repeat(self.room - written.len())),
-        };
-        let output = format!("{}{fields}{slice}\n", self.name);
-        Printed { name: self.name.clone(), output, result: format!("{}: {result}", self.listed().2) }
+        let (name, output) = (self.name.clone(), self.output(&fields, &written));
+        Printed { name, output, result: format!("{}: {result}", self.listed().2) }
+    }
+
+    /// The records that the call gets.
+    pub fn network(&self) -> Result<Network, Refusal> {
+        reader::read(&changed(&self.text, self.change))
+    }
+
+    /// The slices as they are left, each with a line feed; without one there is the line feed alone.
+    pub fn output(&self, fields: &str, written: &[String]) -> String {
+        let written = written.iter().map(String::as_str).chain(std::iter::repeat(""));
+        let slices = self.rooms.iter().zip(written);
+        let slices: Vec<String> =
+            slices.map(|(room, written)| format!(" [{written}{}]", ".".repeat(room - written.len()))).collect();
+        format!("{}{fields}{}\n", self.name, slices.join("\n"))
     }
 
     /// Radiality and loss are two calls, which refuse alike.
-    fn refusal(&self, number: u8, place: u16) -> String {
+    pub fn refusal(&self, number: u8, place: u16) -> String {
         format!(" refused {number} {place}").repeat(if self.call == Call::State { 2 } else { 1 })
     }
 
@@ -229,8 +283,9 @@ impl Question {
             Call::Operations => operations_answer(network, &self.present, &self.wanted)?,
             Call::Plan => plan_answer(network, &self.present, &self.wanted)?,
             Call::Text => text_answer(changed(&self.text, self.change)),
+            Call::CutPlan => cut_plan_answer(network, self)?,
         };
-        refused_unless(answer.written.len() <= self.room, 13, 0)?;
+        refused_unless(answer.written.iter().zip(&self.rooms).all(|(written, &room)| written.len() <= room), 13, 0)?;
         Ok(answer)
     }
 }
@@ -251,7 +306,7 @@ fn state_answer(network: &Network, state: &[u8]) -> Result<Answer, Refusal> {
         Some(_) if !radial => ("radiality answered, loss refused 11", "refused 11 0".to_string()),
         _ => (ANSWERED, format!("{:016x}", supply::loss(network, state).to_bits())),
     };
-    Ok(Answer { result, fields: format!(" {:02x} {loss}", radial as u8), written: String::new() })
+    Ok(Answer { result, fields: format!(" {:02x} {loss}", radial as u8), written: Vec::new() })
 }
 
 /// The fields of the 81 line.
@@ -259,27 +314,40 @@ fn best_answer(network: &Network) -> Answer {
     let answer = supply::solve(network);
     let ends = [2, 4, 20, 36, 52, 56, 58];
     let fields = ends.windows(2).map(|field| format!(" {}", answer.lines[field[0]..field[1]].to_ascii_lowercase()));
-    Answer { result: ANSWERED, fields: fields.collect(), written: digits(&answer.best) }
+    Answer { result: ANSWERED, fields: fields.collect(), written: vec![digits(&answer.best)] }
 }
 
 fn operations_answer(network: &Network, present: &[u8], wanted: &[u8]) -> Result<Answer, Refusal> {
     refused_unless(well_formed(network, present), 10, 0)?;
     refused_unless(well_formed(network, wanted), 10, 1)?;
     let written = searches::operations(network, present, wanted);
-    Ok(Answer { result: ANSWERED, fields: format!(" {:04x}", written.len() / OPERATION_LENGTH), written })
+    Ok(counted(written.len() / OPERATION_LENGTH, vec![written]))
 }
 
 fn plan_answer(network: &Network, present: &[u8], wanted: &[u8]) -> Result<Answer, Refusal> {
     let pairs = plan(network, present, wanted, usize::MAX)?;
     assert_eq!(judge::fault(network, present, wanted, &pairs), None, "the judge refuses the reckoning's plan");
-    let written = plan::lines(network, &pairs);
-    Ok(Answer { result: ANSWERED, fields: format!(" {:04x}", pairs.len()), written })
+    Ok(counted(pairs.len(), vec![plan::lines(network, &pairs)]))
+}
+
+/// The plan is judged at every count, also where this one is refused.
+fn cut_plan_answer(network: &Network, question: &Question) -> Result<Answer, Refusal> {
+    let Question { present, wanted, count, .. } = question;
+    let moves = resume::moves(&plan(network, present, wanted, usize::MAX)?);
+    let fault = judge::fault_of_moves(network, present, wanted, &moves);
+    assert_eq!(fault, None, "the judge refuses the moves of the reckoning's plan");
+    let lists = resume::resume(&moves, *count)?;
+    Ok(counted(lists[0].len(), lists.iter().map(|list| resume::lines(network, list)).collect()))
+}
+
+fn counted(count: usize, written: Vec<String>) -> Answer {
+    Answer { result: ANSWERED, fields: format!(" {count:04x}"), written }
 }
 
 /// An accepted text is the only one of its records.
 fn text_answer(text: Vec<u8>) -> Answer {
     let written = String::from_utf8(text).expect("an accepted text has digits and line feeds");
-    Answer { result: ANSWERED, fields: format!(" {:04x}", written.len()), written }
+    counted(written.len(), vec![written])
 }
 
 /// Document 01: "Records handed over without text are checked as their lines would be." The text of the records with the
@@ -311,7 +379,7 @@ pub fn expected(questions: &[u8]) -> Run {
     Run(read(questions).iter().map(Question::printed).collect())
 }
 
-fn read(questions: &[u8]) -> Vec<Question> {
+pub fn read(questions: &[u8]) -> Vec<Question> {
     let mut found = Vec::new();
     let mut rest = questions;
     while !rest.is_empty() {
@@ -329,8 +397,22 @@ fn question(rest: &mut &[u8]) -> Option<Question> {
     let (&[letter, change, b' '], present) = first.split_first_chunk()? else { return None };
     let call = CALLS.into_iter().find(|listed| listed.0 == char::from(letter))?.1;
     let change = char::from(change);
-    let (present, wanted, room) = (bytes(present), bytes(wanted), slice.len());
-    Some(Question { name: name.to_string(), text: text.to_vec(), call, change, present, wanted, room })
+    let (name, text, present, wanted) = (name.to_string(), text.to_vec(), bytes(present), bytes(wanted));
+    let (count, rooms) = match call {
+        Call::State => (0, Vec::new()),
+        Call::CutPlan => count_and_rooms(std::str::from_utf8(slice).ok()?)?,
+        _ => (0, vec![slice.len()]),
+    };
+    Some(Question { name, text, call, change, present, wanted, count, rooms })
+}
+
+/// The count in sixteen digits and the lengths of two slices in four each, a blank between them.
+fn count_and_rooms(line: &str) -> Option<(u64, Vec<usize>)> {
+    let mut fields = line.split(' ');
+    let mut field = |width| fields.next().filter(|field| field.len() == width);
+    let count = u64::from_str_radix(field(16)?, 16).ok()?;
+    let [remaining, back] = [field(4)?, field(4)?].map(|field| usize::from_str_radix(field, 16).ok());
+    fields.next().is_none().then_some((count, vec![remaining?, back?]))
 }
 
 fn line<'a>(rest: &mut &'a [u8]) -> Option<&'a [u8]> {

@@ -21,6 +21,7 @@ pub struct Size {
     pub full_queue: usize,
     pub questions: usize,
     pub full_queue_questions: usize,
+    pub cut_plans: usize,
     /// The same with the 05 line.
     pub with_line: WithLine,
 }
@@ -32,6 +33,7 @@ pub struct WithLine {
     pub damaged: usize,
     pub full: usize,
     pub questions: usize,
+    pub cut_plans: usize,
 }
 
 impl Size {
@@ -45,7 +47,15 @@ impl Size {
                 full_queue: 36,
                 questions: 20_000,
                 full_queue_questions: 60,
-                with_line: WithLine { few_buses: 600, each_shape: 40, damaged: 500, full: 3, questions: 2_000 },
+                cut_plans: 6_700,
+                with_line: WithLine {
+                    few_buses: 600,
+                    each_shape: 40,
+                    damaged: 500,
+                    full: 3,
+                    questions: 2_000,
+                    cut_plans: 330,
+                },
             }),
             "large" => Some(Size {
                 each_shape: 10_000,
@@ -55,12 +65,14 @@ impl Size {
                 full_queue: 540,
                 questions: 200_000,
                 full_queue_questions: 1_000,
+                cut_plans: 67_000,
                 with_line: WithLine {
                     few_buses: 30_000,
                     each_shape: 2_000,
                     damaged: 30_000,
                     full: 12,
                     questions: 50_000,
+                    cut_plans: 8_300,
                 },
             }),
             _ => None,

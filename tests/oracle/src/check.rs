@@ -1,11 +1,12 @@
-//! Document 01's worked examples on the original, those of document 02's Point 2, and document 01's steps against the original.
+//! Document 01's worked examples on the original, those of document 02's Points 2 and 4, and document 01's steps against the original.
 
 use crate::cases::{Case, Cases};
 use crate::driver::Original;
 use crate::expected::{expected, Expected};
 use crate::feeder::{triangle, Feeder, OPERABLE, TIE};
+use crate::reckoning::resume::Move;
 use crate::reckoning::searches::Searches;
-use crate::reckoning::{judge, plan, reader, Network, Refusal, CLOSED, OPEN};
+use crate::reckoning::{judge, plan, reader, resume, Network, Refusal, CLOSED, OPEN};
 use crate::shapes::SHAPES;
 use crate::supply;
 
@@ -38,6 +39,9 @@ pub fn worked_examples() -> bool {
     }
     for (name, found, line) in plan_refusals() {
         check(name, found.is_err_and(|refusal| refusal.line() == line));
+    }
+    for (name, holds) in cut_plans() {
+        check(name, holds);
     }
     failed == 0
 }
@@ -174,6 +178,54 @@ fn plan_refusals() -> Vec<PlanCase> {
         ("12: switch 10 locked", plan::plan(&locked, &base, &exchanged, 0), "8F0C000A\n"),
         ("13: no room for a pair", plan::plan(&open, &base, &exchanged, 0), "8F0D0000\n"),
     ]
+}
+
+/// Document 02's Point 4 on the triangle, whose plan closes switch 11 and opens switch 10; moves that the judge must refuse.
+fn cut_plans() -> Vec<(&'static str, bool)> {
+    let network = network(&triangle());
+    let (base, exchanged) = ([CLOSED, OPEN], [OPEN, CLOSED]);
+    let moves = resume::moves(&plan::plan(&network, &base, &exchanged, 1).expect("the triangle has a plan"));
+    let lists = |count| {
+        let lines = |lists: [Vec<Move>; 2]| lists.map(|list| resume::lines(&network, &list).replace('\n', " "));
+        resume::resume(&moves, count).map(lines)
+    };
+    let listed = |count, remaining: &str, back: &str| lists(count).is_ok_and(|lists| lists == [remaining, back]);
+    let refused = |count| lists(count).is_err_and(|refusal| refusal.line() == "8F100000\n");
+    let fault = |moves: &[Move]| judge::fault_of_moves(&network, &base, &exchanged, moves).unwrap_or_default();
+    let [closing, opening] = moves[..] else { return vec![("the triangle's plan has two moves", false)] };
+    vec![
+        ("no move done: all remain", listed(0, "82000B01 82000A00 ", "")),
+        ("one done, the loop is closed: open 10, or open 11", listed(1, "82000A00 ", "82000B00 ")),
+        ("both done: close 10, open 11", listed(2, "", "82000A01 82000B00 ")),
+        ("16: 3 of 2 moves", refused(3)),
+        ("16: 65,536 and 2^64 - 1 of 2 moves", refused(1 << 16) && refused(u64::MAX)),
+        ("the judge passes the two moves", fault(&moves).is_empty()),
+        ("the judge: opened first", fault(&[opening, closing]) == "1 moves done: a bus is cut off"),
+        ("the judge: not opened", fault(&[closing]).ends_with("finishing does not reach the wanted live branches")),
+        ("the judge: two pairs", two_pairs([0, 1, 2, 3]).is_none()),
+        (
+            "the judge: both closings first",
+            two_pairs([0, 2, 1, 3])
+                .is_some_and(|fault| fault == "2 moves done: the live branches are not as many as the buses"),
+        ),
+        (
+            "the judge: openings exchanged",
+            two_pairs([0, 3, 2, 1]).is_some_and(|fault| fault == "2 moves done: a bus is cut off"),
+        ),
+    ]
+}
+
+/// The judge on three buses in a row, joined by two branches each, with the four moves of the plan in that order.
+fn two_pairs(order: [usize; 4]) -> Option<String> {
+    let mut feeder = Feeder { base_mva: 1.0, ..Feeder::default() };
+    (1..=3).for_each(|id| feeder.bus(id, 1.0));
+    for (k, end) in [1, 2, 1, 2].into_iter().enumerate() {
+        feeder.branch(end, end + 1, 0.5);
+        feeder.switch(10 + k as u16, k, OPERABLE);
+    }
+    let (network, present, wanted) = (network(&feeder), [0, 0, 1, 1], [1, 1, 0, 0]);
+    let moves = resume::moves(&plan::plan(&network, &present, &wanted, 2).expect("the row has a plan"));
+    judge::fault_of_moves(&network, &present, &wanted, &order.map(|at| moves[at]))
 }
 
 /// The reckoned steps, loss and radiality (two ways) against the original on every accepted text of a set; the same steps with the

@@ -38,13 +38,44 @@ pub fn more_closed(random: &mut Random, network: &Network) -> Vec<u8> {
     network.base().iter().map(|&byte| if random.percent(chance) { CLOSED } else { byte }).collect()
 }
 
-/// A present and a wanted state, mostly radial, and a slice about as long as their plan.
+/// A present and a wanted state, and a slice about as long as their plan.
 pub fn any_plan(random: &mut Random, network: &Network) -> (Vec<u8>, Vec<u8>, usize) {
+    let (present, wanted, pairs) = any_two_states(random, network);
+    (present, wanted, near(random, PAIR_LENGTH * pairs))
+}
+
+/// A present and a wanted state, mostly drawn again where nothing is to be moved, how many single moves are done, and slices about as
+/// long as the remaining ones and those that go back.
+pub fn any_cut_plan(random: &mut Random, network: &Network) -> (Vec<u8>, Vec<u8>, u64, Vec<usize>) {
+    let first = any_two_states(random, network);
+    let again = first.2 == 0 && random.percent(75);
+    let (present, wanted, pairs) = if again { any_two_states(random, network) } else { first };
+    let moves = 2 * pairs;
+    let count = any_count(random, moves);
+    let done = count.min(moves as u64) as usize;
+    let rooms = [moves - done, done].map(|lines| near(random, OPERATION_LENGTH * lines));
+    (present, wanted, count, rooms.to_vec())
+}
+
+/// Mostly up to two above the moves, else around the ends of 16, 32 and 64 bits.
+fn any_count(random: &mut Random, moves: usize) -> u64 {
+    let up_to = |random: &mut Random, most: usize| random.below(most + 1) as u64;
+    match random.below(16) {
+        0 => random.pick(&[0xFFFF, 1 << 16, 1 << 32, u64::MAX]),
+        1 => random.pick(&[1 << 16, 1 << 32]) + up_to(random, moves),
+        2 => moves as u64,
+        3..=6 => up_to(random, moves + 2),
+        _ => up_to(random, moves),
+    }
+}
+
+/// A present and a wanted state, mostly radial, and how many pairs their plan has.
+fn any_two_states(random: &mut Random, network: &Network) -> (Vec<u8>, Vec<u8>, usize) {
     let radial = |random: &mut Random| radial_state(random, network).unwrap_or_else(|| any_state(random, network));
     let present = if random.percent(15) { any_state(random, network) } else { radial(random) };
     let wanted = if random.percent(15) { any_state(random, network) } else { radial(random) };
     let pairs = plan(network, &present, &wanted, usize::MAX).map_or(0, |pairs| pairs.len());
-    (present, wanted, near(random, PAIR_LENGTH * pairs))
+    (present, wanted, pairs)
 }
 
 /// A state whose live branches are a tree: fixed branches first, then those with a switch in any order.

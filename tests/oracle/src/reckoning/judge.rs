@@ -1,7 +1,8 @@
-//! A judge of plans that makes none: it carries the pairs out on the state's bytes and looks at every stopping point.
-//! Trees are told by union-find; a branch lies on the loop of a closing when the buses stay joined without it.
+//! A judge of plans that makes none: it carries the pairs out on the state's bytes and looks at every stopping point, or the single
+//! moves and looks behind each. Trees are told by union-find; a branch lies on the loop of a closing when the buses stay joined without it.
 
-use super::plan::Pair;
+use super::plan::{count, path, Pair};
+use super::resume::{resume, Move};
 use super::{Network, CLOSED, OPEN};
 
 /// What is wrong with the plan from `present` to `wanted`, two radial states; none if nothing is.
@@ -35,6 +36,70 @@ fn carry_out(network: &Network, state: &mut [u8], pair: Pair) -> Result<(), &'st
     check(joined_without(network, &closed, section.branch), "the opening is not on the loop of its closing")?;
     state[pair.opened] = OPEN;
     check(tree(network, &network.live(state)), "the stopping point is not radial")
+}
+
+/// What is wrong with the single moves of a plan from `present` to `wanted` at some count of them; none if nothing is.
+pub fn fault_of_moves(network: &Network, present: &[u8], wanted: &[u8], moves: &[Move]) -> Option<String> {
+    let mut state = present.to_vec();
+    for done in 0..=moves.len() {
+        let looked_at = point(network, &state, &moves[..done]).and_then(|()| {
+            let [remaining, back] = resume(moves, done as u64).map_err(|_| "the count is refused")?;
+            let reaches = network.live(&carried_out(&state, &remaining)) == network.live(wanted);
+            check(reaches, "finishing does not reach the wanted live branches")?;
+            check(carried_out(&state, &back) == present, "going back does not reach the present state")
+        });
+        if let Err(fault) = looked_at {
+            return Some(format!("{done} moves done: {fault}"));
+        }
+        state = carried_out(&state, &moves[done..moves.len().min(done + 1)]);
+    }
+    None
+}
+
+fn carried_out(state: &[u8], moves: &[Move]) -> Vec<u8> {
+    let mut state = state.to_vec();
+    moves.iter().for_each(|one| state[one.switch] = one.byte);
+    state
+}
+
+/// Document 02: "between a closing and its opening every bus is connected and exactly one loop exists, made of the closed branch and
+/// the whole path between its ends". Else the live branches are a tree.
+fn point(network: &Network, state: &[u8], done: &[Move]) -> Result<(), &'static str> {
+    let (live, n) = (network.live(state), network.buses.len());
+    check(pieces(network, &live).0 <= 1, "a bus is cut off")?;
+    let Some(closing) = done.last().filter(|one| one.byte == CLOSED) else {
+        check(count(&live) == n.saturating_sub(1), "the live branches are not one fewer than the buses")?;
+        return check(tree(network, &live), "there is a loop between two pairs");
+    };
+    let tie = network.switches[closing.switch].branch;
+    check(live[tie], "a closing leaves its branch dead")?;
+    // With as many branches as buses, and all of these joined, there is just one loop.
+    check(count(&live) == n, "the live branches are not as many as the buses")?;
+    let (mut before, mut way) = (live.clone(), vec![false; live.len()]);
+    (before[tie], way[tie]) = (false, true);
+    let ends = &network.branches[tie];
+    let walked = path(network, &before, ends.from, ends.to).ok_or("the ends of the closed branch were not joined")?;
+    walked.into_iter().for_each(|k| way[k] = true);
+    check(loops(network, &live) == way, "the loop is not the closed branch and the path between its ends")
+}
+
+/// What is left when branches with a dead end are taken off until there is none.
+fn loops(network: &Network, live: &[bool]) -> Vec<bool> {
+    let mut left = live.to_vec();
+    loop {
+        let mut branches_at = vec![0; network.buses.len()];
+        for (branch, _) in network.branches.iter().zip(&left).filter(|(_, &left)| left) {
+            branches_at[branch.from] += 1;
+            branches_at[branch.to] += 1;
+        }
+        let before = count(&left);
+        for (branch, left) in network.branches.iter().zip(&mut left) {
+            *left &= branches_at[branch.from] > 1 && branches_at[branch.to] > 1;
+        }
+        if count(&left) == before {
+            return left;
+        }
+    }
 }
 
 fn check(holds: bool, fault: &'static str) -> Result<(), &'static str> {

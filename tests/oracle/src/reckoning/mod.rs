@@ -1,10 +1,11 @@
-//! An independent reckoning, written from the sentences of document 01 and of document 02's Point 2; it shares no code with the original or with the crates.
-//! `reader` gives the verdict on any byte string, `plan` the planner's answer, `judge` looks at a plan by another method,
-//! `searches` steps through document 01's searches.
+//! An independent reckoning, written from the sentences of document 01 and of document 02's Points 2 and 4; it shares no code with the original or with the crates.
+//! `reader` gives the verdict on any byte string, `plan` the planner's answer, `resume` that for a plan cut off, `judge` looks at
+//! both by another method, `searches` steps through document 01's searches.
 
 pub mod judge;
 pub mod plan;
 pub mod reader;
+pub mod resume;
 pub mod searches;
 
 /// A refusal: a number and a place.

@@ -1,8 +1,10 @@
 -- `write_pairs` meets its contract. The invariant: the lines of the first i pairs have been written; the step is `lines-further`.
+use mathlib.Core.Path.{refl}
 use Prim.Native.Nat.{_-_}
 use native.Mathlib.Omega.{arith}
 use borrow.Author.Needs.{needs}
-use Rattle.plan.proofs.Lines.{Lines, lines-none, lines-further, lines-length, lines-all}
+use Rattle.printing.specs.LineLoops.{no-lines, same-room, lines-further}
+use Rattle.plan.proofs.Lines.{Lines, lines-all}
 use Rattle.plan.proofs.planner.write_pairs.Statement.{statement}
 use Rattle.plan.proofs.planner.write_pairs.Tie as tie
 
@@ -16,7 +18,7 @@ wide16-requires : tie.Need-wide16-requires Inv-loop μ-loop
 wide16-requires c κs = search needs
 
 loop-holds : tie.Need-loop-holds Inv-loop μ-loop
-loop-holds c = lines-none _ _
+loop-holds c = no-lines _ _ _ _ _ _
 
 mul-at : tie.Need-mul-at Inv-loop μ-loop
 mul-at c = search needs
@@ -24,18 +26,18 @@ mul-at c = search needs
 sub-write-pair : tie.Need-sub-write-pair Inv-loop μ-loop
 sub-write-pair c =
     let s = c .before .before .before .before in
-    omega (arith, lines-length _ _ _ (c .before .loop .inv), s .pre .1, c .before .before .wide16 .ensures .0)
+    omega (arith, same-room _ _ _ _ _ _ (c .before .loop .inv), s .pre .1, c .before .before .wide16 .ensures .0)
 
 part-write-pair-start : tie.Need-part-write-pair-start Inv-loop μ-loop
 part-write-pair-start c =
     let s = c .before .before .before .before in
-    let e = lines-length _ _ _ (c .before .loop .inv) in
+    let e = same-room _ _ _ _ _ _ (c .before .loop .inv) in
     search needs
 
 part-write-pair-end : tie.Need-part-write-pair-end Inv-loop μ-loop
 part-write-pair-end c =
     let s = c .before .before .before .before in
-    let e = lines-length _ _ _ (c .before .loop .inv) in
+    let e = same-room _ _ _ _ _ _ (c .before .loop .inv) in
     search needs
 
 mul-write-pair : tie.Need-mul-write-pair Inv-loop μ-loop
@@ -64,13 +66,13 @@ loop-again c =
     let w = c .before .before in
     let t = w .before .before .before .before in
     let s = t .before .before .before .before in
-    lines-further _ _ _ (t .before .loop .inv) (s .pre .1) (omega arith) (w .write-pair .ensures)
+    lines-further _ _ _ _ _ _ (t .before .loop .inv) (s .pre .1) (omega arith) refl (w .write-pair .ensures)
 
 same-length : tie.Need-same-length Inv-loop μ-loop
-same-length c = lines-length _ _ _ (c .before .loop .inv)
+same-length c = same-room _ _ _ _ _ _ (c .before .loop .inv)
 
 returns : tie.Need-returns Inv-loop μ-loop
-returns c = lines-all _ _ _ (c .before .loop .inv) (omega (arith, c .before .before .wide16 .ensures .0))
+returns c = lines-all _ _ (c .before .loop .inv) (omega (arith, c .before .before .wide16 .ensures .0))
 
 pub write-pairs-spec : {M : Type 1} → statement M
 write-pairs-spec =

@@ -1,0 +1,3 @@
+pub mod MoveLists
+pub mod MoveLines
+pub mod Answering

@@ -1,0 +1,54 @@
+"""The feeders of plan_cases.py and resume_cases.py: records, their text, and what is live, joined and on a path. No program by itself."""
+
+
+class Feeder:
+    """Ids of buses; branches (from, to, status); switches (id, branch position, flags); the id of the supply bus, where there is one."""
+
+    def __init__(self, buses, branches, switches, resistances=None, loads=None, method=0, supply=None):
+        self.buses, self.branches, self.switches, self.method, self.supply = buses, branches, switches, method, supply
+        self.resistances = resistances or [0x3FF0000000000000] * len(branches)
+        self.loads = loads or [0] * len(buses)
+
+    def text(self):
+        lines = ['01%04X%04X%04X3FF0000000000000%02X0064' % (len(self.buses), len(self.branches), len(self.switches), self.method)]
+        lines += ['02%04X%016X' % bus for bus in zip(self.buses, self.loads)]
+        lines += ['03%04X%04X%016X%02X' % (a, b, r, status) for (a, b, status), r in zip(self.branches, self.resistances)]
+        lines += ['04%04X%04X%02X' % switch for switch in self.switches]
+        lines += ['05%04X' % self.supply] if self.supply is not None else []
+        return ''.join(line + '\n' for line in lines).encode()
+
+    def live(self, state):
+        opened = {k for (_, k, _), byte in zip(self.switches, state) if byte == '1'}
+        return {k for k, (_, _, status) in enumerate(self.branches) if status == 1 and k not in opened}
+
+    def labels(self, order):
+        """For each bus a label that it shares with the buses joined to it, and those of these branches whose ends the ones before have
+        not joined yet."""
+        label, same, taken = {bus: bus for bus in self.buses}, {bus: [bus] for bus in self.buses}, set()
+        for k in order:
+            a, b = (label[end] for end in self.branches[k][:2])
+            if a != b:
+                label.update((bus, a) for bus in same[b])
+                same[a] += same.pop(b)
+                taken.add(k)
+        return label, taken
+
+    def joined(self, order):
+        return self.labels(order)[1]
+
+    def beside(self, live):
+        """For each bus the others that these branches lead to, and by which."""
+        beside = {bus: [] for bus in self.buses}
+        for k in live:
+            a, b = self.branches[k][:2]
+            beside[a].append((b, k))
+            beside[b].append((a, k))
+        return beside
+
+    def path(self, live, start, end):
+        """The branches of the chain with no bus twice, found by trying every one."""
+        beside, chains = self.beside(live), [(start, (start,), ())]
+        for bus, seen, way in chains:
+            if bus == end:
+                return way
+            chains += [(other, seen + (other,), way + (k,)) for other, k in beside[bus] if other not in seen]

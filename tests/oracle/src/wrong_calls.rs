@@ -1,0 +1,173 @@
+//! Calls on plans cut off with one mistake each, to see that the questions tell them from a right one.
+
+use crate::calls::{self, Question};
+use crate::reckoning::plan::{plan, Pair};
+use crate::reckoning::resume::{lines, moves, Move};
+use crate::reckoning::{Network, Refusal};
+
+#[derive(Debug, Clone, Copy, PartialEq)]
+enum Mistake {
+    CountOfPairs,
+    CountOf16Bits,
+    CountOf32Bits,
+    OpeningFirst,
+    AllClosingsFirst,
+    RemainingFromTheFirst,
+    BackInOrder,
+    BackNotInverted,
+    BackByPairs,
+    SlicesExchanged,
+    AnswersDone,
+    SixteenAtTheLast,
+    SixteenBeforeTwelve,
+    ThirteenBeforeSixteen,
+    FirstSliceAloneTested,
+    SecondSliceAloneTested,
+    FirstWrittenBeforeThirteen,
+    SecondWrittenBeforeThirteen,
+}
+
+const ALL: [Mistake; 18] = [
+    Mistake::CountOfPairs,
+    Mistake::CountOf16Bits,
+    Mistake::CountOf32Bits,
+    Mistake::OpeningFirst,
+    Mistake::AllClosingsFirst,
+    Mistake::RemainingFromTheFirst,
+    Mistake::BackInOrder,
+    Mistake::BackNotInverted,
+    Mistake::BackByPairs,
+    Mistake::SlicesExchanged,
+    Mistake::AnswersDone,
+    Mistake::SixteenAtTheLast,
+    Mistake::SixteenBeforeTwelve,
+    Mistake::ThirteenBeforeSixteen,
+    Mistake::FirstSliceAloneTested,
+    Mistake::SecondSliceAloneTested,
+    Mistake::FirstWrittenBeforeThirteen,
+    Mistake::SecondWrittenBeforeThirteen,
+];
+
+/// A call's answer, and what it writes into each slice.
+type Outcome = (Result<usize, Refusal>, [String; 2]);
+
+/// The call with a mistake, or with none.
+struct Wrong(Option<Mistake>);
+
+impl Wrong {
+    fn has(&self, mistake: Mistake) -> bool {
+        self.0 == Some(mistake)
+    }
+
+    fn output(&self, question: &Question) -> String {
+        let refused = |refusal| (Err(refusal), Default::default());
+        let (answer, written) = match question.network() {
+            Ok(network) => self.outcome(&network, question).unwrap_or_else(refused),
+            Err(refusal) => refused(refusal),
+        };
+        let fields = match answer {
+            Ok(count) => format!(" {count:04x}"),
+            Err(Refusal { number, place }) => question.refusal(number, place),
+        };
+        question.output(&fields, &written)
+    }
+
+    fn outcome(&self, network: &Network, question: &Question) -> Result<Outcome, Refusal> {
+        let Question { present, wanted, rooms, .. } = question;
+        let refusal = |number| Refusal { number, place: 0 };
+        let pairs = plan(network, present, wanted, usize::MAX).map_err(|first| {
+            let over = first.number == 12 && question.count > 2 * closings(network, present, wanted);
+            if over && self.has(Mistake::SixteenBeforeTwelve) {
+                refusal(16)
+            } else {
+                first
+            }
+        })?;
+        let moves = self.moves(&pairs);
+        let count = self.count(question.count);
+        let done = count.min(moves.len() as u64) as usize;
+        let lists = self.lists(&moves, done);
+        let answer = if self.has(Mistake::AnswersDone) { done } else { lists[0].len() };
+        let mut texts = lists.map(|list| lines(network, &list));
+        if self.has(Mistake::SlicesExchanged) {
+            texts.reverse();
+        }
+        let fits = [0, 1].map(|slice| texts[slice].len() <= rooms[slice]);
+        let over = count > moves.len() as u64 || (self.has(Mistake::SixteenAtTheLast) && done == moves.len());
+        let short = (!fits[0] && !self.has(Mistake::SecondSliceAloneTested))
+            || (!fits[1] && !self.has(Mistake::FirstSliceAloneTested));
+        if over && !(short && self.has(Mistake::ThirteenBeforeSixteen)) {
+            return Err(refusal(16));
+        }
+        // As far as there is room, and nothing before a refusal.
+        let early = [Mistake::FirstWrittenBeforeThirteen, Mistake::SecondWrittenBeforeThirteen];
+        for slice in [0, 1] {
+            let room = if short && !(fits[slice] && self.has(early[slice])) { 0 } else { rooms[slice] };
+            texts[slice].truncate(room);
+        }
+        Ok((if short { Err(refusal(13)) } else { Ok(answer) }, texts))
+    }
+
+    fn count(&self, count: u64) -> u64 {
+        match self.0 {
+            Some(Mistake::CountOfPairs) => count.saturating_mul(2),
+            Some(Mistake::CountOf16Bits) => count & 0xFFFF,
+            Some(Mistake::CountOf32Bits) => count & 0xFFFF_FFFF,
+            _ => count,
+        }
+    }
+
+    fn moves(&self, pairs: &[Pair]) -> Vec<Move> {
+        let mut moves = moves(pairs);
+        match self.0 {
+            Some(Mistake::OpeningFirst) => moves.chunks_mut(2).for_each(<[Move]>::reverse),
+            Some(Mistake::AllClosingsFirst) => moves.sort_by_key(|one| one.byte),
+            _ => (),
+        }
+        moves
+    }
+
+    fn lists(&self, moves: &[Move], done: usize) -> [Vec<Move>; 2] {
+        let from = if self.has(Mistake::RemainingFromTheFirst) { 0 } else { done };
+        let mut back = moves[..done].to_vec();
+        if !self.has(Mistake::BackNotInverted) {
+            back.iter_mut().for_each(|one| *one = one.inverted());
+        }
+        match self.0 {
+            Some(Mistake::BackInOrder) => (),
+            Some(Mistake::BackByPairs) => back = back.chunks(2).rev().flatten().copied().collect(),
+            _ => back.reverse(),
+        }
+        [moves[from..].to_vec(), back]
+    }
+}
+
+/// How many pairs a plan would have.
+fn closings(network: &Network, present: &[u8], wanted: &[u8]) -> u64 {
+    let (before, after) = (network.live(present), network.live(wanted));
+    before.iter().zip(&after).filter(|(&before, &after)| after && !before).count() as u64
+}
+
+/// For each mistake the first question that shows it; false if one is never seen, or if the call without a mistake answers otherwise
+/// than the reckoning.
+pub fn all_caught(questions: impl Iterator<Item = Vec<u8>>) -> bool {
+    let mut unseen = ALL.to_vec();
+    for text in questions {
+        let right = calls::answers(&text);
+        let question = &calls::read(&text)[0];
+        if Wrong(None).output(question) != right {
+            println!("without a mistake it answers otherwise:\n{}", String::from_utf8_lossy(&text));
+            return false;
+        }
+        unseen.retain(|&mistake| {
+            let seen = Wrong(Some(mistake)).output(question) != right;
+            if seen {
+                println!("question {:6}  {mistake:?}", question.name);
+            }
+            !seen
+        });
+    }
+    unseen.iter().for_each(|mistake| println!("NEVER SEEN       {mistake:?}"));
+    println!("{} mistakes in calls on plans cut off, {} never seen", ALL.len(), unseen.len());
+    unseen.is_empty()
+}
