@@ -186,15 +186,14 @@ def resumed(feeder, change, present, wanted, count, rooms, wrong=None):
 def one(name, feeder, present, wanted, count, rooms, known, change=''):
     """A call whose answer is known: the lines of both lists, or the refusal. None stands for lists that are reckoned."""
     question = feeder, change, present, wanted, count, rooms
-    if known is None:
-        known = resumed(*question)
-    elif isinstance(known, str):
-        known = known, ['.' * room for room in rooms]
-    else:
+    reckoned = resumed(*question)
+    if isinstance(known, str):
+        assert reckoned == (known, ['.' * room for room in rooms]), (name, reckoned)
+    elif known is not None:
         lists = [''.join(line + '\n' for line in lines.split()) for lines in known]
-        known = '%d' % lists[0].count('\n'), [lines + '.' * (room - len(lines)) for lines, room in zip(lists, rooms)]
-    assert resumed(*question) == known, (name, resumed(*question))
-    told_apart.update(wrong for wrong in WRONG if resumed(*question, wrong) != known)
+        slices = [lines + '.' * (room - len(lines)) for lines, room in zip(lists, rooms)]
+        assert reckoned == ('%d' % lists[0].count('\n'), slices), (name, reckoned)
+    told_apart.update(wrong for wrong in WRONG if resumed(*question, wrong) != reckoned)
     cases.append((name, *question[:4], ('O', count, rooms)))
 
 
