@@ -22,7 +22,7 @@
 extern "C" {
 #endif
 
-#define FEEDER_VERSION "0.6"
+#define FEEDER_VERSION "0.7"
 
 /* What a text may list, how many iterations its head may ask for, and how many of its switches may be normally open with method 02. */
 #define FEEDER_MAX_BUSES 256
@@ -54,34 +54,36 @@ extern "C" {
     (FEEDER_HEAD_BYTES + FEEDER_MAX_BUSES * FEEDER_BUS_BYTES + FEEDER_MAX_BRANCHES * FEEDER_BRANCH_BYTES                                   \
      + FEEDER_MAX_SWITCHES * FEEDER_SWITCH_BYTES + FEEDER_SUPPLY_BYTES)
 
-/* Bytes of an 81, an 82 and an 83 line; a single move of feeder_resume is an 82 line. */
+/* Bytes of an 81, an 84, an 82 and an 83 line; a single move of feeder_resume is an 82 line. */
 #define FEEDER_ANSWER_LENGTH 59
+#define FEEDER_FORM_LENGTH 11
 #define FEEDER_OPERATION_LENGTH 9
 #define FEEDER_PAIR_LENGTH 11
 #define FEEDER_MOVE_LENGTH 9
 
 /* Bytes of out that are enough for every text and every state: for feeder_operations; for feeder_plan, as a plan has fewer pairs than there are
- * buses; for either slice of feeder_resume (4590, two moves for each pair); for feeder_answer_text; for feeder_write_text (27436, the longest accepted
+ * buses; for either slice of feeder_resume (4590, two moves for each pair); for feeder_answer_text (7483); for feeder_write_text (27436, the longest accepted
  * text). FEEDER_MAX_SWITCHES are enough for feeder_base_state and feeder_solve. */
 #define FEEDER_OPERATIONS_LENGTH (FEEDER_MAX_SWITCHES * FEEDER_OPERATION_LENGTH)
 #define FEEDER_PLAN_LENGTH ((FEEDER_MAX_BUSES - 1) * FEEDER_PAIR_LENGTH)
 #define FEEDER_MOVES_LENGTH (2 * (FEEDER_MAX_BUSES - 1) * FEEDER_MOVE_LENGTH)
-#define FEEDER_TEXT_LENGTH (FEEDER_ANSWER_LENGTH + FEEDER_OPERATIONS_LENGTH + FEEDER_PLAN_LENGTH)
+#define FEEDER_TEXT_LENGTH (FEEDER_ANSWER_LENGTH + FEEDER_FORM_LENGTH + FEEDER_OPERATIONS_LENGTH + FEEDER_PLAN_LENGTH)
 #define FEEDER_FRAMES_LENGTH FEEDER_LONGEST_TEXT
 
 /* Bytes of stack that each call needs, the same for three buses and for 256: measured to 64 bytes on a stack that ends at a page which faults
  * (tests/interface/stack.c, which fails where a call needs more), on what `rt staticlib controller` writes; tested, not proved. FEEDER_STACK is for a thread
  * that makes any of the calls: the greatest of them and a quarter, in whole pages. */
-#define FEEDER_RADIALITY_STACK 192896
+#define FEEDER_RADIALITY_STACK 179520
+#define FEEDER_FORM_STACK 179520
 #define FEEDER_LOSS_STACK 201600
 #define FEEDER_PLAN_STACK 179520
 #define FEEDER_RESUME_STACK 192960
-#define FEEDER_ANSWER_TEXT_STACK 205056
+#define FEEDER_ANSWER_TEXT_STACK 220544
 #define FEEDER_BASE_STATE_STACK 195456
 #define FEEDER_SOLVE_STACK 179584
 #define FEEDER_OPERATIONS_STACK 179520
 #define FEEDER_WRITE_TEXT_STACK 207040
-#define FEEDER_STACK 262144
+#define FEEDER_STACK 278528
 
 /* The refusals, as docs/INTERFACE.md has them. The place of 1 to 9, 14 and 15 is the text's line, from 1: the first faulty line is answered, and of its numbers the lowest (2
  * where it is over 36 characters). The place of 10 and 11 is 0 for the present, first or only state and 1 for the wanted or second one; that of 12 is the
@@ -131,6 +133,15 @@ struct feeder_solved {
 /* Is the state radial? value is 1 or 0. Refusals 1 to 10, 14 and 15. */
 struct feeder_answer feeder_radiality(const uint8_t *text, size_t text_length, const uint8_t *state, size_t state_length);
 
+/* What the live branches of the state are: a tree, a loop, or islands and no loop. value is islands * 65536 + branch, to be taken apart so:
+ *
+ *     islands = value / 65536     the connected pieces minus one, beside a loop too; 0 for no buses
+ *     branch  = value % 65536     the position, from 0, of the first live branch whose ends the live branches before it already join; 65535 where there is no loop
+ *
+ * value is FEEDER_TREE, no islands and no loop, exactly where feeder_radiality's is 1. Refusals 1 to 10, 14 and 15. */
+#define FEEDER_TREE 65535
+struct feeder_answer feeder_form(const uint8_t *text, size_t text_length, const uint8_t *state, size_t state_length);
+
 /* The loss of the state in MW: value is the bits of a double. Of a branch it counts the load on the side of its to bus, and the state need not be radial; where the text names
  * the supply it counts the load on the side away from it, and a state that isn't radial is 11. Refusals 1 to 11, 14 and 15. */
 struct feeder_answer feeder_loss(const uint8_t *text, size_t text_length, const uint8_t *state, size_t state_length);
@@ -151,8 +162,9 @@ struct feeder_answer feeder_resume(const uint8_t *text, size_t text_length, cons
                                    const uint8_t *wanted, size_t wanted_length, uint64_t count, uint8_t *remaining, size_t remaining_length,
                                    uint8_t *back, size_t back_length);
 
-/* What the program feeder prints for an accepted text: value is the number of bytes. In out stand the search's 81 line, an 82 line for each switch that
- * stands otherwise than in the base and, where the base is radial, the plan's 83 lines. Refusals 1 to 9 and 13 to 15. */
+/* What the program feeder prints for an accepted text: value is the number of bytes. In out stand the search's 81 line; its best state's 84 line, "84",
+ * islands and branch as in feeder_form (4 digits each) and a line feed; an 82 line for each switch that stands otherwise than in the base; and, where the base is
+ * radial, the plan's 83 lines. Refusals 1 to 9 and 13 to 15. */
 struct feeder_answer feeder_answer_text(const uint8_t *text, size_t text_length, uint8_t *out, size_t out_length);
 
 /* The base, in which exactly the normally open switches are open: value is the number of switches. In out stands a byte for each. Refusals 1 to 9

@@ -1,4 +1,5 @@
-"""A feeder of three buses: what its search finds, in which order the switches move to it, and what is left to do after a power cut. Before it: python/build."""
+"""A feeder of three buses: what its search finds, in which order the switches move to it, what is left to do after a power cut, and why another state has no plan.
+Before it: python/build."""
 import lugwefa
 
 FEEDER = '''\
@@ -21,7 +22,9 @@ for pair in lugwefa.plan(FEEDER, base, found.state):
 cut = lugwefa.resume(FEEDER, base, found.state, 1)
 print('power lost after one move: to finish,', ', '.join(f'{switch} {stands}' for switch, stands in cut.remaining), end='; ')
 print('to go back,', ', '.join(f'{switch} {stands}' for switch, stands in cut.back))
-try:
-    lugwefa.plan(FEEDER, base, {10: lugwefa.OPEN, 11: lugwefa.OPEN})
-except lugwefa.Refused as refusal:
-    print(refusal)
+for stands in (lugwefa.OPEN, lugwefa.CLOSED):
+    wanted = {10: stands, 11: stands}
+    try:
+        lugwefa.plan(FEEDER, base, wanted)
+    except lugwefa.Refused as refusal:
+        print(f'both {stands}: {refusal}; {lugwefa.form(FEEDER, wanted)}')

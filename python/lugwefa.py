@@ -34,6 +34,10 @@ Operation = namedtuple('Operation', 'switch stands')
 Move = namedtuple('Move', 'switch stands')
 # A plan that was cut off: the moves that finish it, and those that go back to the state in which it began.
 Resumed = namedtuple('Resumed', 'remaining back')
+# What the live branches of a state are: how many islands, the connected pieces minus one (0 for no buses), and the position, from 0, of the first live branch whose ends
+# those before it already join, None where there is no loop.
+Form = namedtuple('Form', 'islands branch')
+TREE = Form(0, None)
 # What a search answers: its best state, and the fields of the 81 line. Losses are in MW, the reduction in percent of the base's loss.
 Solution = namedtuple('Solution', 'state radial base_loss best_loss reduction iterations converged')
 
@@ -121,6 +125,12 @@ def radiality(text, state):
     return bool(_on_states(_library().feeder_radiality, text, state).value)
 
 
+def form(text, state):
+    """What the live branches of the state are: TREE, exactly where it is radial, else a loop, islands, or both; `Form` has the islands, and the branch that closes the first loop."""
+    islands, branch = divmod(_on_states(_library().feeder_form, text, state).value, 65536)
+    return Form(islands, None if branch == 65535 else branch)
+
+
 def loss(text, state):
     """The loss of the state in MW. It need not be radial where the text names no supply."""
     bits = _on_states(_library().feeder_loss, text, state).value
@@ -141,7 +151,7 @@ def resume(text, present, wanted, count):
 
 
 def answer_text(text):
-    """What the program feeder prints for an accepted text: 81, 82 and, from a radial base, 83 lines."""
+    """What the program feeder prints for an accepted text: 81, 84, 82 and, from a radial base, 83 lines."""
     text = _bytes(text)
     answer, room = _lent(_library().feeder_answer_text, text)
     return _checked(answer, room[:answer.value]).decode()
@@ -210,10 +220,10 @@ class _Solved(ctypes.Structure):
 
 # each call with what it answers and what it takes: slices, and a number
 _SLICE, _NUMBER = (ctypes.c_char_p, ctypes.c_size_t), (ctypes.c_uint64,)
-_CALLS = {'feeder_radiality': (_Answer, 2 * _SLICE), 'feeder_loss': (_Answer, 2 * _SLICE), 'feeder_plan': (_Answer, 4 * _SLICE),
-          'feeder_resume': (_Answer, 3 * _SLICE + _NUMBER + 2 * _SLICE), 'feeder_answer_text': (_Answer, 2 * _SLICE),
-          'feeder_base_state': (_Answer, 2 * _SLICE), 'feeder_solve': (_Solved, 2 * _SLICE), 'feeder_operations': (_Answer, 4 * _SLICE),
-          'feeder_write_text': (_Answer, 2 * _SLICE)}
+_CALLS = {'feeder_radiality': (_Answer, 2 * _SLICE), 'feeder_form': (_Answer, 2 * _SLICE), 'feeder_loss': (_Answer, 2 * _SLICE),
+          'feeder_plan': (_Answer, 4 * _SLICE), 'feeder_resume': (_Answer, 3 * _SLICE + _NUMBER + 2 * _SLICE),
+          'feeder_answer_text': (_Answer, 2 * _SLICE), 'feeder_base_state': (_Answer, 2 * _SLICE), 'feeder_solve': (_Solved, 2 * _SLICE),
+          'feeder_operations': (_Answer, 4 * _SLICE), 'feeder_write_text': (_Answer, 2 * _SLICE)}
 _loaded = None
 
 

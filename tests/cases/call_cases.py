@@ -5,11 +5,14 @@ usage: tests/cases/call_cases.py
 
 Each case of stdin is a line 'LENGTH NAME', a frame text, a line feed, and three lines: the letters CALL and CHANGE with a blank and PRESENT, then
 WANTED, then SLICE (crates/call_cases/src/calls.rt). Each case of stdout is 'NAME FIELDS [SLICE]' or 'NAME refused NUMBER PLACE [SLICE]', with
-the slice as the call leaves it; call S is two calls without a slice, and call R has two, the second in a line of its own. Every answer is written by hand from documents 01 and 02, and tests/oracle/self-test
-holds them against the original Rust.
+the slice as the call leaves it; call S is three calls without a slice, and call R has two, the second in a line of its own. Every answer is written by hand from documents 01 and 02; that of a state's form
+must be what labels and searches give. tests/oracle/self-test holds them against the original Rust and the oracle's own reckoning.
 """
 import os
 import struct
+
+import feeders
+from feeders import TREE
 
 ROOT = os.path.join(os.path.dirname(os.path.abspath(__file__)), '..', '..', 'crates', 'call_cases')
 EXCHANGE, TABU, EXHAUSTIVE = 0, 1, 2
@@ -25,6 +28,10 @@ class Feeder:
 
     def __init__(self, loads, branches, switches, supply=None):
         self.loads, self.branches, self.switches, self.supply = loads, branches, switches, supply
+
+    def form(self, state):
+        feeder = feeders.Feeder(range(1, len(self.loads) + 1), [(a, b, 1) for a, b, _ in self.branches], self.switches)
+        return feeder.form(feeder.live(state))
 
     def fed(self, supply):
         return Feeder(self.loads, self.branches, self.switches, supply)
@@ -47,11 +54,16 @@ OWN_LOOP = Feeder([3.0], [(1, 1, 0.5)], [])
 TWO_BUSES = Feeder([0.0, 2.0], [(1, 2, 0.25)], [])
 TIE_ONLY = Feeder([0.0, 2.0], [(1, 2, 0.25)], [(7, 0, 3)])
 PARALLEL = Feeder([0.0, 2.0], [(1, 2, 0.25), (1, 2, 0.5)], [(7, 1, 2)])
+# two parallel branches, and a bus apart
+APART = Feeder([0.0, 2.0, 1.0], PARALLEL.branches, PARALLEL.switches)
+TIES_ONLY = Feeder([0.0, 1.0, 2.0], [(1, 2, 0.25), (2, 3, 0.25)], [(8, 0, 3), (9, 1, 3)])
 # MODEL's ring, drawn one way round, on a base of 1 MVA
 RING = Feeder([0.0, 2.0, 3.0, 1.0, 2.0], [(1, 2, 0.25), (2, 3, 0.25), (3, 4, 0.25), (4, 5, 0.25), (5, 1, 0.25)], [(10 + k, k, 3 if k == 2 else 2) for k in range(5)])
 # ids fall, and every second switch is a locked tie
 LARGEST = Feeder([0.0], [(1, 1, 0.0)] * 512, [(1000 - i, i, i % 2) for i in range(512)])
 LOCKED = Feeder([0.0, 1.0, 2.0], SIDES, [(10, 1, 0), (11, 2, 3)])
+# the longest text without a supply: own loops at the last bus
+OWN_LOOPS = Feeder([0.0] * 256, [(256, 256, 0.0)] * 512, [(1000 - i, i, 2) for i in range(512)])
 # three buses in a row, joined by two branches each
 ROW = Feeder([0.0, 1.0, 2.0], [(1, 2, 0.25), (2, 3, 0.25)] * 2, [(40, 0, 2), (30, 1, 2), (20, 2, 3), (10, 3, 3)])
 # bus 1 joined with each of 255 others by two branches, the second of them a tie
@@ -70,9 +82,17 @@ def slice_case(call, name, text, room, fields, written, **more):
     case(call, name, text, '%s [%s]' % (fields, written + '.' * (room - len(written))), room=room, **more)
 
 
-def best(name, feeder, room, radial, base, least, rounds, converged, state, method=EXCHANGE, iterations=100):
+def form_fields(feeder, state, form):
+    """Those of the 84 line: the islands, then the branch, FFFF where no loop is."""
+    assert feeder.form(state) == form, (feeder.form(state), form)
+    islands, branch = form
+    return islands, 0xFFFF if branch is None else branch
+
+
+def best(name, feeder, room, form, base, least, rounds, converged, state, method=EXCHANGE, iterations=100):
     reduction = (base - least) / base * 100 if base > 1e-12 else 0.0
-    fields = '%02x %016x %016x %016x %04x %02x' % (radial, bits(base), bits(least), bits(reduction), rounds, converged)
+    fields = '%02x %016x %016x %016x %04x %02x' % (form == TREE, bits(base), bits(least), bits(reduction), rounds, converged)
+    fields += ' %04x %04x' % form_fields(feeder, state, form)
     slice_case('B', 'best-' + name, feeder.text(method, iterations), room, fields, state)
 
 
@@ -82,8 +102,15 @@ def operations(name, feeder, present, wanted, room, known):
     slice_case('O', 'operations-' + name, feeder.text(), room, '%04x' % len(known), lines, present=present, wanted=wanted)
 
 
-def state(name, feeder, bytes_, radial, loss):
-    case('S', 'state-' + name, feeder.text(), '%02x %016x' % (radial, bits(loss)), present=bytes_)
+def state(name, feeder, bytes_, form, loss):
+    """The loss, or number and place of its refusal."""
+    fields = '%02x %04x%04x ' % (form == TREE, *form_fields(feeder, bytes_, form))
+    fields += refused(*loss) if isinstance(loss, tuple) else '%016x' % bits(loss)
+    case('S', 'state-' + name, feeder.text(), fields, present=bytes_)
+
+
+def refused_state(name, text, bytes_, fault):
+    case('S', 'state-' + name, text, ' '.join([refused(*fault)] * 3), present=bytes_)
 
 
 def plan(name, present, wanted, room, known, feeder=TRIANGLE, method=EXCHANGE):
@@ -102,30 +129,49 @@ def best_states():
     for name, room in [('no-slice', 0), ('one-byte', 1)]:
         slice_case('B', 'best-triangle-' + name, TRIANGLE.text(), room, refused(13, 0), '')
     for name, room in [('exactly-full', 2), ('one-byte-longer', 3), ('ten-bytes-longer', 12)]:
-        best('triangle-' + name, TRIANGLE, room, 1, 4.0, 1.0, 2, 1, '10')
-    best('exchange-0-rounds', TRIANGLE, 2, 1, 4.0, 4.0, 0, 0, '01', iterations=0)
-    best('exchange-1-round', TRIANGLE, 2, 1, 4.0, 1.0, 1, 0, '10', iterations=1)
-    best('exchange-2-rounds', TRIANGLE, 2, 1, 4.0, 1.0, 2, 0, '10', iterations=2)
-    best('exchange-3-rounds', TRIANGLE, 2, 1, 4.0, 1.0, 2, 1, '10', iterations=3)
-    best('exhaustive', TRIANGLE, 2, 1, 4.0, 4.0, 1, 1, '01', EXHAUSTIVE)
-    best('tabu-100-rounds', TRIANGLE, 2, 1, 4.0, 4.0, 100, 1, '01', TABU)
+        best('triangle-' + name, TRIANGLE, room, TREE, 4.0, 1.0, 2, 1, '10')
+    best('exchange-0-rounds', TRIANGLE, 2, TREE, 4.0, 4.0, 0, 0, '01', iterations=0)
+    best('exchange-1-round', TRIANGLE, 2, TREE, 4.0, 1.0, 1, 0, '10', iterations=1)
+    best('exchange-2-rounds', TRIANGLE, 2, TREE, 4.0, 1.0, 2, 0, '10', iterations=2)
+    best('exchange-3-rounds', TRIANGLE, 2, TREE, 4.0, 1.0, 2, 1, '10', iterations=3)
+    best('exhaustive', TRIANGLE, 2, TREE, 4.0, 4.0, 1, 1, '01', EXHAUSTIVE)
+    best('tabu-100-rounds', TRIANGLE, 2, TREE, 4.0, 4.0, 100, 1, '01', TABU)
     # exchanged it loses 0.25 x 2 x 2 + 0.1875 x 2 x 2, which is not below 1.75
-    best('branch-0-turned', TURNED, 2, 1, 1.75, 1.75, 1, 1, '01')
+    best('branch-0-turned', TURNED, 2, TREE, 1.75, 1.75, 1, 1, '01')
     for method, iterations, on_radial, on_loop in [(EXCHANGE, 100, 1, 1), (TABU, 100, 100, 100), (EXHAUSTIVE, 100, 1, 0)]:
-        best('no-buses-method-%d' % method, NO_BUSES, 2 * method, 1, 0.0, 0.0, on_radial, 1, '', method, iterations)
-        best('one-bus-method-%d' % method, ONE_BUS, 0, 1, 0.0, 0.0, on_radial, 1, '', method, iterations)
-        best('two-buses-method-%d' % method, TWO_BUSES, 1, 1, 1.0, 1.0, on_radial, 1, '', method, iterations)
-        best('own-loop-method-%d' % method, OWN_LOOP, 0, 0, 4.5, 4.5, on_loop, 1, '', method, iterations)
+        best('no-buses-method-%d' % method, NO_BUSES, 2 * method, TREE, 0.0, 0.0, on_radial, 1, '', method, iterations)
+        best('one-bus-method-%d' % method, ONE_BUS, 0, TREE, 0.0, 0.0, on_radial, 1, '', method, iterations)
+        best('two-buses-method-%d' % method, TWO_BUSES, 1, TREE, 1.0, 1.0, on_radial, 1, '', method, iterations)
+        best('own-loop-method-%d' % method, OWN_LOOP, 0, (0, 0), 4.5, 4.5, on_loop, 1, '', method, iterations)
 
 
 def moved_bytes():
     """Bases that are not radial: exhaustive closes the tie though nothing was lost before, and tabu opens one of two parallel branches."""
-    best('tie-only-exchange', TIE_ONLY, 1, 0, 0.0, 0.0, 1, 1, '1')
-    best('tie-only-tabu', TIE_ONLY, 1, 0, 0.0, 0.0, 100, 1, '1', TABU)
-    best('tie-only-exhaustive', TIE_ONLY, 1, 1, 0.0, 1.0, 1, 1, '0', EXHAUSTIVE)
-    best('parallel-exchange', PARALLEL, 1, 0, 3.0, 3.0, 1, 1, '0')
-    best('parallel-tabu', PARALLEL, 2, 1, 3.0, 1.0, 2, 1, '1', TABU, 2)
-    best('parallel-exhaustive', PARALLEL, 1, 0, 3.0, 3.0, 0, 1, '0', EXHAUSTIVE)
+    best('tie-only-exchange', TIE_ONLY, 1, (1, None), 0.0, 0.0, 1, 1, '1')
+    best('tie-only-tabu', TIE_ONLY, 1, (1, None), 0.0, 0.0, 100, 1, '1', TABU)
+    best('tie-only-exhaustive', TIE_ONLY, 1, TREE, 0.0, 1.0, 1, 1, '0', EXHAUSTIVE)
+    best('parallel-exchange', PARALLEL, 1, (0, 1), 3.0, 3.0, 1, 1, '0')
+    best('parallel-tabu', PARALLEL, 2, TREE, 3.0, 1.0, 2, 1, '1', TABU, 2)
+    best('parallel-exhaustive', PARALLEL, 1, (0, 1), 3.0, 3.0, 0, 1, '0', EXHAUSTIVE)
+
+
+def best_of_no_tree():
+    """A base without a radial state in reach stays the best; the 84 line's fields are those of the best state, not of the base."""
+    for method, rounds in [(EXCHANGE, 1), (TABU, 100), (EXHAUSTIVE, 0)]:
+        best('loop-and-islands-method-%d' % method, APART, 1 + method, (1, 1), 3.0, 3.0, rounds, 1, '0', method)
+    best('loop-and-islands-0-rounds', APART, 1, (1, 1), 3.0, 3.0, 0, 0, '0', iterations=0)
+    for name, room in [('exactly-full', 2), ('one-byte-longer', 3)]:
+        best('islands-' + name, TIES_ONLY, room, (2, None), 0.0, 0.0, 1, 1, '11')
+    best('islands-tabu', TIES_ONLY, 2, (2, None), 0.0, 0.0, 100, 1, '11', TABU)
+    # both ties closed, 0.25 x 3 x 3 + 0.25 x 2 x 2
+    best('islands-exhaustive', TIES_ONLY, 2, TREE, 0.0, 3.25, 1, 1, '00', EXHAUSTIVE)
+    best('loop-one-byte-longer', PARALLEL, 2, (0, 1), 3.0, 3.0, 1, 1, '0')
+    for name, feeder in [('loop', PARALLEL), ('loop-and-islands', APART), ('islands', TIES_ONLY)]:
+        room = len(feeder.switches)
+        slice_case('B', 'best-%s-one-byte-short' % name, feeder.text(), room - 1, refused(13, 0), '')
+        refused_state(name + '-too-long', feeder.text(), '0' * room + '1', (10, 0))
+        refused_state(name + '-byte-02', feeder.text(), '1' * (room - 1) + '2', (10, 0))
+    slice_case('B', 'best-loop-and-islands-change-I', APART.text(), 1, refused(3, 1), '', change='I')
 
 
 def listed_operations():
@@ -151,7 +197,7 @@ def refused_states():
             slice_case('O', 'operations-present-%s-%d' % (name, room), TRIANGLE.text(), room, refused(10, 0), '', present=bytes_, wanted='10')
             slice_case('O', 'operations-wanted-%s-%d' % (name, room), TRIANGLE.text(), room, refused(10, 1), '', present='01', wanted=bytes_)
         slice_case('O', 'operations-both-' + name, TRIANGLE.text(), 18, refused(10, 0), '', present=bytes_, wanted=bytes_)
-        case('S', 'state-' + name, TRIANGLE.text(), refused(10, 0) + ' ' + refused(10, 0), present=bytes_)
+        refused_state(name, TRIANGLE.text(), bytes_, (10, 0))
 
 
 def network_refusals():
@@ -164,19 +210,35 @@ def network_refusals():
     slice_case('B', 'best-of-no-text', '0G\n', 2, refused(1, 1), '')
     slice_case('O', 'operations-of-no-text', '0G\n', 18, refused(1, 1), '', present='01', wanted='10')
     slice_case('P', 'plan-of-no-text', '0G\n', 11, refused(1, 1), '', present='01', wanted='10')
-    case('S', 'state-of-no-text', '0G\n', refused(1, 1) + ' ' + refused(1, 1), present='01')
+    refused_state('of-no-text', '0G\n', '01', (1, 1))
+
+
+def states_of_no_tree():
+    state('own-loop', OWN_LOOP, '', (0, 0), 4.5)
+    state('two-parallel', PARALLEL, '0', (0, 1), 3.0)
+    state('all-closed', TRIANGLE, '00', (0, 2), 5.6875)
+    state('both-open', TRIANGLE, '11', (1, None), 0.25)
+    state('tie-open', TIE_ONLY, '1', (1, None), 0.0)
+    state('two-ties-open', TIES_ONLY, '11', (2, None), 0.0)
+    state('parallel-and-a-bus-apart', APART, '0', (1, 1), 3.0)
+    state('branch-and-a-bus-apart', APART, '1', (1, None), 1.0)
+    # as many live branches as a tree has
+    state('row-first-pair', ROW, '0101', (1, 2), 0.5)
+    state('row-second-pair', ROW, '1010', (1, 3), 2.0)
+    state('row-all-closed', ROW, '0000', (0, 2), 6.5)
+    state('row-all-open', ROW, '1111', (2, None), 0.0)
+    state('row-loop-supply', ROW.fed(1), '0101', (1, 2), (11, 0))
+    # 4 + 1 + 4 quarters
+    state('ring-two-open', RING, '01010', (1, None), 2.25)
 
 
 def states_and_plans():
-    state('no-buses', NO_BUSES, '', 1, 0.0)
-    state('one-bus', ONE_BUS, '', 1, 0.0)
-    state('own-loop', OWN_LOOP, '', 0, 4.5)
-    state('two-buses', TWO_BUSES, '', 1, 1.0)
-    state('two-parallel', PARALLEL, '0', 0, 3.0)
-    state('base', TRIANGLE, '01', 1, 4.0)
-    state('exchanged', TRIANGLE, '10', 1, 1.0)
-    state('all-closed', TRIANGLE, '00', 0, 5.6875)
-    state('branch-0-turned', TURNED, '01', 1, 1.75)
+    state('no-buses', NO_BUSES, '', TREE, 0.0)
+    state('one-bus', ONE_BUS, '', TREE, 0.0)
+    state('two-buses', TWO_BUSES, '', TREE, 1.0)
+    state('base', TRIANGLE, '01', TREE, 4.0)
+    state('exchanged', TRIANGLE, '10', TREE, 1.0)
+    state('branch-0-turned', TURNED, '01', TREE, 1.75)
     plan('exactly-full', '01', '10', 11, [(11, 10)])
     plan('one-byte-longer', '01', '10', 12, [(11, 10)])
     plan('equal-states', '01', '01', 0, [])
@@ -202,10 +264,10 @@ def searches_with_supply():
     """Each method counts the loads away from the supply, whichever way a branch was drawn, and the plan to its best state is that of the text without the line."""
     for drawing, feeder in [('triangle', TRIANGLE), ('turned', TURNED)]:
         fed = feeder.fed(1)
-        best(drawing + '-supply-1-exchange', fed, 2, 1, 4.0, 1.0, 2, 1, '10')
-        best(drawing + '-supply-1-exchange-1-round', fed, 3, 1, 4.0, 1.0, 1, 0, '10', iterations=1)
-        best(drawing + '-supply-1-tabu', fed, 2, 1, 4.0, 4.0, 100, 1, '01', TABU)
-        best(drawing + '-supply-1-exhaustive', fed, 2, 1, 4.0, 4.0, 1, 1, '01', EXHAUSTIVE)
+        best(drawing + '-supply-1-exchange', fed, 2, TREE, 4.0, 1.0, 2, 1, '10')
+        best(drawing + '-supply-1-exchange-1-round', fed, 3, TREE, 4.0, 1.0, 1, 0, '10', iterations=1)
+        best(drawing + '-supply-1-tabu', fed, 2, TREE, 4.0, 4.0, 100, 1, '01', TABU)
+        best(drawing + '-supply-1-exhaustive', fed, 2, TREE, 4.0, 4.0, 1, 1, '01', EXHAUSTIVE)
         for method in (EXCHANGE, TABU, EXHAUSTIVE):
             plan('%s-supply-1-method-%d' % (drawing, method), '01', '10', 11, [(11, 10)], fed, method)
             plan('%s-supply-1-method-%d-none' % (drawing, method), '01', '01', 3, [], fed, method)
@@ -213,30 +275,30 @@ def searches_with_supply():
         # at bus 2 and at bus 3 both radial states lose the same
         for supply, loss in [(2, 1.75), (3, 0.4375)]:
             for method, rounds in [(EXCHANGE, 1), (TABU, 100), (EXHAUSTIVE, 1)]:
-                best('%s-supply-%d-method-%d' % (drawing, supply, method), feeder.fed(supply), 2, 1, loss, loss, rounds, 1, '01', method)
+                best('%s-supply-%d-method-%d' % (drawing, supply, method), feeder.fed(supply), 2, TREE, loss, loss, rounds, 1, '01', method)
     # 25 + 9 + 1 + 9 quarters; without the line the exchange opens switch 11
     for method, rounds in [(EXCHANGE, 1), (TABU, 100), (EXHAUSTIVE, 1)]:
-        best('ring-supply-1-method-%d' % method, RING.fed(1), 5, 1, 11.0, 11.0, rounds, 1, '00100', method)
-    best('ring', RING, 5, 1, 27.0, 12.25, 2, 1, '01000')
+        best('ring-supply-1-method-%d' % method, RING.fed(1), 5, TREE, 11.0, 11.0, rounds, 1, '00100', method)
+    best('ring', RING, 5, TREE, 27.0, 12.25, 2, 1, '01000')
     # 25 + 9 + 49 + 25 quarters and, with 11 opened in place of 12, 4 + 9 + 16 + 4; with 10 in place of 11 as much
-    best('ring-supply-4', RING.fed(4), 5, 1, 27.0, 8.25, 2, 1, '01000')
+    best('ring-supply-4', RING.fed(4), 5, TREE, 27.0, 8.25, 2, 1, '01000')
     plan('ring-supply-4', '00100', '01000', 11, [(12, 11)], RING.fed(4))
     for method, rounds in [(EXCHANGE, 1), (TABU, 100), (EXHAUSTIVE, 1)]:
-        best('only-bus-supply-method-%d' % method, ONE_BUS.fed(1), 0, 1, 0.0, 0.0, rounds, 1, '', method)
-        best('two-buses-supply-2-method-%d' % method, TWO_BUSES.fed(2), 0, 1, 0.0, 0.0, rounds, 1, '', method)
+        best('only-bus-supply-method-%d' % method, ONE_BUS.fed(1), 0, TREE, 0.0, 0.0, rounds, 1, '', method)
+        best('two-buses-supply-2-method-%d' % method, TWO_BUSES.fed(2), 0, TREE, 0.0, 0.0, rounds, 1, '', method)
 
 
 def calls_with_supply():
     """With the line a loss is refused 11 on a state that is not radial; every other call answers as without it, but for the network's 14 and 15."""
     for supply, losses in [(1, (4.0, 1.0)), (2, (1.75, 1.75)), (3, (0.4375, 0.4375))]:
         for bytes_, loss in zip(('01', '10'), losses):
-            state('supply-%d-%s' % (supply, bytes_), TRIANGLE.fed(supply), bytes_, 1, loss)
-            state('turned-supply-%d-%s' % (supply, bytes_), TURNED.fed(supply), bytes_, 1, loss)
+            state('supply-%d-%s' % (supply, bytes_), TRIANGLE.fed(supply), bytes_, TREE, loss)
+            state('turned-supply-%d-%s' % (supply, bytes_), TURNED.fed(supply), bytes_, TREE, loss)
     fed = TRIANGLE.fed(1)
-    for bytes_ in ('00', '11'):
-        case('S', 'state-supply-%s' % bytes_, fed.text(), '00 ' + refused(11, 0), present=bytes_)
+    for bytes_, form in [('00', (0, 2)), ('11', (1, None))]:
+        state('supply-%s' % bytes_, fed, bytes_, form, (11, 0))
     for bytes_ in ('', '0', '000', '02'):
-        case('S', 'state-supply-malformed-%s' % bytes_, fed.text(), refused(10, 0) + ' ' + refused(10, 0), present=bytes_)
+        refused_state('supply-malformed-%s' % bytes_, fed.text(), bytes_, (10, 0))
     operations('supply-not-radial', fed, '00', '11', 18, [(10, 0), (11, 0)])
     slice_case('P', 'plan-supply-not-radial', fed.text(), 11, refused(11, 1), '', present='01', wanted='00')
     slice_case('T', 'text-supply', fed.text(), 230, '%04x' % 226, fed.text())
@@ -246,7 +308,7 @@ def calls_with_supply():
             slice_case(call, 'supply-change-%s-%s' % (change, call), fed.text(), 226, refused(*fault), '', present='01', wanted='10', change=change)
     for name, feeder, fault in [('not-listed', TRIANGLE.fed(9), (14, 10)), ('on-a-loop', OWN_LOOP.fed(1), (15, 4)), ('cut-off', TIE_ONLY.fed(1), (15, 6)),
                                 ('of-no-buses', NO_BUSES.fed(1), (14, 2)), ('not-listed-on-a-loop', OWN_LOOP.fed(3), (14, 4))]:
-        case('S', 'state-supply-' + name, feeder.text(), refused(*fault) + ' ' + refused(*fault), present='2')
+        refused_state('supply-' + name, feeder.text(), '2', fault)
         for call in 'BOPT':
             slice_case(call, 'supply-%s-%s' % (name, call), feeder.text(), 11, refused(*fault), '', present='2', wanted='2')
 
@@ -282,8 +344,9 @@ def cut_plans():
 
 
 def largest():
-    best('512-switches', LARGEST, 512, 0, 0.0, 0.0, 1, 1, '01' * 256)
+    best('512-switches', LARGEST, 512, (0, 0), 0.0, 0.0, 1, 1, '01' * 256)
     slice_case('B', 'best-512-switches-one-byte-short', LARGEST.text(), 511, refused(13, 0), '')
+    state('256-buses-last-of-512-own-loops', OWN_LOOPS, '1' * 511 + '0', (255, 511), 0.0)
     operations('512', LARGEST, '0' * 512, '1' * 512, 4608, [(1000 - i, 0) for i in range(512)])
     slice_case('O', 'operations-512-one-byte-short', LARGEST.text(), 4607, refused(13, 0), '', present='0' * 512, wanted='1' * 512)
     longest = {'text': LONGEST.text(), 'present': '0' * 255 + '1' * 255, 'wanted': '1' * 255 + '0' * 255}
@@ -295,7 +358,7 @@ def largest():
 
 
 def main():
-    for make in (best_states, moved_bytes, listed_operations, refused_states, network_refusals, states_and_plans, written_texts, searches_with_supply, calls_with_supply, cut_plans, largest):
+    for make in (best_states, moved_bytes, best_of_no_tree, listed_operations, refused_states, network_refusals, states_of_no_tree, states_and_plans, written_texts, searches_with_supply, calls_with_supply, cut_plans, largest):
         make()
     names = [name for name, _, _ in cases]
     assert len(names) == len(set(names)), 'a name stands twice'

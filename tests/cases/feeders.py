@@ -1,4 +1,7 @@
-"""The feeders of plan_cases.py and resume_cases.py: records, their text, and what is live, joined and on a path. No program by itself."""
+"""The feeders of the generators beside it: records, their text, what is live, joined and on a path, and what live branches are. No program by itself."""
+
+# islands and closing branch of a tree
+TREE = 0, None
 
 
 class Feeder:
@@ -52,3 +55,32 @@ class Feeder:
             if bus == end:
                 return way
             chains += [(other, seen + (other,), way + (k,)) for other, k in beside[bus] if other not in seen]
+
+    def form_by_labels(self, live):
+        label, taken = self.labels(sorted(live))
+        return max(0, len(set(label.values())) - 1), min(live - taken, default=None)
+
+    def reached(self, live, start):
+        """The buses that these branches join with this one."""
+        beside, reached, left = self.beside(live), {start}, [start]
+        while left:
+            others = {other for other, _ in beside[left.pop()]} - reached
+            reached |= others
+            left += others
+        return reached
+
+    def form_by_search(self, live):
+        """A branch closes a loop where one of its ends is reached from the other by the live ones before it."""
+        closing = (k for k in sorted(live) if self.branches[k][1] in self.reached({j for j in live if j < k}, self.branches[k][0]))
+        left, pieces = set(self.buses), 0
+        while left:
+            left -= self.reached(live, min(left))
+            pieces += 1
+        return max(0, pieces - 1), next(closing, None)
+
+    def form(self, live):
+        """Document 02's answer: the islands, and the first branch that closes a loop, None where no branch does. Document 01's count of branches has to agree."""
+        form = self.form_by_labels(live)
+        assert form == self.form_by_search(live), 'labels and searches differ'
+        assert (form == TREE) == (form[0] == 0 and len(live) == max(0, len(self.buses) - 1)), 'documents 01 and 02 differ'
+        return form

@@ -1,15 +1,17 @@
-"""python/lugwefa.py over the library: the triangle, refusals, states by id, records, the bytes that no call may touch, and every text of the list that
+"""python/lugwefa.py over the library: the triangle, forms, refusals, states by id, records, the bytes that no call may touch, and every text of the list that
 `replay` has (tests/answers.md). usage: calls.py LIST EXAMPLE"""
 
 import ctypes
 import io
+import itertools
+import random
 import runpy
 import struct
 import sys
 from contextlib import redirect_stdout
 
 import lugwefa
-from lugwefa import CLOSED, OPEN, Branch, Bus, Head, Move, NoRoom, Operation, Pair, Refused, Resumed, Switch
+from lugwefa import CLOSED, OPEN, TREE, Branch, Bus, Form, Head, Move, NoRoom, Operation, Pair, Refused, Resumed, Switch
 
 HEAD = '010003000300023FF0000000000000000064\n'
 BUSES = '0200010000000000000000\n0200023FF0000000000000\n0200034000000000000000\n'
@@ -17,7 +19,7 @@ BRANCHES = '03000100023FD000000000000001\n03000200033FDC00000000000001\n03000100
 TRIANGLE = HEAD + BUSES + BRANCHES + '04000A000102\n04000B000203\n'
 TURNED = TRIANGLE.replace('0300010002', '0300020001')
 LOCKED = HEAD + BUSES + BRANCHES + '04000A000100\n04000B000203\n'
-PRINTED = '810140100000000000003FF00000000000004052C00000000000000201\n82000A00\n82000B01\n83000B000A\n'
+PRINTED = '810140100000000000003FF00000000000004052C00000000000000201\n840000FFFF\n82000A00\n82000B01\n83000B000A\n'
 BASE = {10: CLOSED, 11: OPEN}
 BEST = {10: OPEN, 11: CLOSED}
 ALL_CLOSED = {10: CLOSED, 11: CLOSED}
@@ -52,6 +54,7 @@ def triangle():
         expect(lugwefa.answer_text(text), PRINTED, 'what is printed')
     expect(lugwefa.switch_ids(TRIANGLE), [10, 11], 'the ids')
     expect([lugwefa.radiality(TRIANGLE, s) for s in (BASE, BEST, ALL_CLOSED, ALL_OPEN)], [True, True, False, False], 'radiality')
+    expect([lugwefa.form(TRIANGLE, s) for s in (BASE, BEST, ALL_CLOSED, ALL_OPEN)], [TREE, TREE, Form(0, 2), Form(1, None)], 'form')
     expect([lugwefa.loss(TRIANGLE, s) for s in (BASE, BEST, ALL_CLOSED)], [4.0, 1.0, 5.6875], 'loss')
     expect(lugwefa.plan(TRIANGLE, BASE, BEST), [Pair(close=11, open=10)], 'the plan')
     expect(lugwefa.plan(TRIANGLE, BEST, BASE), [Pair(close=10, open=11)], 'the way back')
@@ -68,7 +71,7 @@ def states_by_id():
         expect(lugwefa.loss(TRIANGLE, state), 4.0, "a state in the call's bytes")
     for state, why in (({10: CLOSED}, 'switch 11 is missing'), ({**BASE, 12: OPEN}, '12 is no switch of the text'),
                        ({10: CLOSED, 11: 1}, 'switch 11 is 1'), ({}, 'switch 10 is missing; switch 11 is missing')):
-        for number, ask in ((0, lambda s: lugwefa.loss(TRIANGLE, s)), (0, lambda s: lugwefa.radiality(TRIANGLE, s)),
+        for number, ask in ((0, lambda s: lugwefa.loss(TRIANGLE, s)), (0, lambda s: lugwefa.radiality(TRIANGLE, s)), (0, lambda s: lugwefa.form(TRIANGLE, s)),
                             (0, lambda s: lugwefa.plan(TRIANGLE, s, {})), (1, lambda s: lugwefa.plan(TRIANGLE, BASE, s)),
                             (0, lambda s: lugwefa.operations(TRIANGLE, s, {})), (1, lambda s: lugwefa.operations(TRIANGLE, BASE, s))):
             try:
@@ -76,6 +79,8 @@ def states_by_id():
                 expect(None, why, 'a state that is none')
             except Refused as refused:
                 expect((refused.number, refused.place, refused.why), (10, number, why), 'a state that is none')
+    for state in (b'\0', b'\0\1\0', b'\0\2', b''):
+        expect([refusal(ask, TRIANGLE, state) for ask in (lugwefa.radiality, lugwefa.form)], [(10, 0)] * 2, 'a state that is too short or too long, or has a byte 2')
     expect(refusal(lugwefa.plan, TRIANGLE, b'\2', {}), (10, 0), "the present state's refusal first")
     expect(refusal(lugwefa.plan, TRIANGLE, ALL_OPEN, {}), (10, 1), '10 before 11')
 
@@ -89,6 +94,76 @@ def live(text, state):
     _, _, branches, switches, *_ = in_records(text)
     dead = {switch.branch for switch in switches if state[switch.id] == OPEN}
     return [k for k, branch in enumerate(branches) if branch.status and k not in dead]
+
+
+def flood(neighbours, bus):
+    """The buses that are joined with one, itself among them."""
+    reached, onward = {bus}, [bus]
+    while onward:
+        more = neighbours[onward.pop()] - reached
+        reached |= more
+        onward += more
+    return reached
+
+
+def reckoned(text, state):
+    """The form of a state by document 02: the first branch whose ends those before it already join, by a flood for each; the pieces by a flood for each."""
+    _, buses, branches, *_ = in_records(text)
+    neighbours, first, pieces, left = {bus.id: set() for bus in buses}, None, 0, {bus.id for bus in buses}
+    for k in live(text, state):
+        start, end = branches[k][:2]
+        if first is None and end in flood(neighbours, start):
+            first = k
+        neighbours[start].add(end)
+        neighbours[end].add(start)
+    while left:
+        left -= flood(neighbours, min(left))
+        pieces += 1
+    return Form(max(pieces - 1, 0), first)
+
+
+def is_formed(text, state, what):
+    """The form; and a state is radial exactly where it is a tree."""
+    right = reckoned(text, state)
+    expect((lugwefa.form(text, state), lugwefa.radiality(text, state)), (right, right == (0, None)), what)
+
+
+# The buses, the ends of the branches, and the form with all switches closed, by hand.
+FORMS = {
+    'no buses': (0, [], (0, None)),
+    'one bus': (1, [], (0, None)),
+    'two buses without a branch': (2, [], (1, None)),
+    '256 buses without a branch': (256, [], (255, None)),
+    'a bus with its own loop': (1, [(0, 0)], (0, 0)),
+    'two buses and a branch': (2, [(0, 1)], (0, None)),
+    'two parallel branches': (2, [(0, 1), (1, 0)], (0, 1)),
+    'an own loop and an island': (2, [(1, 1)], (1, 0)),
+    'an own loop before the branches of a ring': (3, [(1, 1), (0, 1), (1, 2), (2, 0)], (0, 0)),
+    'a parallel before the branch that closes a ring': (3, [(0, 1), (1, 0), (1, 2), (2, 0)], (0, 1)),
+    'a loop and a bus apart, with as many branches as a tree': (4, [(0, 1), (1, 2), (2, 0)], (1, 2)),
+    'two rings apart: the one that is closed first': (6, [(0, 1), (3, 4), (4, 5), (5, 3), (1, 2), (2, 0)], (1, 3)),
+    'two pieces that are joined before a loop is closed': (5, [(4, 3), (0, 1), (1, 2), (2, 3), (0, 4), (2, 0), (1, 3)], (0, 4)),
+    '256 buses in a row, and a branch from the last to the first': (256, [*((k, k + 1) for k in range(255)), (255, 0)], (0, 255)),
+    '256 buses, and 512 own loops at the last': (256, [(255, 255)] * 512, (255, 0)),
+    '256 buses in a row, and 257 branches beside the first': (256, [*((k, k + 1) for k in range(255)), *[(0, 1)] * 257], (0, 255)),
+}
+
+
+def forms():
+    """With all switches closed, known by hand; in every state, or in drawn ones where these are too many. Ids fall where positions rise, and the switches are listed from the last branch
+    to the first, so that an id or a place in the list is not taken for a position."""
+    draw = random.Random(1)
+    for what, (buses, ends, right) in FORMS.items():
+        count = len(ends)
+        text = lugwefa.write_text(lugwefa.records((1.0, 0, 0), [(999 - k, 0.0) for k in range(buses)], [(999 - a, 999 - b, 0.0, 1) for a, b in ends],
+                                                  [(k, count - 1 - k, False, True) for k in range(count)]))
+        expect(lugwefa.form(text, [0] * count), Form(*right), what)
+        states = itertools.product((CLOSED, OPEN), repeat=count) if count < 8 else (draw.choices((CLOSED, OPEN), (1, chance), k=count) for chance in range(20))
+        for state in states:
+            is_formed(text, dict(enumerate(state)), what)
+        printed = lugwefa.answer_text(text).splitlines()
+        expect(printed[1], '84%04X%04X' % (right[0], 65535 if right[1] is None else right[1]), f'{what}, printed')
+        expect((len(printed), printed[0][:4]), (2, '8101' if right == (0, None) else '8100'), f'{what}, printed')
 
 
 def carried_out(state, moves):
@@ -110,7 +185,8 @@ def every_cut(text, present, wanted, what):
         expect(cut, right, f'{what}, cut off at {count}')
         expect(live(text, carried_out(state, cut.remaining)), live(text, wanted), f'{what}, finished from {count}')
         expect(carried_out(state, cut.back), dict(present), f'{what}, gone back from {count}')
-        expect(lugwefa.radiality(text, state), count == 0 or moves[count - 1].stands == OPEN, f'{what}, at {count}')
+        radial, form = count == 0 or moves[count - 1].stands == OPEN, lugwefa.form(text, state)
+        expect((lugwefa.radiality(text, state), form == TREE, form.islands), (radial, radial, 0), f'{what}, at {count}')
     for count in (len(moves) + 1, 65536, 65536 + len(moves), 2 ** 32, 2 ** 64 - 1, 2 ** 64, 2 ** 64 + len(moves), 10 ** 30):
         expect(refusal(lugwefa.resume, text, present, wanted, count), (16, 0), f'{what}, cut off behind its end')
 
@@ -182,6 +258,7 @@ def supplies():
             fed, what = text + f'05{supply:04X}\n', f'fed at bus {supply}'
             expect([lugwefa.loss(fed, state) for state in (BASE, BEST)], losses, what)
             expect([lugwefa.radiality(fed, state) for state in (BASE, ALL_CLOSED)], [True, False], what)
+            expect([lugwefa.form(fed, state) for state in (BASE, ALL_CLOSED, ALL_OPEN)], [TREE, Form(0, 2), Form(1, None)], what)
             expect([refusal(lugwefa.loss, fed, state) for state in (ALL_CLOSED, ALL_OPEN, b'\0\0\0')], [(11, 0), (11, 0), (10, 0)], what)
             expect(lugwefa.plan(fed, BASE, BEST), [Pair(close=11, open=10)], what)
             expect(lugwefa.operations(fed, ALL_CLOSED, BEST), [Operation(10, OPEN)], what)
@@ -255,7 +332,7 @@ def refusals():
             expect(refusal(lugwefa.write_text, in_bytes(text)), right, f'records that are refused {right[0]}')
         for ask in (lugwefa.answer_text, lugwefa.base_state, lugwefa.solve, lugwefa.switch_ids):
             expect(refusal(ask, text), right, f'a text that is refused {right[0]}')
-        for ask in (lugwefa.radiality, lugwefa.loss):
+        for ask in (lugwefa.radiality, lugwefa.form, lugwefa.loss):
             expect(refusal(ask, text, BASE), right, f'{right[0]} before the state')
             expect(refusal(ask, text, b'\2'), right, f'{right[0]} before the state')
         for ask in (lugwefa.plan, lugwefa.operations):
@@ -331,6 +408,8 @@ def every_text(path):
         expect(lugwefa.write_text(lugwefa.records(*in_records(text.decode()))), text.decode(), what)
         base, found = lugwefa.base_state(text), lugwefa.solve(text)
         lines = [f'81{found.radial:02X}{bits(found.base_loss)}{bits(found.best_loss)}{bits(found.reduction)}{found.iterations:04X}{found.converged:02X}']
+        form = lugwefa.form(text, found.state)
+        lines += [f'84{form.islands:04X}{65535 if form.branch is None else form.branch:04X}']
         lines += [f'82{switch:04X}{stands == CLOSED:02X}' for switch, stands in lugwefa.operations(text, base, found.state)]
         if lugwefa.radiality(text, base):
             lines += [f'83{pair.close:04X}{pair.open:04X}' for pair in lugwefa.plan(text, base, found.state)]
@@ -339,6 +418,8 @@ def every_text(path):
             expect(refusal(lugwefa.plan, text, base, found.state), (11, 0), what)
             expect(refusal(lugwefa.resume, text, base, found.state, 0), (11, 0), what)
         expect('\n'.join(lines) + '\n', printed, what)
+        for state in (base, found.state, *(dict.fromkeys(base, stands) for stands in (CLOSED, OPEN))):
+            is_formed(text.decode(), state, what)
         losses = [lugwefa.loss(text, state) for state in (base, found.state)]
         expect((losses, lugwefa.radiality(text, found.state)), ([found.base_loss, found.best_loss], found.radial), what)
     return texts, written
@@ -350,10 +431,12 @@ def example(path):
     expect(printed.getvalue(), "base {10: 'closed', 11: 'open'}: 4.0 MW lost; best {10: 'open', 11: 'closed'}: 1.0 MW, 75.0 percent less\n"
            'close switch 11, then open switch 10\n'
            'power lost after one move: to finish, 10 open; to go back, 11 open\n'
-           "refused 11 at the wanted state: a plan's state isn't radial, or with a supply that of a loss\n", 'the example')
+           "both open: refused 11 at the wanted state: a plan's state isn't radial, or with a supply that of a loss; Form(islands=1, branch=None)\n"
+           "both closed: refused 11 at the wanted state: a plan's state isn't radial, or with a supply that of a loss; Form(islands=0, branch=2)\n", 'the example')
 
 
 triangle()
+forms()
 states_by_id()
 resumed()
 written_texts()

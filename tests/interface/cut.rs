@@ -44,6 +44,11 @@ impl Plan {
         Ok(Plan { network, present, wanted, moves, states })
     }
 
+    /// The state after so many moves.
+    pub fn state(&self, count: usize) -> Option<&[u8]> {
+        self.states.get(count).map(Vec::as_slice)
+    }
+
     /// 16, then 13.
     pub fn cut(&self, count: u64, rooms: (usize, usize)) -> Result<Cut, Refusal> {
         let [remaining, back] = resume(&self.moves, count)?.map(|list| lines(&self.network, &list).into_bytes());

@@ -5,6 +5,8 @@
 #include <stdio.h>
 #include <string.h>
 
+#define ONE "3FF0000000000000"
+#define ZERO "0000000000000000"
 #define HEAD_OF(method_and_iterations) "010003000300023FF0000000000000" method_and_iterations "\n"
 #define HEAD HEAD_OF("000064")
 #define BUS_1 "0200010000000000000000\n"
@@ -44,8 +46,17 @@ static void expect_answer(struct feeder_answer a, unsigned number, unsigned plac
         printf("  answered %u %u %llX\n", a.number, a.place, (unsigned long long)a.value);
 }
 
+static struct feeder_answer form(const char *text, const char *state, size_t length) {
+    return feeder_form((const uint8_t *)text, strlen(text), (const uint8_t *)state, length);
+}
+
+/* Wherever radiality is asked, the form is refused alike, and is a tree exactly where the state is radial. */
 static struct feeder_answer radiality(const char *text, const char *state, size_t length) {
-    return feeder_radiality((const uint8_t *)text, strlen(text), (const uint8_t *)state, length);
+    struct feeder_answer answer = feeder_radiality((const uint8_t *)text, strlen(text), (const uint8_t *)state, length);
+    struct feeder_answer formed = form(text, state, length);
+    expect(formed.number == answer.number && formed.place == answer.place, "the form is refused as radiality is");
+    expect(answer.number == 0 ? (formed.value == FEEDER_TREE) == (answer.value == 1) : formed.value == 0, "a tree exactly where the state is radial");
+    return answer;
 }
 
 static struct feeder_answer loss(const char *text, const char *state, size_t length) {
@@ -56,6 +67,13 @@ static uint64_t bits(double x) {
     uint64_t b;
     memcpy(&b, &x, sizeof b);
     return b;
+}
+
+static unsigned digits_at(const char *at, int count) {
+    unsigned number = 0;
+    for (int k = 0; k < count; k++)
+        number = number * 16 + (unsigned)(strchr("0123456789ABCDEF", at[k]) - "0123456789ABCDEF");
+    return number;
 }
 
 static void radialities(void) {
@@ -71,6 +89,158 @@ static void radialities(void) {
     expect_answer(radiality("0G", "\0\1", 2), 1, 1, 0, "another character");
     expect_answer(radiality(HEAD RECORDS "04000A000102\n", "\0\1", 2), 2, 9, 0, "a missing line");
     expect_answer(radiality(HEAD RECORDS "04000A000102\n04000A000203\n", "\0\1", 2), 7, 9, 0, "a switch id twice");
+}
+
+/* The form of a state, reckoned from the lines of an accepted text. */
+static unsigned ends[FEEDER_MAX_BRANCHES][2];
+static uint8_t live[FEEDER_MAX_BRANCHES], reached[FEEDER_MAX_BUSES];
+static size_t bus_count, branch_count;
+
+static unsigned position_of(const unsigned *ids, unsigned id) {
+    unsigned k = 0;
+    while (ids[k] != id)
+        k++;
+    return k;
+}
+
+/* The ends of the branches by position, and which branches are live: those with status 01 on which no switch is open. */
+static void lay_branches(const char *text, const char *state) {
+    static unsigned ids[FEEDER_MAX_BUSES];
+    bus_count = branch_count = 0;
+    for (; *text != '\0'; text = strchr(text, '\n') + 1)
+        if (strncmp(text, "02", 2) == 0) {
+            ids[bus_count++] = digits_at(text + 2, 4);
+        } else if (strncmp(text, "03", 2) == 0) {
+            ends[branch_count][0] = position_of(ids, digits_at(text + 2, 4));
+            ends[branch_count][1] = position_of(ids, digits_at(text + 6, 4));
+            live[branch_count++] = digits_at(text + 26, 2) == 1;
+        } else if (strncmp(text, "04", 2) == 0 && *state++ == 1) {
+            live[digits_at(text + 6, 4)] = 0;
+        }
+}
+
+/* Every bus that the live branches before `bound` join with this one, added to those that are reached. */
+static void flood(unsigned bus, size_t bound) {
+    int more = 1;
+    reached[bus] = 1;
+    while (more) {
+        more = 0;
+        for (size_t k = 0; k < bound; k++)
+            if (live[k] && reached[ends[k][0]] != reached[ends[k][1]])
+                reached[ends[k][0]] = reached[ends[k][1]] = more = 1;
+    }
+}
+
+static int joined_before(size_t k) {
+    memset(reached, 0, sizeof reached);
+    flood(ends[k][0], k);
+    return reached[ends[k][1]];
+}
+
+/* Each bus that no flood before it reached is a piece. The first branch that closes a loop is found by a flood for each. */
+static uint64_t reckoned_form(const char *text, const char *state) {
+    uint64_t pieces = 0;
+    size_t branch = 0;
+    lay_branches(text, state);
+    memset(reached, 0, sizeof reached);
+    for (unsigned bus = 0; bus < bus_count; bus++)
+        if (!reached[bus]) {
+            pieces++;
+            flood(bus, branch_count);
+        }
+    while (branch < branch_count && !(live[branch] && joined_before(branch)))
+        branch++;
+    return (pieces == 0 ? 0 : pieces - 1) * 65536 + (branch < branch_count ? branch : 65535);
+}
+
+static void is_formed(const char *text, const char *state, size_t length, const char *what) {
+    uint64_t reckoned = reckoned_form(text, state);
+    expect_answer(form(text, state, length), 0, 0, reckoned, what);
+    expect_answer(radiality(text, state, length), 0, 0, reckoned == 65535, what);
+}
+
+/* The same where the islands and the branch are known by hand. */
+static void has_form(const char *text, const char *state, size_t length, uint64_t islands, uint64_t branch, const char *what) {
+    struct feeder_answer answer = form(text, state, length);
+    is_formed(text, state, length, what);
+    expect(answer.value / 65536 == islands && answer.value % 65536 == branch, what);
+}
+
+/* A branch by the positions of its ends, and its status. */
+struct branch {
+    unsigned from, to, status;
+};
+enum { NO_BRANCH = 65535, FEW = 8 };
+
+/* So many buses, their ids falling, and a switch on each branch. The switches are listed from the last branch to the first: "first" is by the branches' positions. */
+static const char *feeder_of(unsigned buses, const struct branch *branches, unsigned count) {
+    static char text[37 + FEEDER_MAX_BUSES * 23 + FEW * (29 + 13) + 1];
+    char *at = text + sprintf(text, "01%04X%04X%04X" ONE "000000\n", buses, count, count);
+    for (unsigned bus = 0; bus < buses; bus++)
+        at += sprintf(at, "02%04X" ZERO "\n", 999 - bus);
+    for (unsigned k = 0; k < count; k++)
+        at += sprintf(at, "03%04X%04X" ONE "%02X\n", 999 - branches[k].from, 999 - branches[k].to, branches[k].status);
+    for (unsigned k = 0; k < count; k++)
+        at += sprintf(at, "04%04X%04X02\n", k, count - 1 - k);
+    return text;
+}
+
+/* Feeders, and the islands and the first branch of a loop with all switches closed, by hand. */
+static const struct named {
+    unsigned buses, count;
+    struct branch branches[FEW];
+    unsigned islands, first;
+    const char *what;
+} named[] = {
+    {1, 0, {{0, 0, 0}}, 0, NO_BRANCH, "one bus is a tree"},
+    {2, 0, {{0, 0, 0}}, 1, NO_BRANCH, "two buses without a branch"},
+    {FEEDER_MAX_BUSES, 0, {{0, 0, 0}}, FEEDER_MAX_BUSES - 1, NO_BRANCH, "256 buses without a branch"},
+    {1, 1, {{0, 0, 1}}, 0, 0, "a bus with its own loop"},
+    {2, 1, {{0, 1, 1}}, 0, NO_BRANCH, "two buses and a branch"},
+    {2, 1, {{0, 1, 0}}, 1, NO_BRANCH, "two buses and a branch out of service"},
+    {2, 2, {{0, 1, 1}, {0, 1, 1}}, 0, 1, "two parallel branches"},
+    {2, 2, {{0, 1, 1}, {1, 0, 1}}, 0, 1, "two parallel branches, drawn against each other"},
+    {2, 2, {{0, 1, 1}, {1, 0, 0}}, 0, NO_BRANCH, "two parallel branches, one out of service"},
+    {2, 3, {{0, 0, 0}, {1, 1, 1}, {0, 0, 1}}, 1, 1, "own loops and an island"},
+    {4, 3, {{0, 1, 1}, {1, 2, 1}, {2, 0, 1}}, 1, 2, "a loop and a bus apart, with as many branches as a tree"},
+    {3, 4, {{1, 1, 1}, {0, 1, 1}, {1, 2, 1}, {2, 0, 1}}, 0, 0, "an own loop before the branches of a ring"},
+    {3, 5, {{0, 1, 1}, {1, 2, 1}, {2, 0, 0}, {1, 1, 1}, {2, 0, 1}}, 0, 3, "an own loop before the branch that closes a ring"},
+    {3, 4, {{0, 1, 1}, {1, 0, 1}, {1, 2, 1}, {2, 0, 1}}, 0, 1, "a parallel before the branch that closes a ring"},
+    {4, 3, {{0, 1, 1}, {1, 2, 1}, {2, 0, 0}}, 1, NO_BRANCH, "a ring whose last branch is out of service, and an island"},
+    {6, 6, {{0, 1, 1}, {3, 4, 1}, {4, 5, 1}, {5, 3, 1}, {1, 2, 1}, {2, 0, 1}}, 1, 3, "two rings apart: the one that is closed first"},
+    {5, 7, {{4, 3, 1}, {0, 1, 1}, {1, 2, 1}, {2, 3, 1}, {0, 4, 1}, {2, 0, 1}, {1, 3, 1}}, 0, 4, "two pieces that are joined before a loop is closed"},
+    {8, 8, {{7, 6, 1}, {5, 7, 0}, {6, 7, 1}, {1, 2, 1}, {2, 1, 1}, {4, 4, 1}, {0, 7, 1}, {3, 1, 1}}, 3, 2, "loops and islands"},
+};
+
+/* With all switches closed, and in every state. */
+static void all_forms(const struct named *one) {
+    static char state[FEW];
+    const char *text = feeder_of(one->buses, one->branches, one->count);
+    memset(state, 0, sizeof state);
+    has_form(text, state, one->count, one->islands, one->first, one->what);
+    for (unsigned open = 1; open < 1u << one->count; open++) {
+        for (unsigned k = 0; k < one->count; k++)
+            state[k] = open >> k & 1;
+        is_formed(text, state, one->count, one->what);
+    }
+}
+
+static void forms(void) {
+    has_form(TRIANGLE, "\0\1", 2, 0, NO_BRANCH, "the base is a tree");
+    has_form(TRIANGLE, "\1\0", 2, 0, NO_BRANCH, "the exchanged state is a tree");
+    has_form(TRIANGLE, "\0\0", 2, 0, 2, "all closed is a loop");
+    has_form(TRIANGLE, "\1\1", 2, 1, NO_BRANCH, "all open is an island");
+    has_form(NO_BUSES, "", 0, 0, NO_BRANCH, "no buses are a tree");
+    for (size_t k = 0; k < sizeof named / sizeof named[0]; k++)
+        all_forms(&named[k]);
+    expect_answer(form(TRIANGLE, "\0\2", 2), FEEDER_BAD_STATE, 0, 0, "form, a state's byte 2");
+    expect_answer(form(TRIANGLE, "\0", 1), FEEDER_BAD_STATE, 0, 0, "form, a state one byte short");
+    expect_answer(form(TRIANGLE, "\0\1\0", 3), FEEDER_BAD_STATE, 0, 0, "form, a state one byte long");
+    expect_answer(form(NO_BUSES, "\0", 1), FEEDER_BAD_STATE, 0, 0, "form, a state of no switches one byte long");
+    expect_answer(form("", "\2", 1), FEEDER_BAD_LINE, 1, 0, "form, an empty text comes before a faulty state");
+    expect_answer(form("0G", "\0\1", 2), FEEDER_BAD_CHARACTERS, 1, 0, "form, another character");
+    expect_answer(form(HEAD RECORDS "04000A000102\n", "\0\1", 2), FEEDER_BAD_LINE, 9, 0, "form, a missing line");
+    expect_answer(form(HEAD RECORDS "04000A000102\n04000A000203\n", "\0\1", 2), FEEDER_ID_TWICE, 9, 0, "form, a switch id twice");
 }
 
 static void losses(void) {
@@ -190,13 +360,6 @@ enum { MOVES = 2 * (FEEDER_MAX_BUSES - 1) };
 static struct move moves[MOVES];
 static unsigned switch_ids[FEEDER_MAX_SWITCHES];
 
-static unsigned digits_at(const char *at, int count) {
-    unsigned number = 0;
-    for (int k = 0; k < count; k++)
-        number = number * 16 + (unsigned)(strchr("0123456789ABCDEF", at[k]) - "0123456789ABCDEF");
-    return number;
-}
-
 /* From the lines of feeder_plan, which other checks are about: of each pair the closing, then the opening. How many they are. */
 static size_t lay_moves(const char *text, const char *present, const char *wanted, size_t switches) {
     static char lines[FEEDER_PLAN_LENGTH];
@@ -241,13 +404,14 @@ static int carry_out_all(const uint8_t *lines, size_t count, char *state, size_t
     return 1;
 }
 
-/* A whole list, from a radial state: behind a closing the state is not radial, behind an opening it is. */
+/* A whole list, from a radial state: behind a closing there is a loop and no island, behind an opening the state is radial. */
 static void is_by_pairs(const char *text, const char *from, const uint8_t *lines, size_t count, size_t switches, const char *what) {
     static char state[FEEDER_MAX_SWITCHES];
     memcpy(state, from, switches);
     for (size_t k = 0; k < count; k++) {
         expect(carry_out(lines + k * FEEDER_MOVE_LENGTH, state, switches), what);
         expect_answer(radiality(text, state, switches), 0, 0, lines[k * FEEDER_MOVE_LENGTH + 7] == '0', what); /* the action byte: 00 opens */
+        expect(form(text, state, switches).value <= FEEDER_TREE, what);
     }
 }
 
@@ -290,7 +454,8 @@ static void cut_plan(const char *text, const char *present, const char *wanted, 
         resume(text, present, n, wanted, n, too_many[k], 0, 0, FEEDER_TOO_MANY_MOVES, 0, 0, "", "", what);
 }
 
-#define PRINTED "810140100000000000003FF00000000000004052C00000000000000201\n82000A00\n82000B01\n83000B000A\n"
+#define TREE_LINE "840000FFFF\n"
+#define PRINTED "810140100000000000003FF00000000000004052C00000000000000201\n" TREE_LINE "82000A00\n82000B01\n83000B000A\n"
 #define BASE_KEPT "8101401000000000000040100000000000000000000000000000"
 
 /* A text's answer into the middle of guarded bytes. */
@@ -300,13 +465,25 @@ static void answer_text(const char *text, size_t room, unsigned number, unsigned
     expect(memcmp(bytes, right, sizeof bytes) == 0, what);
 }
 
+/* Behind the radial byte, three floats; without a round, not converged. */
+#define NOTHING_LOST ZERO ZERO ZERO
+#define NO_ROUND "000000\n"
+enum { ANSWER_AND_FORM = FEEDER_ANSWER_LENGTH + FEEDER_FORM_LENGTH };
+
 static void texts(void) {
+    static const struct branch own_loop[] = {{1, 1, 1}};
     size_t length = strlen(PRINTED);
     answer_text(TRIANGLE, 2 * ROOM, 0, 0, PRINTED, "the triangle's answer, the rest of the slice kept");
     answer_text(TRIANGLE, length, 0, 0, PRINTED, "the triangle's answer, an exactly full slice");
     answer_text(TRIANGLE, length - 1, FEEDER_NO_ROOM, 0, "", "one byte short");
-    answer_text(HEAD_OF("010064") RECORDS SWITCHES, FEEDER_TEXT_LENGTH, 0, 0, BASE_KEPT "006401\n", "the triangle's answer by tabu");
-    answer_text(HEAD_OF("020064") RECORDS SWITCHES, FEEDER_TEXT_LENGTH, 0, 0, BASE_KEPT "000101\n", "the triangle's answer by exhaustion");
+    answer_text(HEAD_OF("010064") RECORDS SWITCHES, FEEDER_TEXT_LENGTH, 0, 0, BASE_KEPT "006401\n" TREE_LINE, "the triangle's answer by tabu");
+    answer_text(HEAD_OF("020064") RECORDS SWITCHES, FEEDER_TEXT_LENGTH, 0, 0, BASE_KEPT "000101\n" TREE_LINE, "the triangle's answer by exhaustion");
+    answer_text(NO_BUSES, FEEDER_TEXT_LENGTH, 0, 0, "8101" NOTHING_LOST "000101\n" TREE_LINE, "no buses, answered");
+    answer_text(NO_TIES, FEEDER_TEXT_LENGTH, 0, 0, "81004016C000000000004016C000000000000000000000000000000101\n8400000002\n", "a loop without a tie, answered");
+    answer_text(feeder_of(3, NULL, 0), FEEDER_TEXT_LENGTH, 0, 0, "8100" NOTHING_LOST NO_ROUND "840002FFFF\n", "three buses without a branch, answered");
+    answer_text(feeder_of(3, own_loop, 1), ANSWER_AND_FORM, 0, 0, "8100" NOTHING_LOST NO_ROUND "8400020000\n", "an own loop and islands, an exactly full slice");
+    answer_text(feeder_of(3, own_loop, 1), ANSWER_AND_FORM - 1, FEEDER_NO_ROOM, 0, "", "an own loop and islands, one byte short");
+    answer_text(feeder_of(3, own_loop, 1), FEEDER_ANSWER_LENGTH, FEEDER_NO_ROOM, 0, "", "an own loop and islands, room for the 81 line alone");
     answer_text("", ROOM, FEEDER_BAD_LINE, 1, "", "an empty text");
     answer_text("0G", FEEDER_TEXT_LENGTH, FEEDER_BAD_CHARACTERS, 1, "", "another character, with room for any answer");
     answer_text("0G", 0, FEEDER_BAD_CHARACTERS, 1, "", "another character, before the room");
@@ -406,6 +583,7 @@ static void nulls(void) {
     size_t length = strlen(NO_BUSES);
     struct feeder_solved nothing = {0, 0, 1, 1, 1, 0.0, 0.0, 0.0};
     expect_answer(feeder_radiality(NULL, 0, NULL, 0), 2, 1, 0, "radiality, a null text");
+    expect_answer(feeder_form(NULL, 0, NULL, 0), 2, 1, 0, "form, a null text");
     expect_answer(feeder_loss(NULL, 0, NULL, 0), 2, 1, 0, "loss, a null text");
     expect_answer(feeder_plan(NULL, 0, NULL, 0, NULL, 0, NULL, 0), 2, 1, 0, "plan, a null text");
     expect_answer(feeder_resume(NULL, 0, NULL, 0, NULL, 0, 0, NULL, 0, NULL, 0), 2, 1, 0, "resuming, a null text");
@@ -415,6 +593,8 @@ static void nulls(void) {
     expect_answer(feeder_operations(NULL, 0, NULL, 0, NULL, 0, NULL, 0), 2, 1, 0, "operations, a null text");
     expect_answer(feeder_write_text(NULL, 0, NULL, 0), 2, 1, 0, "writing, null records");
     expect_answer(feeder_radiality(text, length, NULL, 0), 0, 0, 1, "radiality, a null state");
+    expect_answer(feeder_form(text, length, NULL, 0), 0, 0, FEEDER_TREE, "form, a null state");
+    expect_answer(feeder_form(triangle, strlen(TRIANGLE), NULL, 0), 10, 0, 0, "form, a null state for two switches");
     expect_answer(feeder_loss(text, length, NULL, 0), 0, 0, 0, "loss, a null state");
     expect_answer(feeder_plan(text, length, NULL, 0, NULL, 0, NULL, 0), 0, 0, 0, "plan, null states and a null slice");
     expect_answer(feeder_plan(triangle, strlen(TRIANGLE), NULL, 0, NULL, 0, NULL, 0), 10, 0, 0, "plan, a null state for two switches");
@@ -432,9 +612,6 @@ static void nulls(void) {
     expect_solved(feeder_solve(triangle, strlen(TRIANGLE), NULL, 0), not_solved(13, 0), "search, a null slice for two switches");
     expect_answer(feeder_operations(text, length, NULL, 0, NULL, 0, NULL, 0), 0, 0, 0, "operations, null states and a null slice");
 }
-
-#define ONE "3FF0000000000000"
-#define ZERO "0000000000000000"
 
 /* Records in bytes, more than any text has. */
 enum { MANY = 100000 };
@@ -580,7 +757,7 @@ static void endless_records(void) {
     endless(TRIANGLE, "05\n", FEEDER_SUPPLY_NOT_LISTED, 10, "bytes 05 without end behind the triangle's records: the supply is bus 0505");
 }
 
-/* A text that names the supply, and what its base and its exchanged state lose. Losses are away from the supply, radiality and plans as without the line. */
+/* A text that names the supply, and what its base and its exchanged state lose. Losses are away from the supply, forms and plans as without the line. */
 static void fed(const char *text, double base, double exchanged, const char *what) {
     expect_answer(loss(text, "\0\1", 2), 0, 0, bits(base), what);
     expect_answer(loss(text, "\1\0", 2), 0, 0, bits(exchanged), what);
@@ -588,8 +765,9 @@ static void fed(const char *text, double base, double exchanged, const char *wha
     expect_answer(loss(text, "\1\1", 2), FEEDER_NOT_RADIAL, 0, 0, what);
     expect_answer(loss(text, "\0\0\0", 3), FEEDER_BAD_STATE, 0, 0, what);
     expect_answer(loss(text, "\2\0", 2), FEEDER_BAD_STATE, 0, 0, what);
-    expect_answer(radiality(text, "\0\1", 2), 0, 0, 1, what);
-    expect_answer(radiality(text, "\0\0", 2), 0, 0, 0, what);
+    has_form(text, "\0\1", 2, 0, NO_BRANCH, what);
+    has_form(text, "\0\0", 2, 0, 2, what);
+    has_form(text, "\1\1", 2, 1, NO_BRANCH, what);
     plan(text, "\0\1", 2, "\1\0", 2, 11, 0, 0, 1, "83000B000A\n", what);
     plan(text, "\0\1", 2, "\1\1", 2, ROOM, FEEDER_NOT_RADIAL, 1, 0, "", what);
     resume(text, "\0\1", 2, "\1\1", 2, 0, ROOM, ROOM, FEEDER_NOT_RADIAL, 1, 0, "", "", what);
@@ -603,6 +781,7 @@ static void fed(const char *text, double base, double exchanged, const char *wha
 /* A text that every call refuses, before the states and the room; and so are its records, but for refusal 1. */
 static void refused_by_all(const char *text, unsigned number, unsigned place, const char *what) {
     expect_answer(radiality(text, "\2", 1), number, place, 0, what);
+    expect_answer(form(text, "\2", 1), number, place, 0, what);
     expect_answer(loss(text, "\2", 1), number, place, 0, what);
     plan(text, "\2", 1, "\2", 1, 0, number, place, 0, "", what);
     resume(text, "\2", 1, "\2", 1, UINT64_MAX, 0, 0, number, place, 0, "", "", what);
@@ -631,7 +810,7 @@ static void supplies(void) {
     fed(TRIANGLE SUPPLY_3, 0.4375, 0.4375, "the triangle fed at bus 3");
     answer_text(TRIANGLE SUPPLY_1, strlen(PRINTED), 0, 0, PRINTED, "the triangle fed at bus 1, answered");
     answer_text(TURNED SUPPLY_1, strlen(PRINTED), 0, 0, PRINTED, "branch 0 turned, fed at bus 1, answered");
-    answer_text(TRIANGLE SUPPLY_3, ROOM, 0, 0, "81013FDC0000000000003FDC0000000000000000000000000000000101\n", "the triangle fed at bus 3, answered");
+    answer_text(TRIANGLE SUPPLY_3, ANSWER_AND_FORM, 0, 0, "81013FDC0000000000003FDC0000000000000000000000000000000101\n" TREE_LINE, "the triangle fed at bus 3, answered");
     solve(TURNED SUPPLY_1, 2, exchanged, "\1\0", 2, "fed at bus 1, by exchange");
     solve(TRIANGLE SUPPLY_3, 2, at_3, "\0\1", 2, "fed at bus 3, by exchange");
     solve(HEAD_OF("010064") RECORDS SWITCHES SUPPLY_1, 2, moved, "\0\1", 2, "fed at bus 1, by tabu");
@@ -684,8 +863,9 @@ static void make_largest(unsigned method, unsigned iterations, unsigned supply) 
         sprintf(at, "05%04X\n", supply);
 }
 
+/* The 81 line of a search whose best state is a tree, and its 84 line. */
 static char *head_of_answer(char *at, double base, double best, double reduction, unsigned iterations, unsigned converged) {
-    return at + sprintf(at, "8101%016llX%016llX%016llX%04X%02X\n", (unsigned long long)bits(base), (unsigned long long)bits(best),
+    return at + sprintf(at, "8101%016llX%016llX%016llX%04X%02X\n" TREE_LINE, (unsigned long long)bits(base), (unsigned long long)bits(best),
                         (unsigned long long)bits(reduction), iterations, converged);
 }
 
@@ -703,6 +883,63 @@ static void largest_texts(unsigned supply) {
     endless(largest, NO_BUSES, FEEDER_BAD_LINE, 1282 + more, "records without end behind the largest text's");
 }
 
+/* The state in which these branches of the largest feeder are closed. */
+static void close_alone(char *state, int from, int to) {
+    for (int k = 0; k < BRANCHES; k++)
+        state[k] = !(from <= k && k < to);
+}
+
+/* The forms of the largest feeder: what is known by hand, and drawn states from few closed switches to many. */
+static void largest_forms(void) {
+    static char state[BRANCHES];
+    uint64_t drawn = 1;
+    close_alone(state, 0, 0);
+    has_form(largest, state, BRANCHES, ROW, NO_BRANCH, "all open: 255 islands");
+    close_alone(state, 0, BRANCHES);
+    has_form(largest, state, BRANCHES, 0, ROW, "all closed: the first branch beside the row");
+    close_alone(state, 0, ROW);
+    has_form(largest, state, BRANCHES, 0, NO_BRANCH, "the row");
+    state[BRANCHES - 1] = 0;
+    has_form(largest, state, BRANCHES, 0, BRANCHES - 1, "the row and the last branch, which closes the loop");
+    state[100] = 1;
+    has_form(largest, state, BRANCHES, 1, BRANCHES - 1, "the row but for a branch, and the last one: a loop, an island, and as many branches as a tree");
+    state[0] = 1;
+    has_form(largest, state, BRANCHES, 1, NO_BRANCH, "the same without branch 0: no loop is left");
+    close_alone(state, 2 * ROW, BRANCHES);
+    has_form(largest, state, BRANCHES, ROW - 1, BRANCHES - 1, "the last two branches, which are parallel");
+    for (int k = 0; k < ROW; k += 2)
+        state[k] = 0;
+    has_form(largest, state, BRANCHES, ROW / 2, 2 * ROW, "every second branch of the row, and the last two beside the first");
+    for (int percent = 1; percent < 100; percent += 2) {
+        for (int k = 0; k < BRANCHES; k++) {
+            drawn = drawn * 6364136223846793005u + 1442695040888963407u;
+            state[k] = drawn >> 33 >= (uint64_t)percent * 2147483648u / 100;
+        }
+        is_formed(largest, state, BRANCHES, "a drawn state of the largest feeder");
+    }
+    expect_answer(form(largest, state, BRANCHES - 1), FEEDER_BAD_STATE, 0, 0, "form, the largest state one byte short");
+    state[BRANCHES - 1] = 2;
+    expect_answer(form(largest, state, BRANCHES), FEEDER_BAD_STATE, 0, 0, "form, the largest state's last byte 2");
+}
+
+/* 256 buses, and at the last of them 512 branches to itself. */
+static void own_loops(void) {
+    static char state[BRANCHES];
+    char *at = largest + sprintf(largest, "01%04X%04X%04X" ONE "000000\n", BUSES, BRANCHES, BRANCHES);
+    for (int bus = 0; bus < BUSES; bus++)
+        at += sprintf(at, "02%04X" ZERO "\n", bus);
+    for (int k = 0; k < BRANCHES; k++)
+        at += sprintf(at, "03%04X%04X" ONE "01\n", BUSES - 1, BUSES - 1);
+    for (int k = 0; k < BRANCHES; k++)
+        at += sprintf(at, "04%04X%04X02\n", k, k);
+    memset(state, 0, sizeof state);
+    has_form(largest, state, BRANCHES, BUSES - 1, 0, "512 own loops at the last bus");
+    close_alone(state, BRANCHES - 1, BRANCHES);
+    has_form(largest, state, BRANCHES, BUSES - 1, BRANCHES - 1, "the last of 512 own loops");
+    close_alone(state, 0, 0);
+    has_form(largest, state, BRANCHES, BUSES - 1, NO_BRANCH, "no own loop closed");
+}
+
 /* Every branch of the row leads away from bus 1: with the supply there all is as without one. */
 static void largest_feeder(unsigned supply) {
     static char row[BRANCHES], beside[BRANCHES], mixed[BRANCHES], all_closed[BRANCHES], all_open[BRANCHES], written[FEEDER_TEXT_LENGTH + 1];
@@ -717,6 +954,7 @@ static void largest_feeder(unsigned supply) {
     largest_texts(supply);
     expect_answer(radiality(largest, row, BRANCHES), 0, 0, 1, "the row is radial");
     expect_answer(radiality(largest, beside, BRANCHES), 0, 0, 1, "what lies beside is radial");
+    largest_forms();
     expect_answer(loss(largest, row, BRANCHES), 0, 0, bits(255.0), "the row's loss");
     expect_answer(loss(largest, beside, BRANCHES), 0, 0, 0, "what lies beside loses nothing");
     for (int k = 0; k < ROW; k++)
@@ -783,6 +1021,7 @@ static void other_largest_feeders(void) {
 static void *run(void *unused) {
     (void)unused;
     radialities();
+    forms();
     losses();
     plans();
     resumed_plans();
@@ -803,6 +1042,7 @@ static void *run(void *unused) {
     largest_feeder(0);
     largest_feeder(1);
     other_largest_feeders();
+    own_loops();
     return NULL;
 }
 
@@ -812,6 +1052,7 @@ int main(void) {
     expect(sizeof(struct feeder_answer) == 16, "the answer has 16 bytes");
     expect(sizeof(struct feeder_solved) == 32, "a search's answer has 32 bytes");
     expect(FEEDER_FRAMES_LENGTH == 27436, "room for every text");
+    expect(FEEDER_TEXT_LENGTH == 7483, "room for every answer");
     expect(FEEDER_MOVES_LENGTH == 4590, "room for every move");
     expect(FEEDER_LONGEST_RECORDS == 13077, "the records of the longest text");
     if (pthread_attr_init(&attributes) != 0 || pthread_attr_setstacksize(&attributes, FEEDER_STACK) != 0

@@ -37,6 +37,7 @@ impl PartialEq for Solved {
 
 extern "C" {
     fn feeder_radiality(text: *const u8, text_length: usize, state: *const u8, state_length: usize) -> Answer;
+    fn feeder_form(text: *const u8, text_length: usize, state: *const u8, state_length: usize) -> Answer;
     fn feeder_loss(text: *const u8, text_length: usize, state: *const u8, state_length: usize) -> Answer;
     fn feeder_plan(
         text: *const u8,
@@ -81,6 +82,10 @@ extern "C" {
 
 pub fn radiality(text: &[u8], state: &[u8]) -> Answer {
     unsafe { feeder_radiality(text.as_ptr(), text.len(), state.as_ptr(), state.len()) }
+}
+
+pub fn form(text: &[u8], state: &[u8]) -> Answer {
+    unsafe { feeder_form(text.as_ptr(), text.len(), state.as_ptr(), state.len()) }
 }
 
 pub fn loss(text: &[u8], state: &[u8]) -> Answer {

@@ -12,6 +12,8 @@ mod feeder;
 #[path = "../timing/feeders.rs"]
 mod feeders;
 mod cut;
+#[path = "../oracle/src/forms.rs"]
+mod forms;
 mod library;
 #[path = "../oracle/src/limits.rs"]
 mod limits;
@@ -35,6 +37,7 @@ use feeder::Feeder;
 use library::{Answer, Solved};
 use random::Random;
 use states::OPERATION_LENGTH;
+use reckoning::form::{form, line, number, with_form, Form, ANSWER_LENGTH};
 use reckoning::plan::{lines, plan, radial, well_formed};
 use reckoning::searches::{operations, Searches};
 use reckoning::{reader, Network, Refusal};
@@ -45,7 +48,7 @@ use std::process::ExitCode;
 const CASES: usize = 4000;
 const FED_CASES: usize = 4000;
 const RECORDS_CASES: usize = 6000;
-const ANSWER_LENGTH: usize = 59;
+const FORM_LENGTH: usize = 11;
 const GUARD: u8 = 0xAA;
 const MARGIN: usize = 16;
 const MAX_BUSES: usize = 256;
@@ -53,7 +56,7 @@ const MAX_SWITCHES: usize = 512;
 const FRAMES_LENGTH: usize = 27436;
 const PAIR_LENGTH: usize = 11;
 const MOVES_LENGTH: usize = 2 * (MAX_BUSES - 1) * OPERATION_LENGTH;
-const TEXT_LENGTH: usize = ANSWER_LENGTH + MAX_SWITCHES * OPERATION_LENGTH + (MAX_BUSES - 1) * PAIR_LENGTH;
+const TEXT_LENGTH: usize = ANSWER_LENGTH + FORM_LENGTH + MAX_SWITCHES * OPERATION_LENGTH + (MAX_BUSES - 1) * PAIR_LENGTH;
 
 /// The calls, and the refusals that each can answer.
 const OF_A_TEXT: [u8; 12] = [1, 2, 3, 4, 5, 6, 7, 8, 9, 14, 15, 13];
@@ -63,8 +66,9 @@ const OF_TWO_STATES: [u8; 13] = [1, 2, 3, 4, 5, 6, 7, 8, 9, 14, 15, 10, 13];
 const OF_A_PLAN: [u8; 15] = [1, 2, 3, 4, 5, 6, 7, 8, 9, 14, 15, 10, 11, 12, 13];
 const OF_A_CUT: [u8; 16] = [1, 2, 3, 4, 5, 6, 7, 8, 9, 14, 15, 10, 11, 12, 16, 13];
 const OF_RECORDS: [u8; 11] = [2, 3, 4, 5, 6, 7, 8, 9, 14, 15, 13];
-const CALLS: [(&str, &[u8]); 9] = [
+const CALLS: [(&str, &[u8]); 10] = [
     ("radiality", &OF_A_STATE),
+    ("form", &OF_A_STATE),
     ("loss", &OF_A_LOSS),
     ("plan", &OF_A_PLAN),
     ("resume", &OF_A_CUT),
@@ -75,16 +79,25 @@ const CALLS: [(&str, &[u8]); 9] = [
     ("write", &OF_RECORDS),
 ];
 
+/// What a state can be; each is to be answered, and to be printed of a best state.
+const FORMS: [&str; 4] = ["a tree", "a loop, no islands", "a loop and islands", "islands, no loop"];
+
 #[derive(Default)]
 struct Checks {
     count: usize,
     refused: BTreeMap<(&'static str, u8), usize>,
+    formed: BTreeMap<(&'static str, &'static str), usize>,
 }
 
 impl Checks {
-    /// Whether each refusal that can come was met.
+    /// Whether each refusal that can come was met, and each form.
     fn all_met(&self) -> bool {
         let mut all_met = true;
+        for call in ["form", "answer"] {
+            let counts = FORMS.map(|kind| self.formed.get(&(call, kind)).copied().unwrap_or(0));
+            println!("interface: Rust: {call}: {FORMS:?}: {counts:?}");
+            all_met &= counts.iter().all(|&count| count > 0);
+        }
         for (call, numbers) in CALLS {
             let times = |&number: &u8| self.refused.get(&(call, number)).copied().unwrap_or(0);
             let counts: Vec<usize> = numbers.iter().map(times).collect();
@@ -98,6 +111,7 @@ impl Checks {
 fn main() -> ExitCode {
     let mut checks = Checks::default();
     let good = timed_feeders(&mut checks)
+        && forms::named().iter().all(|named| named_form(&mut checks, named))
         && (0..CASES).all(|number| any_case(&mut checks, number))
         && (0..FED_CASES).all(|number| any_fed_case(&mut checks, number))
         && written_feeders(&mut checks)
@@ -105,7 +119,7 @@ fn main() -> ExitCode {
         && (0..RECORDS_CASES).all(|number| any_records(&mut checks, number));
     let all_met = checks.all_met();
     if !all_met {
-        println!("interface: Rust: a refusal was never met");
+        println!("interface: Rust: a refusal or a form was never met");
     }
     println!("interface: Rust: {} answers, {}", checks.count, if good { "0 wrong" } else { "1 wrong" });
     if good && all_met { ExitCode::SUCCESS } else { ExitCode::FAILURE }
@@ -118,7 +132,7 @@ fn fed(feeder: &Feeder) -> [Feeder; 3] {
 }
 
 /// The triangle, 33 buses and the largest feeder, without a supply and with one, forward and back, with room for the plan, and one byte less; the plan is cut off
-/// at every count, with a supply at every seventh.
+/// at every count, with a supply at every seventh. Also states that are no tree: with the first so many switches closed, and with those alone open.
 fn timed_feeders(checks: &mut Checks) -> bool {
     feeders::all().iter().all(|timed| fed(&timed.feeder)[..2].iter().all(|feeder| {
         let text = feeder.text();
@@ -126,7 +140,11 @@ fn timed_feeders(checks: &mut Checks) -> bool {
         let (a, b) = (&timed.first[..], &timed.second[..]);
         let room = PAIR_LENGTH * plan(&network, a, b, usize::MAX).expect("two radial states").len();
         let list = operations(&network, a, b).len();
+        let switches = network.switches.len();
+        let first = |count: usize, byte: u8| (0..switches).map(|k| if k < count { byte } else { 1 - byte }).collect::<Vec<u8>>();
+        let mut others = (0..=switches).step_by(1 + switches / 16).flat_map(|count| [first(count, 0), first(count, 1)]);
         [a, b].iter().all(|state| state_answers(checks, &text, state))
+            && others.all(|state| state_answers(checks, &text, &state))
             && [room, room - 1].iter().all(|&room| plan_answer(checks, &text, a, b, room) && plan_answer(checks, &text, b, a, room))
             && [list, list - 1].iter().all(|&room| operations_answer(checks, &text, a, b, room))
             && [(a, b), (b, a)].iter().all(|(a, b)| cut_everywhere(checks, &text, a, b, if feeder.supply.is_none() { 1 } else { 7 }))
@@ -166,6 +184,9 @@ fn answers_on(checks: &mut Checks, random: &mut Random, feeder: Feeder, text: Ve
 /// The calls on a text alone: with room for every answer, in a slice that is exactly full, and one byte less.
 fn text_answers(checks: &mut Checks, text: &[u8]) -> bool {
     let answered = reader::read(text).map(|network| answers(&network));
+    if let Ok(answers) = &answered {
+        *checks.formed.entry(("answer", answers.form.name())).or_default() += 1;
+    }
     let printed = answered.clone().map(|answers| (answers.printed.len() as u64, answers.printed));
     let base = answered.clone().map(|answers| (answers.base.len() as u64, answers.base));
     let solved = answered.map(|answers| (answers.solved, answers.best));
@@ -195,10 +216,11 @@ struct Answers {
     base: Vec<u8>,
     best: Vec<u8>,
     solved: Solved,
+    form: Form,
     printed: Vec<u8>,
 }
 
-/// The values of the 81 line, and what is printed: the 81 and 82 lines and, from a radial base, the 83 lines.
+/// The values of the 81 line, the best state's form, and what is printed: the 81, 84 and 82 lines and, from a radial base, the 83 lines.
 fn answers(network: &Network) -> Answers {
     let (base, searches) = (network.base(), Searches::new(network, None));
     let answer = searches.solve();
@@ -212,12 +234,14 @@ fn answers(network: &Network) -> Answers {
         best_loss: answer.best_loss,
         reduction: answer.reduction,
     };
+    let form = form(network, &network.live(&answer.best));
     let mut printed = searches.lines(&answer);
+    printed = with_form(&printed, form.fields());
     if radial(network, &network.live(&base)) {
         let pairs = plan(network, &base, &answer.best, usize::MAX).expect("from a radial base only refusal 13 can come");
         printed += &lines(network, &pairs);
     }
-    Answers { base, best: answer.best, solved, printed: printed.into_bytes() }
+    Answers { base, best: answer.best, solved, form, printed: printed.into_bytes() }
 }
 
 /// The timed feeders' records: their text, cut off at every length (the largest at some), and behind them records without end.
@@ -279,11 +303,36 @@ fn state_answers(checks: &mut Checks, text: &[u8], state: &[u8]) -> bool {
         _ => Ok(Searches::new(network, None).loss(state).to_bits()),
     };
     compare(checks, "radiality", text, on_state(text, state, is_radial), numbers, library::radiality(text, state))
+        && form_answer(checks, text, state)
         && compare(checks, "loss", text, on_state(text, state, loss), numbers, library::loss(text, state))
 }
 
+/// The form; radiality is refused alike, and is 1 exactly where it is a tree.
+fn form_answer(checks: &mut Checks, text: &[u8], state: &[u8]) -> bool {
+    let form = on_state(text, state, |network| Ok(form(network, &network.live(state))));
+    if let Ok(form) = form {
+        *checks.formed.entry(("form", form.name())).or_default() += 1;
+    }
+    let is_tree = form.map(|form| (form == Form::Tree) as u64);
+    compare(checks, "form", text, form.map(|form| number(form.fields()).into()), numbers, library::form(text, state))
+        && compare(checks, "radiality", text, is_tree, numbers, library::radiality(text, state))
+}
+
+/// The lines that the answer's 84 line is among: as told by hand, of the best state.
+fn named_form(checks: &mut Checks, (name, feeder, fields): &forms::Named) -> bool {
+    let text = feeder.text();
+    let mut out = vec![0; TEXT_LENGTH];
+    library::answer_text(&text, &mut out);
+    checks.count += 1;
+    let same = out[ANSWER_LENGTH..].starts_with(line(*fields).as_bytes());
+    if !same {
+        println!("interface: Rust: {name}: another 84 line");
+    }
+    same
+}
+
 /// What is answered on a state of a text's network: 10 comes before what the call has of its own.
-fn on_state(text: &[u8], state: &[u8], answer: impl Fn(&Network) -> Result<u64, Refusal>) -> Result<u64, Refusal> {
+fn on_state<V>(text: &[u8], state: &[u8], answer: impl Fn(&Network) -> Result<V, Refusal>) -> Result<V, Refusal> {
     let network = reader::read(text)?;
     if well_formed(&network, state) { answer(&network) } else { Err(Refusal { number: 10, place: 0 }) }
 }
@@ -296,15 +345,19 @@ fn plan_answer(checks: &mut Checks, text: &[u8], present: &[u8], wanted: &[u8], 
     lent(checks, "plan", text, room, expected, numbers, |out| library::plan(text, present, wanted, out))
 }
 
-/// At counts of the plan and above it, in slices that are exactly full; at each seventh also with room for all moves, and with one byte less in either slice.
+/// At counts of the plan and above it, in slices that are exactly full; at each seventh also with room for all moves, with one byte less in either slice, and the form of the
+/// state there: a tree, or the loop that a closing makes.
 fn cut_everywhere(checks: &mut Checks, text: &[u8], present: &[u8], wanted: &[u8], step: usize) -> bool {
     let plan = cut::Plan::of(text, present, wanted);
     let length = plan.as_ref().map_or(0, |plan| plan.moves.len());
     (0..length).step_by(step).chain([length, length + 1]).all(|count| {
         let (left, undone) = (OPERATION_LENGTH * length.saturating_sub(count), OPERATION_LENGTH * count);
         let others = [(MOVES_LENGTH, MOVES_LENGTH), (left.saturating_sub(1), undone), (left, undone.saturating_sub(1))];
+        let state = plan.as_ref().ok().and_then(|plan| plan.state(count));
         cut_answer(checks, text, &plan, count as u64, (left, undone))
-            && (count % 7 != 0 || others.iter().all(|&rooms| cut_answer(checks, text, &plan, count as u64, rooms)))
+            && (count % 7 != 0
+                || (others.iter().all(|&rooms| cut_answer(checks, text, &plan, count as u64, rooms))
+                    && state.map_or(true, |state| form_answer(checks, text, state))))
     })
 }
 

@@ -38,7 +38,20 @@ static size_t text_length, records_length, switches;
 static uint8_t records[LONGEST], present[FEEDER_MAX_SWITCHES], wanted[FEEDER_MAX_SWITCHES], out[FEEDER_FRAMES_LENGTH], back[FEEDER_MOVES_LENGTH];
 static volatile uint8_t number;
 
-static void ask_radiality(void) { number = feeder_radiality(text, text_length, present, switches).number; }
+/* The base, and the states in which a loop or islands are most likely: only a state that is no tree has its pieces counted. */
+static const uint8_t all_closed[FEEDER_MAX_SWITCHES];
+static uint8_t all_open[FEEDER_MAX_SWITCHES];
+static const uint8_t *const states[] = {present, all_closed, all_open};
+enum { STATES = sizeof states / sizeof states[0] };
+
+static void ask_radiality(void) {
+    for (size_t k = 0; k < STATES; k++)
+        number = feeder_radiality(text, text_length, states[k], switches).number;
+}
+static void ask_form(void) {
+    for (size_t k = 0; k < STATES; k++)
+        number = feeder_form(text, text_length, states[k], switches).number;
+}
 static void ask_loss(void) { number = feeder_loss(text, text_length, wanted, switches).number; }
 static void ask_plan(void) { number = feeder_plan(text, text_length, present, switches, wanted, switches, out, sizeof out).number; }
 /* with no move done, and with as many as a plan has that is a pair or more */
@@ -62,6 +75,7 @@ struct call {
 
 static const struct call calls[] = {
     {"FEEDER_RADIALITY_STACK", ask_radiality, FEEDER_RADIALITY_STACK},
+    {"FEEDER_FORM_STACK", ask_form, FEEDER_FORM_STACK},
     {"FEEDER_LOSS_STACK", ask_loss, FEEDER_LOSS_STACK},
     {"FEEDER_PLAN_STACK", ask_plan, FEEDER_PLAN_STACK},
     {"FEEDER_RESUME_STACK", ask_resume, FEEDER_RESUME_STACK},
@@ -255,6 +269,7 @@ int main(int words, char **word) {
         return 1;
     struct entry *entries = read_list(word[1], &count);
     feed_all(entries, &count);
+    memset(all_open, 1, sizeof all_open);
     make_stack();
     setrlimit(RLIMIT_CORE, &no_core);
     setvbuf(stdout, NULL, _IOLBF, 0);

@@ -1,5 +1,5 @@
 //! The feeders that are timed: document 01's triangle, one of 33 buses, and chains up to the largest feeder there may be. Each has two radial states,
-//! the first of them its base.
+//! the first of them its base, but for the one with every branch live.
 
 use crate::feeder::{triangle, Feeder, OPERABLE, TIE};
 
@@ -12,6 +12,14 @@ pub struct Timed {
 
 pub fn all() -> Vec<Timed> {
     vec![small(), middle(), chains("64 buses", 64), chains("128 buses", 128), full(), colliding()]
+}
+
+/// The largest feeder with every branch live: the most that labels are merged and branches looked at. The Rust, which tells neither branch nor islands, stops at
+/// the number of branches. The two states are the same: there is no other.
+pub fn all_live() -> Timed {
+    let full = full();
+    let closed = vec![0; full.first.len()];
+    Timed { name: "256 buses, 512 live branches", first: closed.clone(), second: closed, ..full }
 }
 
 /// Those whose plans are cut off.

@@ -19,6 +19,7 @@ use driver::Original;
 use feeder::Feeder;
 use feeders::Timed;
 use original::network::reconfiguration::{verify_radiality, NetworkConfiguration};
+use reckoning::form;
 use std::hint::black_box;
 use std::process::ExitCode;
 use std::time::{Duration, Instant};
@@ -30,6 +31,9 @@ const LOSS: u8 = 2;
 const PLAN: u8 = 3;
 const SEARCH: u8 = 4;
 const WRITING: u8 = 5;
+
+/// What a radial state counts for; another counts for its islands and its branch, as one number.
+const TREE: u64 = 65_535;
 
 /// Bytes that are enough for the moves of every plan, and for its pairs.
 const MOVES_LENGTH: usize = 4590;
@@ -114,6 +118,7 @@ fn main() -> ExitCode {
     for timed in &timed {
         row("radiality of a state", timed, Some(Rust::radiality), RADIALITY);
     }
+    row("radiality of a state", &feeders::all_live(), Some(Rust::radiality), RADIALITY);
     for timed in &timed {
         row("loss of a state", timed, Some(Rust::loss), LOSS);
     }
@@ -202,13 +207,24 @@ fn row(call: &str, timed: &Timed, rust: Option<fn(&Rust, u64) -> u64>, kind: u8)
         None => (None, ours.least(None::<Sampled<fn(u64) -> u64>>).0),
         Some(rust) => {
             let rounds = |times| rust(&side, times);
-            assert_eq!(rounds(2), (ours.rounds)(2), "{call}, {}: the two answer differently", timed.name);
+            let answers = if kind == RADIALITY { radial(timed, &text) } else { (ours.rounds)(2) };
+            assert_eq!(rounds(2), answers, "{call}, {}: the two answer differently", timed.name);
             let (ours, theirs) = ours.least(Some(Sampled::new(rounds)));
             (theirs, ours)
         }
     };
     let ratio = theirs.map_or(String::new(), |theirs| format!("{:.1}", theirs / ours));
     println!("| {call} | {} | {} | {} | {ratio} |", timed.name, theirs.map_or("none".to_string(), shown), shown(ours));
+}
+
+/// How many of the two states are trees, which is all that the Rust tells: their forms are held to the reckoning's.
+fn radial(timed: &Timed, text: &[u8]) -> u64 {
+    let network = reckoning::reader::read(text).expect("the feeder is acceptable");
+    let states = [&timed.first, &timed.second];
+    let answered = states.map(|state| rattle(RADIALITY, text, state, state, 1));
+    let reckoned = states.map(|state| form::number(form::form(&network, &network.live(state)).fields()).into());
+    assert_eq!(answered, reckoned, "{}: the form is not the reckoning's", timed.name);
+    answered.iter().filter(|&&answer| answer == TREE).count() as u64
 }
 
 /// Rounds of a call, and how many of them take long enough to be timed.

@@ -17,7 +17,7 @@ use Rattle.states.specs.Live.{baseState, checkState}
 use Rattle.states.specs.Listed.{state-accepted, switches-listed, few-switches}
 use Rattle.slices.specs.Written.{written}
 use Rattle.slices.specs.WrittenLaws.{written-sets, take-written, sets-append, sets-part}
-use Rattle.printing.specs.Lengths.{answerLength, operationLength, pairLength, operationsLength, planLength}
+use Rattle.printing.specs.Lengths.{resultLength, operationLength, pairLength, operationsLength, planLength}
 use Rattle.printing.specs.Calls.{Call, called}
 use Rattle.printing.specs.CallLaws.{call-refused, call-short, call-done, call-is}
 use Rattle.network.specs.Check.{checkRecords}
@@ -40,9 +40,9 @@ use Rattle.searches.specs.Results.{Result, resultBy, solvedBy, resultOf, solveA
 use Rattle.reconfiguration.specs.Solve.{result, best, solved}
 use Rattle.operations.specs.Operations.{operations, operationsText, operationsCall, operationsAnswerOf}
 use Rattle.operations.specs.OperationLines as Operations
-use Rattle.answers.specs.Printing.{resultText, operationLines, planLines, moveLines, networkText}
+use Rattle.answers.specs.Printing.{resultLines, operationLines, planLines, moveLines, networkText}
 use Rattle.answers.specs.PrintingValues.{HasBits}
-use Rattle.answers.specs.PrintingLaws.{length-result, operations-short, plan-short, base-bits, best-bits, reduction-bits}
+use Rattle.answers.specs.PrintingLaws.{length-result-lines, operations-short, plan-short, base-bits, best-bits, reduction-bits}
 
 -- ---- accepted calls
 -- the bytes of the lines that are answered
@@ -138,40 +138,40 @@ result-bits N ok e = (
 )
 
 -- ---- one behind the other
--- lines behind the 81 line keep the length
-pub moves-room : (l operations : List ℕ) → answerLength + length operations ≤ length l → {part : List ℕ} → part ≡ written operations (take (length l - answerLength) (drop answerLength l))
-    → length (putMid answerLength (length l - answerLength) l part) ≡ length l
-moves-room l operations room p = ap length (sets-part l answerLength operations (p ∙ written-sets operations _ (rw part-rest (omega (arith, length-drop answerLength l))))) ∙ length-sets l answerLength operations
+-- lines behind those on the best state keep the length
+pub moves-room : (l operations : List ℕ) → resultLength + length operations ≤ length l → {part : List ℕ} → part ≡ written operations (take (length l - resultLength) (drop resultLength l))
+    → length (putMid resultLength (length l - resultLength) l part) ≡ length l
+moves-room l operations room p = ap length (sets-part l resultLength operations (p ∙ written-sets operations _ (rw part-rest (omega (arith, length-drop resultLength l))))) ∙ length-sets l resultLength operations
 
-pub moves-stored : (l operations plans : List ℕ) (m : ℕ) → length operations ≡ m → answerLength + m + length plans ≤ length l
-    → {part : List ℕ} → part ≡ written operations (take (length l - answerLength) (drop answerLength l))
-    → {rest : List ℕ} → rest ≡ written plans (take (length (putMid answerLength (length l - answerLength) l part) - (answerLength + m)) (drop (answerLength + m) (putMid answerLength (length l - answerLength) l part)))
-    → putMid (answerLength + m) (length (putMid answerLength (length l - answerLength) l part) - (answerLength + m)) (putMid answerLength (length l - answerLength) l part) rest ≡ sets l answerLength (operations ++ plans)
+pub moves-stored : (l operations plans : List ℕ) (m : ℕ) → length operations ≡ m → resultLength + m + length plans ≤ length l
+    → {part : List ℕ} → part ≡ written operations (take (length l - resultLength) (drop resultLength l))
+    → {rest : List ℕ} → rest ≡ written plans (take (length (putMid resultLength (length l - resultLength) l part) - (resultLength + m)) (drop (resultLength + m) (putMid resultLength (length l - resultLength) l part)))
+    → putMid (resultLength + m) (length (putMid resultLength (length l - resultLength) l part) - (resultLength + m)) (putMid resultLength (length l - resultLength) l part) rest ≡ sets l resultLength (operations ++ plans)
 moves-stored l operations plans m e room p q =
-    let first = sets-part l answerLength operations (p ∙ written-sets operations _ (rw part-rest (omega (arith, length-drop answerLength l)))) in
-    let same = length-sets l answerLength operations in
-    let behind : length plans ≤ length (take (length (sets l answerLength operations) - (answerLength + m)) (drop (answerLength + m) (sets l answerLength operations))) = rw part-rest (omega (arith, length-drop (answerLength + m) (sets l answerLength operations))) in
+    let first = sets-part l resultLength operations (p ∙ written-sets operations _ (rw part-rest (omega (arith, length-drop resultLength l)))) in
+    let same = length-sets l resultLength operations in
+    let behind : length plans ≤ length (take (length (sets l resultLength operations) - (resultLength + m)) (drop (resultLength + m) (sets l resultLength operations))) = rw part-rest (omega (arith, length-drop (resultLength + m) (sets l resultLength operations))) in
     let part = rw first at q in
-    let second = sets-part (sets l answerLength operations) (answerLength + m) plans (part ∙ written-sets plans _ behind) in
-    let all : sets (sets l answerLength operations) (answerLength + m) plans ≡ sets l answerLength (operations ++ plans) = rw (← e) (sets-append l answerLength operations plans) in
+    let second = sets-part (sets l resultLength operations) (resultLength + m) plans (part ∙ written-sets plans _ behind) in
+    let all : sets (sets l resultLength operations) (resultLength + m) plans ≡ sets l resultLength (operations ++ plans) = rw (← e) (sets-append l resultLength operations plans) in
     rw first (second ∙ all)
 
--- as many bytes as the 81 line, the operations and the plan have
-pub moves-long : (N : Network) {m k : ℕ} → m ≡ length (operationLines N) → k ≡ length (planLines N) → answerLength + m + k ≡ answerLength + length (moveLines N)
+-- as many bytes as the lines on the best state, the operations and the plan have
+pub moves-long : (N : Network) {m k : ℕ} → m ≡ length (operationLines N) → k ≡ length (planLines N) → resultLength + m + k ≡ resultLength + length (moveLines N)
 unfolding moveLines
 moves-long N e f = simp length-append (omega arith)
 
-pub network-long : (N : Network) → answerLength + length (moveLines N) ≡ length (networkText N)
+pub network-long : (N : Network) → resultLength + length (moveLines N) ≡ length (networkText N)
 unfolding networkText
-network-long N = sym (length-append (resultText (result N)) (moveLines N) ∙ ap (λ (k : ℕ). k + length (moveLines N)) (length-result (result N)))
+network-long N = sym (length-append (resultLines (result N)) (moveLines N) ∙ ap (λ (k : ℕ). k + length (moveLines N)) (length-result-lines (result N)))
 
-pub lines-stored : (l : List ℕ) (r : Result) (moves : List ℕ) → length (resultText r ++ moves) ≤ length l
-    → {front : List ℕ} → front ≡ written (resultText r) l → {after : List ℕ} → after ≡ sets front answerLength moves → after ≡ written (resultText r ++ moves) l
+pub lines-stored : (l : List ℕ) (r : Result) (moves : List ℕ) → length (resultLines r ++ moves) ≤ length l
+    → {front : List ℕ} → front ≡ written (resultLines r) l → {after : List ℕ} → after ≡ sets front resultLength moves → after ≡ written (resultLines r ++ moves) l
 lines-stored l r moves room f a =
-    let long = length-result r in
-    let both = length-append (resultText r) moves in
-    let stored = sets-append l 0 (resultText r) moves in
-    a ∙ rw (f, written-sets (resultText r) l (omega arith)) (rw (zero-add, long) at stored) ∙ sym (written-sets (resultText r ++ moves) l room)
+    let long = length-result-lines r in
+    let both = length-append (resultLines r) moves in
+    let stored = sets-append l 0 (resultLines r) moves in
+    a ∙ rw (f, written-sets (resultLines r) l (omega arith)) (rw (zero-add, long) at stored) ∙ sym (written-sets (resultLines r ++ moves) l room)
 
 -- ---- the call
 module _ (N : Network) (out : List ℕ) {n : ℕ} (long : n ≡ length (networkText N)) where

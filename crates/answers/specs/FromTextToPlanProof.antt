@@ -4,7 +4,7 @@
 use mathlib.Core.Path.{_≡_, refl, sym, ap, ap₂, subst, _∙_}
 use mathlib.Core.Logic.{_≢_}
 use mathlib.Core.Bool.{Bool, true, false, not, cond}
-use mathlib.Core.List.{List, [], _∷_, _++_, map, flatMap, append-nil, List·Memᴰ, Memᴰ·cast, Memᴰ·map, Memᴰ·of-map}
+use mathlib.Core.List.{List, [], _∷_, _++_, map, flatMap, append-nil, append-assoc, List·Memᴰ, Memᴰ·cast, Memᴰ·map, Memᴰ·of-map}
 use Prim.Native.Nat.{ℕ, zero, suc, _≤_, _<_}
 use native.Mathlib.Omega.{arith}
 use lib.Dec.{eqb, lit<}
@@ -21,6 +21,9 @@ use Rattle.network.specs.AnswerLaws.{no-refusal}
 use Rattle.network.specs.Inside.{Each}
 use Rattle.network.specs.EachLaws.{each-anywhere, each-if, each-made, map-kept}
 use Rattle.states.specs.Switches.{State, byte, size, switch, GoodState}
+use Rattle.graph.specs.declared.form.Form.{Form}
+use Rattle.graph.specs.declared.form.FormFields.{FormFields}
+use Rattle.graph.specs.Form.{isTree, islandsField, branchField, fieldsOf}
 use Rattle.lines.specs.Hex.{Fields}
 use Rattle.lines.specs.Lines.{Line, cut}
 use Rattle.frames.specs.Text.{readText}
@@ -31,24 +34,24 @@ use Rattle.frames.specs.Proof.{claim, passed}
 use Rattle.printing.specs.declared.writer.SwitchAction.{SwitchAction}
 use Rattle.printing.specs.declared.writer.SwitchAction.the-variants.{Open, Close}
 use Rattle.printing.specs.declared.writer.SwitchOperation.{SwitchOperation}
-use Rattle.printing.specs.Printed.{answer, answerFields, answerText, operation, operationFields, operationText, pair, pairFields, pairText}
+use Rattle.printing.specs.Printed.{answer, answerFields, answerText, formFrame, formFields, formText, operation, operationFields, operationText, pair, pairFields, pairText}
 use Rattle.printing.specs.CallLaws.{call-answered}
 use Rattle.feeders.specs.Supply.{checkNetwork}
 use Rattle.feeders.specs.SupplyLaws.{network-records}
 use Rattle.feeders.specs.Feeder.{radialIn}
-use Rattle.feeders.specs.FeederLaws.{radial-in-tree}
+use Rattle.feeders.specs.FeederLaws.{radial-in-tree, form-in-says, form-in-small}
 use Rattle.plan.specs.Plan.{pairs, Moves, movesOf, switchOn, plan, planText}
 use Rattle.states.specs.BaseLaws.{base-good}
-use Rattle.searches.specs.Results.{Result}
+use Rattle.searches.specs.Results.{Result, resultBy}
 use Rattle.reconfiguration.specs.Solve.{result}
 use Rattle.reconfiguration.specs.AnswersHavePlans.{best-good, solve-has-plan}
 use Rattle.operations.specs.Operations.{operationTo, operationOf, operations, operationsText}
 use Rattle.operations.specs.OperationValues.{differs}
 use Rattle.operations.specs.OperationLines.{by-position}
 use Rattle.answers.specs.declared.printer.TextAnswer.the-variants.{Printed}
-use Rattle.answers.specs.Printing.{resultText, operationLines, planLines, moveLines, networkText, printedOf, printed, answeredText, textAnswerOf}
-use Rattle.answers.specs.ReadBack.{ofKind, readOperation, operationsIn, readPair, pairsIn}
-use Rattle.answers.specs.ReadBackLaws.{own-kind, other-kind, answer-kind, operation-kind, pair-kind, operation-kept, pair-kept}
+use Rattle.answers.specs.Printing.{resultText, resultLines, operationLines, planLines, moveLines, networkText, printedOf, printed, answeredText, textAnswerOf}
+use Rattle.answers.specs.ReadBack.{ofKind, readForm, formsIn, readOperation, operationsIn, readPair, pairsIn}
+use Rattle.answers.specs.ReadBackLaws.{own-kind, other-kind, answer-kind, form-kind, operation-kind, pair-kind, form-kept, operation-kept, pair-kept}
 use Rattle.answers.specs.Full.{always-printed}
 use Rattle.answers.specs.FromTextToPlan.{Done, base, wanted, FromTextToPlan, MainStatement}
 
@@ -72,10 +75,13 @@ text-has-records text out after n e = go (readText text) refl (call-answered _ _
 
 -- ---- the lines of a feeder's text
 abbrev resultFields : Result → Fields (answer .widths)
-resultFields r = answerFields (r .radial) (toBits binary64 (r .base-loss)) (toBits binary64 (r .best-loss)) (toBits binary64 (r .reduction)) (r .iterations) (r .converged)
+resultFields r = answerFields (isTree (r .form)) (toBits binary64 (r .base-loss)) (toBits binary64 (r .best-loss)) (toBits binary64 (r .reduction)) (r .iterations) (r .converged)
 
 abbrev answerLine : Result → Line
 answerLine r = lineOf answer (resultFields r)
+
+abbrev formLine : Form → Line
+formLine f = lineOf formFrame (formFields f)
 
 abbrev operationLine : SwitchOperation → Line
 operationLine o = lineOf operation (operationFields o)
@@ -87,9 +93,9 @@ pairLine m = lineOf pair (pairFields (m .closes) (m .opens))
 abbrev Named : Moves → Type 0
 Named m = Short (m .closes) × Short (m .opens)
 
--- the 81 line, the 82 lines and the 83 lines
+-- the 81 line, the 84 line, the 82 lines and the 83 lines
 linesText : Result → List SwitchOperation → List Moves → List ℕ
-linesText r os ms = resultText r ++ (operationsText os ++ planText ms)
+linesText r os ms = resultLines r ++ (operationsText os ++ planText ms)
 
 module _ (r : Result) (os : List SwitchOperation) (ms : List Moves) where
   abbrev lines83 : List Line
@@ -98,30 +104,49 @@ module _ (r : Result) (os : List SwitchOperation) (ms : List Moves) where
   abbrev lines82 : List Line
   lines82 = map operationLine os ++ lines83
 
-  lines-cut : cut (linesText r os ms) ≡ map answerLine (r ∷ []) ++ lines82
-  unfolding linesText resultText answerText operationsText operationText planText pairText cut
+  abbrev lines84 : List Line
+  lines84 = map formLine (r .form ∷ []) ++ lines82
+
+  lines-cut : cut (linesText r os ms) ≡ map answerLine (r ∷ []) ++ lines84
+  unfolding linesText resultLines resultText answerText formText operationsText operationText planText pairText cut
   lines-cut =
-      cut-frame answer (resultFields r) (operationsText os ++ planText ms)
+      ap cut (append-assoc (resultText r) (formText (r .form)) (operationsText os ++ planText ms))
+      ∙ cut-frame answer (resultFields r) (formText (r .form) ++ (operationsText os ++ planText ms))
       ∙ ap (λ (ls : List Line). answerLine r ∷ ls)
+      (cut-frame formFrame (formFields (r .form)) (operationsText os ++ planText ms)
+      ∙ ap (λ (ls : List Line). formLine (r .form) ∷ ls)
       (cut-frames operation operationFields os (planText ms)
-      ∙ ap (λ (ls : List Line). map operationLine os ++ ls) (ap cut (sym (append-nil (planText ms))) ∙ cut-frames pair (λ (m : Moves). pairFields (m .closes) (m .opens)) ms []))
+      ∙ ap (λ (ls : List Line). map operationLine os ++ ls) (ap cut (sym (append-nil (planText ms))) ∙ cut-frames pair (λ (m : Moves). pairFields (m .closes) (m .opens)) ms [])))
 
   -- ---- read back
   pairs-back : Each Named ms → pairsIn (linesText r os ms) ≡ ms
   unfolding pairsIn ofKind
   pairs-back named =
       ap (ofKind 0x83 readPair) lines-cut
-      ∙ other-kind 0x83 readPair answerLine (λ x e. omega (arith, answer-kind (resultFields x))) (r ∷ []) lines82
+      ∙ other-kind 0x83 readPair answerLine (λ x e. omega (arith, answer-kind (resultFields x))) (r ∷ []) lines84
+      ∙ other-kind 0x83 readPair formLine (λ f e. omega (arith, form-kind (formFields f))) (r .form ∷ []) lines82
       ∙ other-kind 0x83 readPair operationLine (λ o e. omega (arith, operation-kind (operationFields o))) os lines83
       ∙ own-kind 0x83 readPair pairLine (λ m. pair-kind (pairFields (m .closes) (m .opens))) ms []
       ∙ append-nil _
       ∙ map-kept Named (λ m. readPair (pairLine m .chars)) pair-kept ms named
 
+  form-back : Short (islandsField (r .form)) × Short (branchField (r .form)) → formsIn (linesText r os ms) ≡ fieldsOf (r .form) ∷ []
+  unfolding formsIn ofKind
+  form-back short =
+      ap (ofKind 0x84 readForm) lines-cut
+      ∙ other-kind 0x84 readForm answerLine (λ x e. omega (arith, answer-kind (resultFields x))) (r ∷ []) lines84
+      ∙ own-kind 0x84 readForm formLine (λ f. form-kind (formFields f)) (r .form ∷ []) lines82
+      ∙ ap (λ (l : List FormFields). readForm (formLine (r .form) .chars) ∷ l)
+      (other-kind 0x84 readForm operationLine (λ o e. omega (arith, operation-kind (operationFields o))) os lines83
+      ∙ other-kind 0x84 readForm pairLine (λ m e. omega (arith, pair-kind (pairFields (m .closes) (m .opens)))) ms [])
+      ∙ ap (λ (x : FormFields). x ∷ []) (form-kept (r .form) short)
+
   operations-back : Each (λ o. Short (o .«switch_id»)) os → operationsIn (linesText r os ms) ≡ os
   unfolding operationsIn ofKind
   operations-back named =
       ap (ofKind 0x82 readOperation) lines-cut
-      ∙ other-kind 0x82 readOperation answerLine (λ x e. omega (arith, answer-kind (resultFields x))) (r ∷ []) lines82
+      ∙ other-kind 0x82 readOperation answerLine (λ x e. omega (arith, answer-kind (resultFields x))) (r ∷ []) lines84
+      ∙ other-kind 0x82 readOperation formLine (λ f e. omega (arith, form-kind (formFields f))) (r .form ∷ []) lines82
       ∙ own-kind 0x82 readOperation operationLine (λ o. operation-kind (operationFields o)) os lines83
       ∙ ap (λ (l : List SwitchOperation). map (λ o. readOperation (operationLine o .chars)) os ++ l) (other-kind 0x82 readOperation pairLine (λ m e. omega (arith, pair-kind (pairFields (m .closes) (m .opens)))) ms [])
       ∙ append-nil _
@@ -175,7 +200,7 @@ module _ (N : Network) where
 
   network-lines : networkText N ≡ linesText (result N) (operations N (base N) (wanted N)) pairsPrinted
   unfolding networkText moveLines operationLines planLines linesText
-  network-lines = ap (λ (x : List ℕ). resultText (result N) ++ (operationsText (operations N (base N) (wanted N)) ++ x)) (go (radialIn N (base N)))
+  network-lines = ap (λ (x : List ℕ). resultLines (result N) ++ (operationsText (operations N (base N) (wanted N)) ++ x)) (go (radialIn N (base N)))
     where
       go : (b : Bool) → cond b (planText (plan N (base N) (wanted N))) [] ≡ planText (cond b (plan N (base N) (wanted N)) [])
       go true = refl
@@ -200,12 +225,18 @@ module _ (N : Network) where
     operations-read : operationsIn (networkText N) ≡ operations N (base N) (wanted N)
     operations-read = ap operationsIn network-lines ∙ operations-back (result N) (operations N (base N) (wanted N)) pairsPrinted operations-named
 
+    form-read : checkNetwork N ≡ accepted tt → formsIn (networkText N) ≡ fieldsOf (result N .form) ∷ []
+    unfolding result resultBy
+    form-read ok = ap formsIn network-lines ∙ form-back (result N) (operations N (base N) (wanted N)) pairsPrinted (form-in-small N (network-records N ok) (wanted N))
+
     network-read : checkNetwork N ≡ accepted tt → FromTextToPlan N (networkText N)
     network-read ok = record {
       pairs = λ r. pairs-read ∙ rw r;
       safe = solve-has-plan N ok;
       no-pairs = λ r. pairs-read ∙ rw r;
       radial = radial-in-tree N (network-records N ok) (base N);
+      form = unfold result resultBy in form-read ok;
+      meaning = form-in-says N (network-records N ok) (wanted N);
       moves = operations-read;
       in-order = operations-read ∙ by-position N (base N) (wanted N);
       moved = λ o. rw (operations-read, by-position N (base N) (wanted N)) (moved-so N (base N) (wanted N) (base-good N) (best-good N) o, moved-if N (base N) (wanted N) (base-good N) (best-good N) o);

@@ -19,7 +19,7 @@ use Rattle.frames.specs.Proof.{claim}
 use Rattle.printing.specs.Lengths.{operationLength, pairLength, movesLength, printedLength}
 use Rattle.printing.specs.CallLaws.{call-refused, in-full}
 use Rattle.graph.specs.Graph.{Tree}
-use Rattle.feeders.specs.Feeder.{feeder, LiveIn, radialIn}
+use Rattle.feeders.specs.Feeder.{feeder, LiveIn, formIn, radialIn}
 use Rattle.feeders.specs.FeederLaws.{radial-in-tree}
 use Rattle.feeders.specs.StateCalls.{onState}
 use Rattle.feeders.specs.Supplied.{Supplied}
@@ -55,6 +55,10 @@ module _ (N : Network) (inside : Inside N) (supplied : Supplied N) where
   answered s good a = rw (checked, state-accepted N s 0 .1 good)
 
   -- `verify_radiality`, of any state
+  pub form-in-full : (s : State) → GoodState N s → onState N s (formIn N s) ≡ accepted (formIn N s)
+  form-in-full s good = answered s good (formIn N s)
+
+  -- as its reading "radial or not"
   pub radiality-in-full : (s : State) → GoodState N s → onState N s (radialIn N s) ≡ accepted (radialIn N s)
   radiality-in-full s good = answered s good (radialIn N s)
 

@@ -1,4 +1,4 @@
--- What is printed for a text (document 01, section Triangle).
+-- What is printed for a text (document 01, section Triangle; the 84 line by document 02, point 5).
 use mathlib.Core.Bool.{cond}
 use mathlib.Core.List.{List, [], _++_}
 use Prim.Native.Nat.{ℕ}
@@ -9,7 +9,8 @@ use Rattle.network.specs.Answers.{Answer, accepted, refused}
 use Rattle.states.specs.Live.{baseState}
 use Rattle.frames.specs.Text.{readText}
 use Rattle.frames.specs.Conditions.{judgementOf}
-use Rattle.printing.specs.Printed.{answerText, refusalText}
+use Rattle.graph.specs.Form.{isTree}
+use Rattle.printing.specs.Printed.{answerText, formText, refusalText}
 use Rattle.printing.specs.Calls.{Call, called}
 use Rattle.feeders.specs.Feeder.{radialIn}
 use Rattle.plan.specs.Plan.{plan, planText}
@@ -21,7 +22,11 @@ use Rattle.answers.specs.declared.printer.TextAnswer.the-variants.{Print
 
 -- "81: radial byte of the best state, base loss, best loss, reduction percent, iterations (u16), converged"
 unfoldable pub resultText : Result → List ℕ
-resultText r = answerText (r .radial) (toBits binary64 (r .base-loss)) (toBits binary64 (r .best-loss)) (toBits binary64 (r .reduction)) (r .iterations) (r .converged)
+resultText r = answerText (isTree (r .form)) (toBits binary64 (r .base-loss)) (toBits binary64 (r .best-loss)) (toBits binary64 (r .reduction)) (r .iterations) (r .converged)
+
+-- "A frame 84 .. follows 81, for the best state"
+unfoldable pub resultLines : Result → List ℕ
+resultLines r = resultText r ++ formText (r .form)
 
 -- the 82 lines, from the base to the best state
 unfoldable pub operationLines : Network → List ℕ
@@ -31,12 +36,12 @@ operationLines N = operationsText (operations N (baseState N) (best N .state))
 unfoldable pub planLines : Network → List ℕ
 planLines N = cond (radialIn N (baseState N)) (planText (plan N (baseState N) (best N .state))) []
 
--- the lines behind the 81 line
+-- the lines behind the 81 line and the 84 line
 unfoldable pub moveLines : Network → List ℕ
 moveLines N = operationLines N ++ planLines N
 
 unfoldable pub networkText : Network → List ℕ
-networkText N = resultText (result N) ++ moveLines N
+networkText N = resultLines (result N) ++ moveLines N
 
 -- "A refusal prints one line"
 abbrev pub printedOf : Answer Network → List ℕ

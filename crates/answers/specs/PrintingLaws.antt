@@ -22,8 +22,8 @@ use Rattle.frames.specs.Conditions.{judgementOf}
 use Rattle.frames.specs.Proof.{claim, passed}
 use Rattle.printing.specs.Calls.{called}
 use Rattle.printing.specs.CallLaws.{call-refused, call-answered, in-full}
-use Rattle.printing.specs.LineTexts.{length-answer, length-refusal}
-use Rattle.printing.specs.Lengths.{answerLength, operationsLength, planLength, printedLength}
+use Rattle.printing.specs.LineTexts.{length-answer, length-form, length-refusal}
+use Rattle.printing.specs.Lengths.{answerLength, resultLength, operationsLength, planLength, printedLength}
 use Rattle.feeders.specs.Feeder.{radialIn}
 use Rattle.feeders.specs.Supply.{checkNetwork}
 use Rattle.feeders.specs.SupplyLaws.{network-records}
@@ -38,11 +38,15 @@ use Rattle.reconfiguration.specs.AnswersHavePlans.{solve-plan-accepted}
 use Rattle.operations.specs.Operations.{operations}
 use Rattle.operations.specs.OperationLines as Operations
 use Rattle.operations.specs.OperationValues.{differs}
-use Rattle.answers.specs.Printing.{resultText, operationLines, planLines, moveLines, networkText, printedOf, printed, answeredText, printedBy}
+use Rattle.answers.specs.Printing.{resultText, resultLines, operationLines, planLines, moveLines, networkText, printedOf, printed, answeredText, printedBy}
 
 pub length-result : (r : Result) → length (resultText r) ≡ answerLength
 unfolding resultText
 length-result r = length-answer _ _ _ _ _ _
+
+pub length-result-lines : (r : Result) → length (resultLines r) ≡ resultLength
+unfolding resultLines
+length-result-lines r = rw (length-append, length-result r, length-form (r .form))
 
 module _ (N : Network) (ok : checkRecords N ≡ accepted tt) where
   -- an operation for each switch at most
@@ -87,7 +91,7 @@ module _ (N : Network) (tested : checkNetwork N ≡ accepted tt) where
 
   pub network-short : length (networkText N) ≤ printedLength
   unfolding networkText moveLines
-  network-short = simp length-append (omega (arith, length-result (result N), operations-short N (network-records N tested), plan-short))
+  network-short = simp length-append (omega (arith, length-result-lines (result N), operations-short N (network-records N tested), plan-short))
 
 -- "A refusal prints one line", and `printedLength` bytes are enough for every text
 pub printed-short : (text : List ℕ) → length (printed text) ≤ printedLength

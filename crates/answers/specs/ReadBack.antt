@@ -6,6 +6,7 @@ use Prim.Native.Nat.{ℕ}
 use lib.Dec.{eqb}
 use Rattle.lines.specs.Hex.{numberAt}
 use Rattle.lines.specs.Lines.{Line, cut}
+use Rattle.graph.specs.declared.form.FormFields.{FormFields}
 use Rattle.printing.specs.declared.writer.SwitchAction.{SwitchAction}
 use Rattle.printing.specs.declared.writer.SwitchAction.the-variants.{Open, Close}
 use Rattle.printing.specs.declared.writer.SwitchOperation.{SwitchOperation}
@@ -19,6 +20,14 @@ kindOf l = numberAt 0 2 (l .chars)
 unfoldable pub ofKind : {A : Type 0} → ℕ → (List ℕ → A) → List Line → List A
 ofKind kind read [] = []
 ofKind kind read (l ∷ ls) = cond (eqb (kindOf l) kind) (read (l .chars) ∷ ofKind kind read ls) (ofKind kind read ls)
+
+-- ---- 84: "islands u16, then branch u16 or FFFF", four digits each behind the kind byte
+unfoldable pub readForm : List ℕ → FormFields
+readForm chars = record { islands = numberAt 2 4 chars; branch = numberAt 6 4 chars }
+
+-- what the 84 lines say
+unfoldable pub formsIn : List ℕ → List FormFields
+formsIn bytes = ofKind 0x84 readForm (cut bytes)
 
 -- ---- 82: "switch id, 00 open or 01 close", four digits and two behind the kind byte
 unfoldable pub readAction : ℕ → SwitchAction

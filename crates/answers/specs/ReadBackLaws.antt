@@ -11,14 +11,16 @@ use Rattle.lines.specs.Hex.{isDigit, value, digit, number, numberAt, digits, Fi
 use Rattle.lines.specs.HexLaws.{fields-kept}
 use Rattle.lines.specs.Lines.{Line}
 use Rattle.lines.specs.Frames.{layout}
+use Rattle.graph.specs.declared.form.Form.{Form}
+use Rattle.graph.specs.Form.{islandsField, branchField, fieldsOf}
 use Rattle.frames.specs.Acceptable.{Short}
 use Rattle.frames.specs.LineLaws.{lineOf}
 use Rattle.printing.specs.declared.writer.SwitchAction.{SwitchAction}
 use Rattle.printing.specs.declared.writer.SwitchAction.the-variants.{Open, Close}
 use Rattle.printing.specs.declared.writer.SwitchOperation.{SwitchOperation}
-use Rattle.printing.specs.Printed.{answer, operation, actionByte, operationFields, pair, pairFields}
+use Rattle.printing.specs.Printed.{answer, formFrame, formFields, operation, actionByte, operationFields, pair, pairFields}
 use Rattle.plan.specs.Plan.{Moves}
-use Rattle.answers.specs.ReadBack.{kindOf, ofKind, readAction, readOperation, readPair}
+use Rattle.answers.specs.ReadBack.{kindOf, ofKind, readForm, readAction, readOperation, readPair}
 
 -- ---- lines of the kind and of other kinds
 module _ {A B : Type 0} (kind : ℕ) (read : List ℕ → A) (line : B → Line) where
@@ -33,10 +35,14 @@ module _ {A B : Type 0} (kind : ℕ) (read : List ℕ → A) (line : B → Line)
   other-kind h [] rest = refl
   other-kind h (b ∷ l) rest = rw (ne-eqb (kindOf (line b)) kind (h b)) (other-kind h l rest)
 
--- the kind byte of each of the three kinds
+-- the kind byte of each of the four kinds
 pub answer-kind : (f : Fields (answer .widths)) → kindOf (lineOf answer f) ≡ 0x81
 unfolding lineOf writeFields digits digit number value isDigit
 answer-kind f = refl
+
+pub form-kind : (f : Fields (formFrame .widths)) → kindOf (lineOf formFrame f) ≡ 0x84
+unfolding lineOf writeFields digits digit number value isDigit
+form-kind f = refl
 
 pub operation-kind : (f : Fields (operation .widths)) → kindOf (lineOf operation f) ≡ 0x82
 unfolding lineOf writeFields digits digit number value isDigit
@@ -69,11 +75,23 @@ operation-kept o short =
     let byte : numberAt 6 2 chars ≡ actionByte (o .action) = second-at 2 chars ∙ ap (λ (f : Fields (layout operation)). f .1 .1 .0) kept in
     ap₂ (λ (x : ℕ) (a : SwitchAction). record { «switch_id» = x; action = a }) id (ap readAction byte ∙ action-kept (o .action))
 
+-- two fields of four digits
+two-numbers : (kind : ℕ) → kind < 16 ^ 2 → (x y : ℕ) → Short x × Short y
+    → let chars = writeFields (2 ∷ 4 ∷ 4 ∷ []) (kind, (x, (y, tt))) in (numberAt 2 4 chars ≡ x) × (numberAt 6 4 chars ≡ y)
+unfolding readFields
+two-numbers kind small x y short =
+    let chars = writeFields (2 ∷ 4 ∷ 4 ∷ []) (kind, (x, (y, tt))) in
+    let kept = fields-kept (2 ∷ 4 ∷ 4 ∷ []) (kind, (x, (y, tt))) (small, (short .0, (short .1, tt))) in
+    (ap (λ (f : Fields (2 ∷ 4 ∷ 4 ∷ [])). f .1 .0) kept, second-at 4 chars ∙ ap (λ (f : Fields (2 ∷ 4 ∷ 4 ∷ [])). f .1 .1 .0) kept)
+
+pub form-kept : (f : Form) → Short (islandsField f) × Short (branchField f) → readForm (lineOf formFrame (formFields f) .chars) ≡ fieldsOf f
+unfolding readForm lineOf
+form-kept f short =
+    let kept = two-numbers 0x84 (lit< tt) (islandsField f) (branchField f) short in
+    ap₂ (λ (x y : ℕ). record { islands = x; branch = y }) (kept .0) (kept .1)
+
 pub pair-kept : (m : Moves) → Short (m .closes) × Short (m .opens) → readPair (lineOf pair (pairFields (m .closes) (m .opens)) .chars) ≡ m
-unfolding readPair lineOf readFields
+unfolding readPair lineOf
 pair-kept m short =
-    let chars = writeFields (layout pair) (0x83, pairFields (m .closes) (m .opens)) in
-    let kept = fields-kept (layout pair) (0x83, pairFields (m .closes) (m .opens)) (lit< tt, (short .0, (short .1, tt))) in
-    let closes : numberAt 2 4 chars ≡ m .closes = ap (λ (f : Fields (layout pair)). f .1 .0) kept in
-    let opens : numberAt 6 4 chars ≡ m .opens = second-at 4 chars ∙ ap (λ (f : Fields (layout pair)). f .1 .1 .0) kept in
-    ap₂ (λ (x y : ℕ). record { closes = x; opens = y }) closes opens
+    let kept = two-numbers 0x83 (lit< tt) (m .closes) (m .opens) short in
+    ap₂ (λ (x y : ℕ). record { closes = x; opens = y }) (kept .0) (kept .1)

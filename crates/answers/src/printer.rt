@@ -7,12 +7,13 @@ ghost use Rattle.network.specs.Answers.{accepted};
 ghost use Rattle.feeders.specs.Supply.{checkNetwork};
 ghost use Rattle.network.specs.Records.{recordsOf};
 ghost use Rattle.slices.specs.Written.{written};
-ghost use Rattle.printing.specs.Lengths.{answerLength, operationsLength, planLength, printedLength};
+ghost use Rattle.printing.specs.Lengths.{resultLength, operationsLength, planLength, printedLength};
 ghost use Rattle.printing.specs.Calls.{called};
 ghost use Rattle.searches.specs.Results.{resultOf};
-ghost use Rattle.answers.specs.Printing.{resultText, operationLines, planLines, moveLines, networkText, answeredText, textAnswerOf};
+ghost use Rattle.answers.specs.Printing.{resultLines, operationLines, planLines, moveLines, networkText, answeredText, textAnswerOf};
 ghost use Rattle.answers.specs.PrintingValues.{Searched, HasBits};
 use frames::reader::read_text;
+use graph::form::is_tree;
 use network::error::Verdict;
 use network::topology::PowerNetwork;
 use numbers::wide16;
@@ -24,7 +25,9 @@ use printing::lengths::ANSWER_LENGTH;
 use printing::lengths::MAX_LENGTH;
 use printing::lengths::OPERATION_LENGTH;
 use printing::lengths::PAIR_LENGTH;
+use printing::lengths::RESULT_LENGTH;
 use printing::writer::write_answer;
+use printing::writer::write_form;
 use reconfiguration::solve::solve;
 use searches::answer::ReconfigResult;
 use searches::answer::SolveAnswer;
@@ -38,20 +41,22 @@ pub enum TextAnswer {
     Refused { number: u8, place: u16 },
 }
 
-// The 81 line.
+// The 81 line and the 84 line, of the best state.
 fn write_result(out: &mut [u8], result: ReconfigResult)
-    requires { ⌜ HasBits result ⌝ }
-    ensures { λ _. ⌜ now (out .exit) ≡ written (resultText (resultOf result)) (now (out .entry)) ⌝ }
+    requires { ⌜ HasBits result × (resultLength ≤ length (now out)) ⌝ }
+    ensures { λ _. ⌜ now (out .exit) ≡ written (resultLines (resultOf result)) (now (out .entry)) ⌝ }
 {
+    let form = result.form;
     write_answer(
         out,
-        result.is_radial,
+        is_tree(form),
         f64::to_bits(result.base_losses_mw),
         f64::to_bits(result.optimized_losses_mw),
         f64::to_bits(result.loss_reduction_pct),
         result.n_iterations,
         result.converged,
     );
+    write_form(&mut out[ANSWER_LENGTH..], form);
 }
 
 // The 82 lines from the base to the best state, and how many bytes they are.
@@ -88,7 +93,7 @@ fn write_plan(
     }
 }
 
-// The lines behind the 81 line, and how many bytes are printed with it: each writer gets the output from behind the lines before.
+// The lines behind the 81 line and the 84 line, and how many bytes are printed with these: each writer gets the output from behind the lines before.
 fn write_moves(
     out: &mut [u8],
     network: PowerNetwork,
@@ -96,10 +101,10 @@ fn write_moves(
     best: [u8; NetworkConfiguration::MAX_SWITCHES],
 ) -> usize
     requires { ⌜ Searched network base best × (printedLength ≤ length (now out)) ⌝ }
-    ensures { λ r. ⌜ (r ≡ answerLength + length (moveLines (recordsOf network))) × (now (out .exit) ≡ sets (now (out .entry)) answerLength (moveLines (recordsOf network))) ⌝ }
+    ensures { λ r. ⌜ (r ≡ resultLength + length (moveLines (recordsOf network))) × (now (out .exit) ≡ sets (now (out .entry)) resultLength (moveLines (recordsOf network))) ⌝ }
 {
-    let operations = write_operations(&mut out[ANSWER_LENGTH..], network, base, best);
-    let n = ANSWER_LENGTH + operations;
+    let operations = write_operations(&mut out[RESULT_LENGTH..], network, base, best);
+    let n = RESULT_LENGTH + operations;
     n + write_plan(&mut out[n..], network, base, best)
 }
 

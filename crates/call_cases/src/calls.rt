@@ -1,5 +1,5 @@
 // The cases. A case is a line 'LENGTH NAME', a frame text, a line feed, and three lines: the letters CALL and CHANGE with a blank and PRESENT, then
-// WANTED, then SLICE. CALL is S (83) for radiality and loss of PRESENT, P (80) for the plan from PRESENT to WANTED, R (82) for that plan cut off, O (79) for the
+// WANTED, then SLICE. CALL is S (83) for radiality, form and loss of PRESENT, P (80) for the plan from PRESENT to WANTED, R (82) for that plan cut off, O (79) for the
 // operations, B (66) for the best state, T (84) for the text. CHANGE is I (73) for 1,001 iterations, U (85) for only two buses, W (87) for 513 switches in the
 // records that R, O, B and T get, or a hyphen for none. PRESENT and WANTED have a digit for each byte of the states, SLICE has a dot for each byte of the lent slice;
 // of R it has the count in 16 hexadecimal digits and the lengths of the two slices, for the remaining moves and those that go back, in four each, a blank between them.
@@ -16,6 +16,7 @@ use cases::first_case;
 use cases::line_behind;
 use cases::part_of;
 use cases::state_bytes;
+use controller::calls::feeder_form;
 use controller::calls::feeder_loss;
 use controller::calls::feeder_plan;
 use controller::calls::feeder_radiality;
@@ -43,6 +44,7 @@ fn dots() -> [u8; 28672]
 
 fn print_state(text: &[u8], state: &[u8]) {
     print_numbers(feeder_radiality(text, state), 2);
+    print_numbers(feeder_form(text, state), 8);
     print_numbers(feeder_loss(text, state), 16);
     io::write_all(STDOUT_FILENO, b"\n");
 }

@@ -1,6 +1,8 @@
 // How answers are printed: fields as hexadecimal digits, a refusal's number and place, a lent slice between brackets.
 ghost use Prim.Native.Nat.{_≤_};
 use controller::answer::CallAnswer;
+use graph::form::fields_of;
+use graph::form::is_tree;
 use libc::STDOUT_FILENO;
 use searches::answer::ReconfigResult;
 
@@ -44,14 +46,18 @@ fn print_float(x: f64) {
     }
 }
 
-// In the order of the 81 line.
+// In the order of the 81 line, then the fields of the 84 line.
 pub(crate) fn print_result(result: ReconfigResult) {
-    print_truth(result.is_radial);
+    let form = result.form;
+    print_truth(is_tree(form));
     print_float(result.base_losses_mw);
     print_float(result.optimized_losses_mw);
     print_float(result.loss_reduction_pct);
     print_count(result.n_iterations);
     print_truth(result.converged);
+    let fields = fields_of(form);
+    print_count(fields.islands);
+    print_count(fields.branch);
 }
 
 // The bytes 00 and 01 of a state as digits. Lines and dots are characters already.

@@ -7,10 +7,11 @@ ghost use Rattle.feeders.specs.FeederRows.{feederGraph, liveFlags};
 ghost use Rattle.feeders.specs.StateCalls.{checkRadial};
 ghost use Rattle.changes.specs.Change.{checkLocked, checkPlan, flagsIn, judgedIn, judged};
 ghost use Rattle.changes.specs.Passing.{Checked};
-use bfs::radial::is_radial;
 use feeders::feeder::graph_of;
 use feeders::supply::check_network;
+use forms::form::form_of;
 use graph::flags::flagged;
+use graph::form::Form;
 use graph::rows::Graph;
 use network::error::Verdict;
 use network::switch::Switch;
@@ -95,18 +96,18 @@ fn check_change(
         andThen checkRadial (recordsOf network) (now (wanted .entry)) 1
         andThen checkLocked (recordsOf network) (now (present .entry)) (now (wanted .entry))) ⌝ }
 {
-    if !is_radial(graph, present_live) {
+    let Form::Tree = form_of(graph, present_live) else {
         return Verdict::Refused {
             number: 11,
             place: 0,
         };
-    }
-    if !is_radial(graph, wanted_live) {
+    };
+    let Form::Tree = form_of(graph, wanted_live) else {
         return Verdict::Refused {
             number: 11,
             place: 1,
         };
-    }
+    };
     check_locked(network, present, wanted, &present_live, &wanted_live)
 }
 

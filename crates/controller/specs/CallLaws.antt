@@ -8,12 +8,19 @@ use lib.Ieee.{Float, isNan}
 use Rattle.network.specs.Answers.{Answer, accepted, refused, _andThen_, Judgement}
 use Rattle.network.specs.Records.{Network}
 use Rattle.printing.specs.Calls.{Call, TwoSlices}
+use Rattle.printing.specs.Printed.{truthByte}
+use Rattle.graph.specs.declared.form.Form.{Form}
+use Rattle.graph.specs.Form.{isTree}
+use Rattle.states.specs.Live.{checkState}
 use Rattle.frames.specs.Text.{readText}
+use Rattle.feeders.specs.Feeder.{formIn, radialIn}
+use Rattle.feeders.specs.StateCalls.{onState}
+use Rattle.feeders.specs.Supply.{checkNetwork}
 use Rattle.feeders.specs.SupplyLaws.{network-records}
 use Rattle.losses.specs.Accepted.{loss-finite}
 use Rattle.losses.specs.LossCall.{lossCall}
 use Rattle.controller.specs.declared.answer.CallAnswer.{CallAnswer}
-use Rattle.controller.specs.Calls.{numbered, numbersOf, onRecords, onText, onTextInTwo, writtenAs, writtenNumbersInTwo}
+use Rattle.controller.specs.Calls.{numbered, radialByte, numbersOf, onRecords, onText, onTextInTwo, writtenAs, writtenNumbersInTwo}
 
 -- ---- a loss has bits
 abbrev pub NoNan : Answer Float → Type 0
@@ -28,6 +35,17 @@ no-nan-behind (refused n p) a h = tt
 pub loss-no-nan : (N : Network) (s : List ℕ) (x : Answer Float) → x ≡ lossCall N s → NoNan x
 unfolding lossCall
 loss-no-nan N s x e = subst NoNan (sym e) (no-nan-behind _ _ λ ok. no-nan-behind _ _ λ _. no-nan-behind _ _ λ _. loss-finite N (network-records N ok) s .2)
+
+-- ---- radial is a reading of the form
+behind-both : (c d : Judgement) (f : Form) → numbered radialByte (c andThen d andThen accepted f) ≡ numbered truthByte (c andThen d andThen accepted (isTree f))
+unfolding numbered _andThen_
+behind-both (accepted t) (accepted u) f = refl
+behind-both (accepted t) (refused n p) f = refl
+behind-both (refused n p) d f = refl
+
+pub radial-or-not : (N : Network) (s : List ℕ) → numbered radialByte (onState N s (formIn N s)) ≡ numbered truthByte (onState N s (radialIn N s))
+unfolding radialIn
+radial-or-not N s = behind-both (checkNetwork N) (checkState N s 0) (formIn N s)
 
 -- ---- a call on a text: the text is refused, or its records are answered
 module _ {A : Type 0} (f : A → ℕ) (t : List ℕ) (call : Network → Answer A) where

@@ -9,8 +9,10 @@ use Rattle.states.specs.Switches.{size}
 use Rattle.network.specs.Records.{Network}
 use Rattle.printing.specs.Calls.{Call, called, TwoSlices}
 use Rattle.printing.specs.Printed.{truthByte}
+use Rattle.graph.specs.declared.form.Form.{Form}
+use Rattle.graph.specs.Form.{isTree, formNumber}
 use Rattle.frames.specs.Text.{readText}
-use Rattle.feeders.specs.Feeder.{radialIn}
+use Rattle.feeders.specs.Feeder.{formIn, radialIn}
 use Rattle.feeders.specs.StateCalls.{onState}
 use Rattle.losses.specs.LossCall.{lossCall}
 use Rattle.plan.specs.Plan.{planned}
@@ -26,6 +28,10 @@ unfoldable pub numbered : {A : Type 0} → (A → ℕ) → Answer A → Answer �
 numbered f (accepted a) = accepted (f a)
 numbered f (refused n p) = refused n p
 
+-- 1 for a tree, 0 for anything else
+abbrev pub radialByte : Form → ℕ
+radialByte f = truthByte (isTree f)
+
 -- number 0, place 0 and the value, or document 01's number and place and the value 0
 abbrev pub numbersOf : Answer ℕ → CallAnswer
 numbersOf (accepted value) = record { number = 0; place = 0; value = value }
@@ -38,7 +44,7 @@ solvedNumbers (accepted r) =
     record {
       number = 0;
       place = 0;
-      radial = truthByte (r .radial);
+      radial = radialByte (r .form);
       converged = truthByte (r .converged);
       iterations = r .iterations;
       «base_loss» = r .base-loss;
@@ -66,6 +72,10 @@ onRecords (refused number place) call = refused number place
 -- 1 where the state is radial, else 0, after refusal 10
 unfoldable pub textRadiality : List ℕ → List ℕ → Answer ℕ
 textRadiality text state = numbered truthByte (onRecords (readText text) (λ N. onState N state (radialIn N state)))
+
+-- what the live branches of the state are, the fields of the frame 84 as one number: "islands u16, then branch u16 or FFFF"; after refusal 10
+unfoldable pub textForm : List ℕ → List ℕ → Answer ℕ
+textForm text state = numbered formNumber (onRecords (readText text) (λ N. onState N state (formIn N state)))
 
 -- the bits of the loss in MW, after refusal 10 and, where the text names a supply, 11
 unfoldable pub textLoss : List ℕ → List ℕ → Answer ℕ

@@ -17,7 +17,8 @@ use Rattle.printing.specs.CallLaws.{in-full}
 use Rattle.printing.specs.Lengths.{operationLength, pairLength}
 use Rattle.printing.specs.Printed.{truthByte}
 use Rattle.graph.specs.Graph.{Tree}
-use Rattle.feeders.specs.Feeder.{feeder, LiveIn, radialIn}
+use Rattle.graph.specs.Form.{formNumber}
+use Rattle.feeders.specs.Feeder.{feeder, LiveIn, formIn, radialIn}
 use Rattle.feeders.specs.Supplied.{Supplied}
 use Rattle.losses.specs.Loss.{lossIn}
 use Rattle.losses.specs.SupplySide.{Fed}
@@ -27,11 +28,11 @@ use Rattle.resumption.specs.Resume.{movesOfPlan, fullAnswer}
 use Rattle.states.specs.BaseLaws.{base-good}
 use Rattle.reconfiguration.specs.Solve.{best, result}
 use Rattle.operations.specs.Operations.{operations, operationsText}
-use Rattle.answers.specs.Full.{radiality-in-full, loss-in-full, solved-in-full, operations-in-full, planned-in-full, resumed-in-full}
+use Rattle.answers.specs.Full.{form-in-full, radiality-in-full, loss-in-full, solved-in-full, operations-in-full, planned-in-full, resumed-in-full}
 use Rattle.texts.specs.Proof as writer
 use Rattle.record_bytes.specs.RecordBytes.{writtenRecords, bytesOfRecords}
 use Rattle.record_bytes.specs.RecordBytesLaws.{records-alike}
-use Rattle.controller.specs.Calls.{numbered, onRecords, textRadiality, textLoss, onText, textPlan, textOperations, textSolved, baseCall, textBase, onTextInTwo, textResume}
+use Rattle.controller.specs.Calls.{numbered, onRecords, textRadiality, textForm, textLoss, onText, textPlan, textOperations, textSolved, baseCall, textBase, onTextInTwo, textResume}
 
 module _ (t : List ℕ) (N : Network) (a : Acceptable t N) where
   has-records : readText t ≡ accepted N
@@ -41,6 +42,11 @@ module _ (t : List ℕ) (N : Network) (a : Acceptable t N) where
   pub text-radiality-in-full : (s : State) → GoodState N s → textRadiality t s ≡ accepted (truthByte (radialIn N s))
   unfolding textRadiality onRecords numbered
   text-radiality-in-full s good = rw (has-records, radiality-in-full N (a .inside) (a .supplied) s good)
+
+  -- `feeder_form`, of any state
+  pub text-form-in-full : (s : State) → GoodState N s → textForm t s ≡ accepted (formNumber (formIn N s))
+  unfolding textForm onRecords numbered
+  text-form-in-full s good = rw (has-records, form-in-full N (a .inside) (a .supplied) s good)
 
   -- `feeder_loss`, of any state, radial or not; where the text names a supply, of any radial one
   pub text-loss-in-full : (s : State) → GoodState N s → Fed N s → textLoss t s ≡ accepted (toBits binary64 (lossIn N s))

@@ -2,7 +2,7 @@
 ghost use mathlib.Core.Path.{_≡_};
 ghost use lib.Ieee.{binary64, toBits};
 ghost use Rattle.network.specs.Answers.{accepted, refused};
-ghost use Rattle.printing.specs.Printed.{truthByte};
+ghost use Rattle.graph.specs.Form.{formNumber};
 ghost use Rattle.radiality.specs.Answers.{radialityOf};
 ghost use Rattle.losses.specs.Answers.{lossAnswerOf};
 ghost use Rattle.plan.specs.Plan.{planAnswerOf};
@@ -11,9 +11,12 @@ ghost use Rattle.searches.specs.Results.{solveAnswerOf};
 ghost use Rattle.operations.specs.Operations.{operationsAnswerOf};
 ghost use Rattle.answers.specs.Printing.{textAnswerOf};
 ghost use Rattle.texts.specs.Texts.{writeAnswerOf};
-ghost use Rattle.controller.specs.Calls.{numbered, numbersOf, solvedNumbers};
+ghost use Rattle.controller.specs.Calls.{numbered, radialByte, numbersOf, solvedNumbers};
 ghost use Rattle.controller.specs.CallLaws.{NoNan};
 use answers::printer::TextAnswer;
+use graph::form::Form;
+use graph::form::fields_of;
+use graph::form::is_tree;
 use losses::evaluation::LossAnswer;
 use operations::operations::OperationsAnswer;
 use plan::planner::PlanAnswer;
@@ -64,12 +67,36 @@ pub(crate) fn refusal(number: u8, place: u16) -> CallAnswer
     }
 }
 
+// 1 for a tree, 0 for anything else.
+fn radial_byte(form: Form) -> u8
+    ensures { λ r. ⌜ r ≡ radialByte form ⌝ }
+{
+    truth_byte(is_tree(form))
+}
+
 pub(crate) fn radiality_numbers(answer: Radiality) -> CallAnswer
-    ensures { λ r. ⌜ r ≡ numbersOf (numbered truthByte (radialityOf answer)) ⌝ }
+    ensures { λ r. ⌜ r ≡ numbersOf (numbered radialByte (radialityOf answer)) ⌝ }
 {
     match answer {
         Radiality::Refused { number, place } => refusal(number, place),
-        Radiality::Radial(radial) => answered(truth_byte(radial) as u64),
+        Radiality::Formed(form) => answered(radial_byte(form) as u64),
+    }
+}
+
+// Islands × 65,536 + branch.
+fn form_number(form: Form) -> u64
+    ensures { λ r. ⌜ r ≡ formNumber form ⌝ }
+{
+    let fields = fields_of(form);
+    0x1_0000 * fields.islands as u64 + fields.branch as u64
+}
+
+pub(crate) fn form_numbers(answer: Radiality) -> CallAnswer
+    ensures { λ r. ⌜ r ≡ numbersOf (numbered formNumber (radialityOf answer)) ⌝ }
+{
+    match answer {
+        Radiality::Refused { number, place } => refusal(number, place),
+        Radiality::Formed(form) => answered(form_number(form)),
     }
 }
 
@@ -156,15 +183,18 @@ pub(crate) fn solved_numbers(answer: SolveAnswer) -> SolvedAnswer
 {
     match answer {
         SolveAnswer::Refused { number, place } => not_solved(number, place),
-        SolveAnswer::Solved(result) => SolvedAnswer {
-            number: 0,
-            place: 0,
-            radial: truth_byte(result.is_radial),
-            converged: truth_byte(result.converged),
-            iterations: result.n_iterations,
-            base_loss: result.base_losses_mw,
-            best_loss: result.optimized_losses_mw,
-            reduction: result.loss_reduction_pct,
-        },
+        SolveAnswer::Solved(result) => {
+            let form = result.form;
+            SolvedAnswer {
+                number: 0,
+                place: 0,
+                radial: radial_byte(form),
+                converged: truth_byte(result.converged),
+                iterations: result.n_iterations,
+                base_loss: result.base_losses_mw,
+                best_loss: result.optimized_losses_mw,
+                reduction: result.loss_reduction_pct,
+            }
+        }
     }
 }

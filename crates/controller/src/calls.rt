@@ -5,10 +5,11 @@ ghost use Rattle.network.specs.Check.{checkRecords};
 ghost use Rattle.network.specs.Records.{recordsOf};
 ghost use Rattle.answers.specs.Printing.{answeredText};
 ghost use Rattle.record_bytes.specs.RecordBytes.{writtenRecords};
-ghost use Rattle.controller.specs.Calls.{numbersOf, textRadiality, textLoss, textPlan, textResume, textOperations, textSolved, baseCall, textBase, writtenNumbers, writtenNumbersInTwo, writtenSolved};
+ghost use Rattle.controller.specs.Calls.{numbersOf, textRadiality, textForm, textLoss, textPlan, textResume, textOperations, textSolved, baseCall, textBase, writtenNumbers, writtenNumbersInTwo, writtenSolved};
 use crate::answer::CallAnswer;
 use crate::answer::SolvedAnswer;
 use crate::answer::answered;
+use crate::answer::form_numbers;
 use crate::answer::loss_numbers;
 use crate::answer::not_solved;
 use crate::answer::operations_numbers;
@@ -45,6 +46,19 @@ pub extern "C" fn feeder_radiality(text: &[u8], state: &[u8]) -> CallAnswer
         return refusal(number, place);
     }
     radiality_numbers(verify_radiality(reading.network, state))
+}
+
+// What the live branches of a state are: the value is islands × 65,536 + the first branch that closes a loop, 65,535 where there is no loop.
+#[no_mangle]
+pub extern "C" fn feeder_form(text: &[u8], state: &[u8]) -> CallAnswer
+    ensures { λ r. ⌜ r ≡ numbersOf (textForm (now (text .entry)) (now (state .entry))) ⌝ }
+{
+    let reading = read_text(text);
+    let verdict = reading.verdict;
+    if let Verdict::Refused { number, place } = verdict {
+        return refusal(number, place);
+    }
+    form_numbers(verify_radiality(reading.network, state))
 }
 
 // The loss of a state, which must be radial only where the text names a supply: the value is the bits of the f64, in MW.

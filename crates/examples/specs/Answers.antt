@@ -14,10 +14,11 @@ use Rattle.lines.specs.Frames.{frameText}
 use Rattle.frames.specs.Proof.{passed}
 use Rattle.examples.specs.Texts.{line, triangleText, triangle-read, table-rows}
 use Rattle.examples.specs.Feeders.{triangle}
-use Rattle.printing.specs.Printed.{answerText, operationText, pairText, refusalText}
+use Rattle.printing.specs.Printed.{answerText, formText, operationText, pairText, refusalText}
 use Rattle.graph.specs.Walk.{far, neighbours, reached, enter, enterAll, turn, walkBy, walk, byOf, across, back, bfsPath}
 use Rattle.graph.specs.Radial.{radial}
-use Rattle.feeders.specs.Feeder.{feeder, position, endsPath, radialIn}
+use Rattle.graph.specs.Form.{form}
+use Rattle.feeders.specs.Feeder.{feeder, position, endsPath, formIn, radialIn}
 use Rattle.losses.specs.Loss.{walkLoad, downstream, termOf, totalOf, loss, drawn, lossIn}
 use Rattle.plan.specs.Plan.{closings, opening, exchanged, pairsFrom, pairs, switchOn, plan, planText}
 use Rattle.plan.specs.Claim.{SwitchingPlan}
@@ -28,15 +29,16 @@ use Rattle.searches.specs.Rounds.{untilEnded}
 use Rattle.reconfiguration.specs.Solve.{bestBy, best, result}
 use Rattle.reconfiguration.specs.AnswersHavePlans.{solve-has-plan}
 use Rattle.operations.specs.Operations.{operationTo, operations, operationsText}
-use Rattle.answers.specs.Printing.{resultText, operationLines, planLines, moveLines, networkText, printed, answeredText}
+use Rattle.answers.specs.Printing.{resultText, resultLines, operationLines, planLines, moveLines, networkText, printed, answeredText}
 use Rattle.answers.specs.PrintingLaws.{text-refused}
 
 pub triangle-printed : printed triangleText
     ≡ line 58 0x810140100000000000003FF00000000000004052C00000000000000201
+    ++ (line 10 0x840000FFFF
     ++ (line 8 0x82000A00
     ++ (line 8 0x82000B01
-    ++ line 10 0x83000B000A))
-unfolding printed networkText moveLines planLines operationLines resultText result resultBy reduction best bestBy exchangeBest exchange untilEnded lastSome afterRound roundOf improved improves trial swapWith sectionOf loopOf swapped operations operationTo operationsText plan planText pairs pairsFrom closings opening exchanged switchOn endsPath lossIn drawn loss totalOf termOf downstream walkLoad radialIn feeder position radial bfsPath back across byOf walk walkBy turn enterAll enter reached neighbours far baseState live openOn those least firstSome firstOf indexOf _orElse_ count upTo table answerText operationText pairText frameText writeFields digits digit flatMap ofBits toBits add sub mul div lt le neg
+    ++ line 10 0x83000B000A)))
+unfolding printed networkText moveLines planLines operationLines resultLines resultText formText result resultBy reduction best bestBy exchangeBest exchange untilEnded lastSome afterRound roundOf improved improves trial swapWith sectionOf loopOf swapped operations operationTo operationsText plan planText pairs pairsFrom closings opening exchanged switchOn endsPath lossIn drawn loss totalOf termOf downstream walkLoad radialIn formIn form feeder position radial bfsPath back across byOf walk walkBy turn enterAll enter reached neighbours far baseState live openOn those least firstSome firstOf indexOf _orElse_ count upTo table answerText operationText pairText frameText writeFields digits digit flatMap ofBits toBits add sub mul div lt le neg
 triangle-printed = rw triangle-read
 
 -- "A refusal prints one line": `0G` is 1 at line 1
@@ -50,7 +52,7 @@ refusal-answered out = sym (text-refused (48 ∷ 71 ∷ []) out (table-rows .0))
 
 -- so the hypotheses of `solve-has-plan` can be met
 triangle-radial : radialIn triangle (baseState triangle) ≡ true
-unfolding radialIn feeder position radial walk walkBy turn enterAll enter reached neighbours far baseState live openOn indexOf count upTo
+unfolding radialIn formIn form feeder position radial walk walkBy turn enterAll enter reached neighbours far baseState live openOn indexOf count upTo
 triangle-radial = refl
 
 triangle-has-plan : SwitchingPlan triangle (baseState triangle) (best triangle .state)

@@ -6,3 +6,4 @@ pub mod Answers
 pub mod ReadBack
 pub mod Supplies
 pub mod Resumptions
+pub mod Forms

@@ -8,7 +8,7 @@ use lib.Ieee.{ofBits, le, neg}
 use lib.ListN.{replicate}
 use Rattle.numbers.specs.UpTo.{upTo}
 use Rattle.numbers.specs.Counts.{count}
-use Rattle.numbers.specs.Choose.{those, firstOf, indexOf, among}
+use Rattle.numbers.specs.Choose.{those, least, firstOf, indexOf, _orElse_, among}
 use Rattle.numbers.specs.Every.{every}
 use Rattle.network.specs.declared.branch.Branch.{Branch}
 use Rattle.network.specs.declared.switch.Switch.{Switch}
@@ -26,7 +26,8 @@ use Rattle.printing.specs.Calls.{checkRoom, called}
 use Rattle.graph.specs.Walk.{far, neighbours, reached, enter, enterAll, turn, walkBy, walk, byOf, across, bfsPath}
 use Rattle.graph.specs.Walk as Walk
 use Rattle.graph.specs.Radial.{radial}
-use Rattle.feeders.specs.Feeder.{position, feeder, endsPath, radialIn}
+use Rattle.graph.specs.Form.{relabel, label, closes, form}
+use Rattle.feeders.specs.Feeder.{position, feeder, endsPath, formIn, radialIn}
 use Rattle.feeders.specs.StateCalls.{checkRadial}
 use Rattle.feeders.specs.Supply.{checkSupply, checkNetwork}
 use Rattle.changes.specs.Change.{differing, lockedDifference, lockedDifferences, checkLocked, checkPlan}
@@ -74,7 +75,7 @@ pub computed : (baseState triangle ≡ present)
     × (plan fourBuses four-present four-wanted ≡ record { closes = 20; opens = 23 } ∷ record { closes = 21; opens = 22 } ∷ [])
     × (endsPath triangle (live triangle present) 2 ≡ 0 ∷ 1 ∷ [])
     × (endsPath fourBuses (live fourBuses four-present) 4 ≡ 0 ∷ 1 ∷ 2 ∷ [])
-unfolding le ofBits neg upTo those firstOf indexOf count _andThen_ judge okBase okLoad okR among ties headFaults busFaults branchFaults switchFaults headOf checkRun checkNetwork checkSupply checkRecords live openOn every checkState baseState far neighbours reached enter enterAll turn walkBy walk byOf across Walk.back bfsPath radial position feeder radialIn endsPath closings opening exchanged pairsFrom pairs switchOn plan checkRadial differing lockedDifference lockedDifferences checkLocked checkPlan
+unfolding le ofBits neg upTo those firstOf indexOf count _andThen_ judge okBase okLoad okR among ties headFaults busFaults branchFaults switchFaults headOf checkRun checkNetwork checkSupply checkRecords live openOn every checkState baseState far neighbours reached enter enterAll turn walkBy walk byOf across Walk.back bfsPath radial position feeder radialIn formIn form endsPath closings opening exchanged pairsFrom pairs switchOn plan checkRadial differing lockedDifference lockedDifferences checkLocked checkPlan
 computed = (refl, refl, refl, refl, refl, refl, refl)
 
 -- forward, forward (all done: none found), back, back (none done: none found), forward
@@ -105,5 +106,5 @@ refusals :
     × (planned triangle (0 ∷ 0 ∷ []) wanted sevens ≡ record { answer = refused 11 0; out = sevens })
     × (planned lockedTriangle present wanted sevens ≡ record { answer = refused 12 10; out = sevens })
     × (planned triangle present wanted sevens ≡ record { answer = refused 13 0; out = sevens })
-unfolding le ofBits neg upTo those firstOf indexOf count _andThen_ judge okBase okLoad okR among ties headFaults busFaults branchFaults switchFaults headOf checkRun checkNetwork checkSupply checkRecords live openOn every checkState baseState far neighbours reached enter enterAll turn walkBy walk byOf across Walk.back bfsPath radial position feeder radialIn endsPath closings opening exchanged pairsFrom pairs switchOn plan checkRadial differing lockedDifference lockedDifferences checkLocked checkPlan flatMap pairText frameText writeFields digits digit planText checkRoom called planned
+unfolding le ofBits neg upTo those firstOf indexOf count _andThen_ judge okBase okLoad okR among ties headFaults busFaults branchFaults switchFaults headOf checkRun checkNetwork checkSupply checkRecords live openOn every checkState baseState far neighbours reached enter enterAll turn walkBy walk byOf across Walk.back bfsPath radial position feeder radialIn formIn form least _orElse_ closes label relabel endsPath closings opening exchanged pairsFrom pairs switchOn plan checkRadial differing lockedDifference lockedDifferences checkLocked checkPlan flatMap pairText frameText writeFields digits digit planText checkRoom called planned
 refusals = (refl, refl, refl, refl)

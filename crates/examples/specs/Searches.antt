@@ -21,7 +21,10 @@ use Rattle.states.specs.Live.{live, openOn, checkState, baseState}
 use Rattle.states.specs.Switches.{State, swapped, toggled}
 use Rattle.graph.specs.Walk.{far, neighbours, reached, enter, enterAll, turn, walkBy, walk, byOf, across, back, bfsPath}
 use Rattle.graph.specs.Radial.{radial}
-use Rattle.feeders.specs.Feeder.{feeder, position, endsPath, radialIn}
+use Rattle.graph.specs.declared.form.Form.{Form}
+use Rattle.graph.specs.declared.form.Form.the-variants as forms
+use Rattle.graph.specs.Form.{relabel, label, closes, links, islands, form}
+use Rattle.feeders.specs.Feeder.{feeder, position, endsPath, formIn, radialIn}
 use Rattle.feeders.specs.StateCalls.{onState}
 use Rattle.feeders.specs.Supply.{checkSupply, checkNetwork}
 use Rattle.losses.specs.Loss.{walkLoad, downstream, termOf, totalOf, loss, drawn, lossIn}
@@ -48,9 +51,9 @@ pub data Case : Type 0 where
   inState : Network → State → Case
   searched : Network → Case
 
--- what the calls answer: `verify_radiality` and `evaluate_config` of a state; or `solve`, and the slice then
+-- what the calls answer: radial or not, what the live branches are (`verify_radiality`) and the loss (`evaluate_config`) of a state; or `solve`, and the slice then
 pub data Value : Type 0 where
-  ofState : Answer Bool → Answer Float → Value
+  ofState : Answer Bool → Answer Form → Answer Float → Value
   ofSearch : Call Result → Value
 
 -- a byte more than there are switches
@@ -59,18 +62,18 @@ slice N = replicate (length (N .switches) + 1) 0xFF
 
 -- by the definitions that these calls promise, their tests of the records and of the state included
 abbrev pub valueOf : Case → Value
-valueOf (inState N s) = ofState (onState N s (radialIn N s)) (lossCall N s)
+valueOf (inState N s) = ofState (onState N s (radialIn N s)) (onState N s (formIn N s)) (lossCall N s)
 valueOf (searched N) = ofSearch (solved N (slice N))
 
--- no refusal: radial or not, and the loss
-abbrev pub stands : Bool → Float → Value
-stands isRadial loss = ofState (accepted isRadial) (accepted loss)
+-- no refusal: radial or not, what the live branches are, and the loss
+abbrev pub stands : Bool → Form → Float → Value
+stands isRadial is loss = ofState (accepted isRadial) (accepted is) (accepted loss)
 
 -- no refusal: a radial state, its bytes at the front of the slice; the base's loss, its own, the reduction in percent, iterations and converged
 abbrev pub finds : State → Float → Float → Float → ℕ → Bool → Value
 finds state base found percent iterations converged =
     ofSearch (record {
-      answer = accepted (record { radial = true; base-loss = base; best-loss = found; reduction = percent; iterations = iterations; converged = converged });
+      answer = accepted (record { form = forms.Tree; base-loss = base; best-loss = found; reduction = percent; iterations = iterations; converged = converged });
       out = state ++ (0xFF ∷ []);
     })
 
@@ -94,19 +97,19 @@ exchanges = finds (1 ∷ 0 ∷ []) (float 0x4010000000000000) (float 0x3FF000000
 abbrev pub marked : List Row
 marked =
     -- "no buses: radial, loss 0"
-    inState (plain [] []) [] gives stands true (float 0)
+    inState (plain [] []) [] gives stands true forms.Tree (float 0)
     -- "one bus: radial", "one bus, own loop: not"
-    ∷ inState (plain (bus 1 0 ∷ []) []) [] gives stands true (float 0)
-    ∷ inState (plain (bus 1 0 ∷ []) (branch 1 1 0 ∷ [])) [] gives stands false (float 0)
+    ∷ inState (plain (bus 1 0 ∷ []) []) [] gives stands true forms.Tree (float 0)
+    ∷ inState (plain (bus 1 0 ∷ []) (branch 1 1 0 ∷ [])) [] gives stands false (forms.Loop 0 0) (float 0)
     -- "two buses, one branch: radial", "two parallel: not"
-    ∷ inState (plain (bus 1 0 ∷ bus 2 0 ∷ []) (branch 1 2 0 ∷ [])) [] gives stands true (float 0)
-    ∷ inState (plain (bus 1 0 ∷ bus 2 0 ∷ []) (branch 1 2 0 ∷ branch 1 2 0 ∷ [])) [] gives stands false (float 0)
+    ∷ inState (plain (bus 1 0 ∷ bus 2 0 ∷ []) (branch 1 2 0 ∷ [])) [] gives stands true forms.Tree (float 0)
+    ∷ inState (plain (bus 1 0 ∷ bus 2 0 ∷ []) (branch 1 2 0 ∷ branch 1 2 0 ∷ [])) [] gives stands false (forms.Loop 1 0) (float 0)
     -- "triangle base loss 4", "exchanged 1", "all closed: not radial, loss 5.6875"
-    ∷ inState triangle (baseState triangle) gives stands true (float 0x4010000000000000)
-    ∷ inState triangle (1 ∷ 0 ∷ []) gives stands true (float 0x3FF0000000000000)
-    ∷ inState triangle (0 ∷ 0 ∷ []) gives stands false (float 0x4016C00000000000)
+    ∷ inState triangle (baseState triangle) gives stands true forms.Tree (float 0x4010000000000000)
+    ∷ inState triangle (1 ∷ 0 ∷ []) gives stands true forms.Tree (float 0x3FF0000000000000)
+    ∷ inState triangle (0 ∷ 0 ∷ []) gives stands false (forms.Loop 2 0) (float 0x4016C00000000000)
     -- "branch 0 turned (2 to 1): base loss 1.75"
-    ∷ inState turned (baseState turned) gives stands true (float 0x3FFC000000000000)
+    ∷ inState turned (baseState turned) gives stands true forms.Tree (float 0x3FFC000000000000)
     -- "exchange with 0 rounds: base, 0, not converged", "1: loss 1, 1, not", "2: 2, not", "3: 2, converged"
     ∷ searched (triangleWith BranchExchange 0) gives keepsBase 0 false
     ∷ searched (triangleWith BranchExchange 1) gives exchanges 1 false
@@ -120,7 +123,7 @@ marked =
 
 -- document 01: "One proved table holds the marked (*) cases under one theorem"
 pub marked-cases : map reckoned marked ≡ map said marked
-unfolding solved solvedBy resultBy reduction called checkRoom checkState every lossCall checkNetwork checkSupply checkRecords headOf checkRun headFaults busFaults branchFaults switchFaults okBase okLoad okR ties judge _andThen_ neg best bestBy exchangeBest tabuBest exhaustiveBest exchange untilEnded lastSome afterRound roundOf improved improves trial swapWith sectionOf loopOf swapped tabu bestMove afterMove lastSeven lesserBy allowed among toggled exhaustive tryMask leastOrBase masked lossIn drawn loss totalOf termOf downstream walkLoad radialIn endsPath feeder position radial bfsPath back across byOf walk walkBy turn enterAll enter reached neighbours far baseState live openOn those least firstSome firstOf indexOf _orElse_ count upTo table ofBits add sub mul div lt le
+unfolding solved solvedBy resultBy reduction called checkRoom checkState every lossCall checkNetwork checkSupply checkRecords headOf checkRun headFaults busFaults branchFaults switchFaults okBase okLoad okR ties judge _andThen_ neg best bestBy exchangeBest tabuBest exhaustiveBest exchange untilEnded lastSome afterRound roundOf improved improves trial swapWith sectionOf loopOf swapped tabu bestMove afterMove lastSeven lesserBy allowed among toggled exhaustive tryMask leastOrBase masked lossIn drawn loss totalOf termOf downstream walkLoad radialIn formIn form islands closes links label relabel endsPath feeder position radial bfsPath back across byOf walk walkBy turn enterAll enter reached neighbours far baseState live openOn those least firstSome firstOf indexOf _orElse_ count upTo table ofBits add sub mul div lt le
 marked-cases = refl
 
 -- Five buses in a row, 1 MW at each but the first, and three ties. In the first round, with 9.75 at its start, tie 5 improves to 8.75 and tie 6 to 9.5; tie 7's first
@@ -135,14 +138,14 @@ fiveBuses iterations =
 
 abbrev rounds : List Row
 rounds =
-    inState (fiveBuses 1) (0 ∷ 0 ∷ 0 ∷ 0 ∷ 1 ∷ 1 ∷ 1 ∷ []) gives stands true (float 0x4023800000000000)
+    inState (fiveBuses 1) (0 ∷ 0 ∷ 0 ∷ 0 ∷ 1 ∷ 1 ∷ 1 ∷ []) gives stands true forms.Tree (float 0x4023800000000000)
     ∷ searched (fiveBuses 1) gives finds (0 ∷ 1 ∷ 0 ∷ 0 ∷ 1 ∷ 0 ∷ 1 ∷ []) (float 0x4023800000000000) (float 0x4023000000000000) (float 0x4004834834834834) 1 false
     -- the better one of tie 5, and the one that tie 7's next section would give
-    ∷ inState (fiveBuses 1) (0 ∷ 1 ∷ 0 ∷ 0 ∷ 0 ∷ 1 ∷ 1 ∷ []) gives stands true (float 0x4021800000000000)
-    ∷ inState (fiveBuses 1) (0 ∷ 1 ∷ 0 ∷ 0 ∷ 1 ∷ 1 ∷ 0 ∷ []) gives stands true (float 0x4014000000000000)
+    ∷ inState (fiveBuses 1) (0 ∷ 1 ∷ 0 ∷ 0 ∷ 0 ∷ 1 ∷ 1 ∷ []) gives stands true forms.Tree (float 0x4021800000000000)
+    ∷ inState (fiveBuses 1) (0 ∷ 1 ∷ 0 ∷ 0 ∷ 1 ∷ 1 ∷ 0 ∷ []) gives stands true forms.Tree (float 0x4014000000000000)
     ∷ searched (fiveBuses 100) gives finds (0 ∷ 1 ∷ 0 ∷ 1 ∷ 0 ∷ 0 ∷ 1 ∷ []) (float 0x4023800000000000) (float 0x401E000000000000) (float 0x403713B13B13B13B) 3 true
     ∷ []
 
 round-cases : map reckoned rounds ≡ map said rounds
-unfolding solved solvedBy resultBy reduction called checkRoom checkState every lossCall checkNetwork checkSupply checkRecords headOf checkRun headFaults busFaults branchFaults switchFaults okBase okLoad okR ties judge _andThen_ neg best bestBy exchangeBest tabuBest exhaustiveBest exchange untilEnded lastSome afterRound roundOf improved improves trial swapWith sectionOf loopOf swapped tabu bestMove afterMove lastSeven lesserBy allowed among toggled exhaustive tryMask leastOrBase masked lossIn drawn loss totalOf termOf downstream walkLoad radialIn endsPath feeder position radial bfsPath back across byOf walk walkBy turn enterAll enter reached neighbours far baseState live openOn those least firstSome firstOf indexOf _orElse_ count upTo table ofBits add sub mul div lt le
+unfolding solved solvedBy resultBy reduction called checkRoom checkState every lossCall checkNetwork checkSupply checkRecords headOf checkRun headFaults busFaults branchFaults switchFaults okBase okLoad okR ties judge _andThen_ neg best bestBy exchangeBest tabuBest exhaustiveBest exchange untilEnded lastSome afterRound roundOf improved improves trial swapWith sectionOf loopOf swapped tabu bestMove afterMove lastSeven lesserBy allowed among toggled exhaustive tryMask leastOrBase masked lossIn drawn loss totalOf termOf downstream walkLoad radialIn formIn form islands closes links label relabel endsPath feeder position radial bfsPath back across byOf walk walkBy turn enterAll enter reached neighbours far baseState live openOn those least firstSome firstOf indexOf _orElse_ count upTo table ofBits add sub mul div lt le
 round-cases = refl

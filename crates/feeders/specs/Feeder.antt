@@ -1,4 +1,4 @@
--- A feeder's records as a graph: ids become positions. And its radiality in a state of the switches.
+-- A feeder's records as a graph: ids become positions. And what its live branches are in a state of the switches: radial, or what instead.
 use mathlib.Core.Bool.{Bool}
 use mathlib.Core.List.{List, map}
 use Prim.Native.Nat.{ℕ}
@@ -9,7 +9,8 @@ use Rattle.network.specs.Limits.{busId}
 use Rattle.states.specs.Live.{live}
 use Rattle.graph.specs.Graph.{Net, Branches, Live}
 use Rattle.graph.specs.Walk.{bfsPath}
-use Rattle.graph.specs.Radial.{radial}
+use Rattle.graph.specs.declared.form.Form.{Form}
+use Rattle.graph.specs.Form.{form, isTree}
 
 -- the position of the bus with this id; the number of buses where none has it, which refusal 6 rules out
 unfoldable pub position : Network → ℕ → ℕ
@@ -32,6 +33,10 @@ endsPath N E k = bfsPath (feeder N) E (feeder N .from k) (feeder N .to k)
 abbrev pub LiveIn : Network → List ℕ → Branches
 LiveIn N s = Live (feeder N) (live N s)
 
--- what `verify_radiality` answers
+-- what `verify_radiality` answers: a tree, or what the live branches are instead
+unfoldable pub formIn : Network → List ℕ → Form
+formIn N s = form (feeder N) (live N s)
+
+-- radial: that answer is a tree
 unfoldable pub radialIn : Network → List ℕ → Bool
-radialIn N s = radial (feeder N) (live N s)
+radialIn N s = isTree (formIn N s)

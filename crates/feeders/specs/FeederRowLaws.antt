@@ -1,5 +1,5 @@
--- The rows of a feeder that is accepted say what the feeder says: its branches have the same ends, and the walk, radiality and the path by the rows
--- are those of the definitions, for any flags of the branches, and so for the live branches of a state.
+-- The rows of a feeder that is accepted say what the feeder says: its branches have the same ends, and the walk, radiality, what the branches are instead, and
+-- the path by the rows are those of the definitions, for any flags of the branches, and so for the live branches of a state.
 use mathlib.Core.Path.{_≡_, refl, sym, ap, _∙_, fun-ext}
 use mathlib.Core.Bool.{Bool, true, false, cond}
 use mathlib.Core.List.{List, map, List·Memᴰ}
@@ -27,16 +27,18 @@ use Rattle.network.specs.LookupLaws.{listed-buses}
 use Rattle.states.specs.Live.{checkState, live}
 use Rattle.states.specs.LiveLaws.{live-configuration}
 use Rattle.states.specs.Configuration.{configurationOf}
+use Rattle.graph.specs.declared.form.Form.{Form}
 use Rattle.graph.specs.declared.rows.Graph.{Graph}
 use Rattle.graph.specs.Walk.{bfsPath}
 use Rattle.graph.specs.Radial.{radial}
-use Rattle.feeders.specs.Feeder.{position, feeder, endsPath, radialIn}
-use Rattle.feeders.specs.FeederLaws.{feeder-sound, feeder-small, feeder-few}
+use Rattle.graph.specs.Form.{form, rowForm}
+use Rattle.feeders.specs.Feeder.{position, feeder, endsPath, formIn, radialIn}
+use Rattle.feeders.specs.FeederLaws.{feeder-sound, feeder-small, feeder-few, radial-in}
 use Rattle.graph.specs.Rows.{flag, rowNet, rowRadial, rowPath, rowEndsPath, graphOf}
 use Rattle.graph.specs.RowsHold.{far-hold}
 use Rattle.graph.specs.RowsWalk.{Positions, row-radial-is-radial, row-path-is-path}
 use Rattle.feeders.specs.FeederRows.{listedIds, endAt, endsOf, fromEnds, toEnds, endsNet, feederGraph, liveFlags}
-use Rattle.graph.specs.SameEnds.{radial-same, path-same}
+use Rattle.graph.specs.SameEnds.{radial-same, first-same, islands-same, path-same}
 
 -- ---- the position of an id
 end-small : (ids : List ℕ) → length ids ≤ 256 → (id : ℕ) → endAt ids id < 256
@@ -155,6 +157,24 @@ module _ (n : PowerNetwork) (sized : length (n .buses) ≡ 256) where
           row-radial-is-radial _ _ (fromEnds n) (toEnds n) flags feeder-positions short
           ∙ sym (radial-same _ (endsNet n) (flag flags) _ same-buses same-branches (λ k l. refl) feeder-ends)
 
+      feeder-row-form : rowForm (feederGraph n) flags ≡ form (feeder (recordsOf n)) (flag flags)
+      unfolding rowForm form
+      feeder-row-form = rw (
+        feeder-row-radial,
+        first-same (rowNet (feederGraph n)) (feeder (recordsOf n)) (flag flags) (flag flags) row-buses row-branches (λ k l. refl) row-ends,
+        islands-same (rowNet (feederGraph n)) (feeder (recordsOf n)) (flag flags) (flag flags) row-buses row-branches (λ k l. refl) row-ends,
+      )
+        where
+          row-buses : rowNet (feederGraph n) .buses ≡ feeder (recordsOf n) .buses
+          row-buses = unfold feederGraph graphOf in sym same-buses
+
+          row-branches : rowNet (feederGraph n) .branches ≡ feeder (recordsOf n) .branches
+          row-branches = unfold feederGraph graphOf in sym same-branches
+
+          row-ends : (k : ℕ) → k < rowNet (feederGraph n) .branches
+              → (rowNet (feederGraph n) .from k ≡ feeder (recordsOf n) .from k) × (rowNet (feederGraph n) .to k ≡ feeder (recordsOf n) .to k)
+          row-ends k l = feeder-row-ends k (omega (arith, row-branches))
+
       feeder-row-path : (a b : ℕ) → a < 256 → rowPath (feederGraph n) flags a b ≡ bfsPath (feeder (recordsOf n)) (flag flags) a b
       unfolding feederGraph
       feeder-row-path a b h =
@@ -179,12 +199,18 @@ module _ (n : PowerNetwork) (sized : length (n .buses) ≡ 256) where
       live-flags = flags-live (recordsOf n) s (inside .counts .1)
 
       live-row-radial : rowRadial (feederGraph n) (liveFlags (recordsOf n) s) ≡ radialIn (recordsOf n) s
-      unfolding radialIn
-      live-row-radial = feeder-row-radial _ live-short ∙ ap (radial (feeder (recordsOf n))) live-flags
+      live-row-radial = feeder-row-radial _ live-short ∙ ap (radial (feeder (recordsOf n))) live-flags ∙ sym (radial-in (recordsOf n) s)
 
       -- by a graph and flags that are the feeder's and the state's
       pub flags-radial : (g : Graph) (flags : List Bool) → g ≡ feederGraph n → flags ≡ liveFlags (recordsOf n) s → (r : Bool) → r ≡ rowRadial g flags → r ≡ radialIn (recordsOf n) s
       flags-radial g flags a b r e = e ∙ rw (a, b) live-row-radial
+
+      live-row-form : rowForm (feederGraph n) (liveFlags (recordsOf n) s) ≡ formIn (recordsOf n) s
+      unfolding formIn
+      live-row-form = feeder-row-form _ live-short ∙ ap (form (feeder (recordsOf n))) live-flags
+
+      pub flags-form : (g : Graph) (flags : List Bool) → g ≡ feederGraph n → flags ≡ liveFlags (recordsOf n) s → (f : Form) → f ≡ rowForm g flags → f ≡ formIn (recordsOf n) s
+      flags-form g flags a b f e = e ∙ rw (a, b) live-row-form
 
       pub live-row-ends-path : (k : ℕ) → k < feeder (recordsOf n) .branches
           → rowEndsPath (feederGraph n) (liveFlags (recordsOf n) s) k ≡ endsPath (recordsOf n) (live (recordsOf n) s) k

@@ -17,7 +17,7 @@ use Rattle.network.specs.Check.{headOf, checkRun, checkRecords}
 use Rattle.network.specs.Inside.{Inside}
 use Rattle.network.specs.InsideLaws.{check-inside, among-mem, mem-among}
 use Rattle.states.specs.Live.{baseState, live}
-use Rattle.feeders.specs.Feeder.{position, feeder, radialIn}
+use Rattle.feeders.specs.Feeder.{position, feeder, formIn, radialIn}
 use Rattle.feeders.specs.FeederLaws.{position-listed, inside-radial-tree}
 use Rattle.feeders.specs.Supply.{baseRadial, supplyFaults, checkSupply, checkNetwork}
 use Rattle.feeders.specs.Supplied.{Supplied}
@@ -25,7 +25,7 @@ use Rattle.feeders.specs.Supplied.{Supplied}
 module _ (N : Network) where
   -- neither the head nor the supply has a part in it
   pub base-alone : baseRadial (N .buses) (N .branches) (N .switches) ≡ radialIn N (baseState N)
-  unfolding radialIn feeder position live baseState
+  unfolding radialIn formIn feeder position live baseState
   base-alone = refl
 
   -- ---- the supply's own line

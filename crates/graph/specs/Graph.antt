@@ -25,6 +25,10 @@ Branches = ℕ → Type 0
 abbrev pub Live : Net → (ℕ → Bool) → Branches
 Live N E k = (k < N .branches) × (E k ≡ true)
 
+-- the live branches among the first k
+abbrev pub First : (ℕ → Bool) → ℕ → Branches
+First E k i = (i < k) × (E i ≡ true)
+
 -- a set with branch e, and a set without branch f
 abbrev pub Plus : Branches → ℕ → Branches
 Plus S e k = S k ⊎ (k ≡ e)

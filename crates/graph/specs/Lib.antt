@@ -7,6 +7,8 @@ pub mod Paths
 pub mod Forests
 pub mod Loops
 pub mod Trees
+pub mod Form
+pub mod FormClaim
 pub mod Pieces
 pub mod Visits
 pub mod Neighbours
@@ -16,6 +18,7 @@ pub mod Entering
 pub mod Barred
 pub mod WalkLaws
 pub mod RadialLaws
+pub mod FormLaws
 pub mod SameEnds
 pub mod RowsHold
 pub mod RowsNeighbours

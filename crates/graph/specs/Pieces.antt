@@ -3,7 +3,7 @@
 -- gives its two ends one label.
 use mathlib.Core.Path.{_≡_, refl, sym, ap, _∙_}
 use mathlib.Core.Logic.{_⊎_, inl, inr, _↔_, _≢_}
-use mathlib.Core.Bool.{Bool, true, false, cond, not, _&&_, and-false, true≢false}
+use mathlib.Core.Bool.{Bool, true, false, and-false, true≢false}
 use mathlib.Core.List.{List}
 use Prim.Native.Nat.{ℕ, zero, suc, _+_, _-_, _≤_, _<_}
 use native.Mathlib.Decide.{ℕ-discrete}
@@ -11,34 +11,14 @@ use native.Mathlib.Omega.{arith}
 use lib.Dec.{eqb}
 use borrow.Author.Tests.{eq-eqb, ne-eqb}
 use Rattle.numbers.specs.Counts.{count, count-yes, count-no, count-cong, count-all, count-none, count-drop, count-zero, some-below}
-use Rattle.graph.specs.Graph.{Net, Sound, Branches, Live, Plus, Minus, along, against, Chain, stay, step, Joined, Connected, Loop, Tree}
+use Rattle.graph.specs.Graph.{Net, Sound, Live, First, Plus, Minus, along, against, Chain, stay, step, Joined, Connected, Loop, Tree}
 use Rattle.graph.specs.Chains.{_⊆_, ends-own, joined-same, joined-trans, joined-by, joined-sym, joined-more}
 use Rattle.graph.specs.Paths.{joined-path, path-more}
 use Rattle.graph.specs.Forests.{Forest, forest-no-loop, forest-less, forest-plus}
-
--- the live branches among the first k
-abbrev First : (ℕ → Bool) → ℕ → Branches
-First E k i = (i < k) × (E i ≡ true)
-
--- label q becomes p, every other stays
-unfoldable relabel : ℕ → ℕ → ℕ → ℕ
-relabel p q z = cond (eqb z q) p z
-
--- the label of bus x after the first k branches: a live branch merges the labels of its ends
-unfoldable label : Net → (ℕ → Bool) → ℕ → ℕ → ℕ
-label N E zero x = x
-label N E (suc k) x = cond (E k) (relabel (label N E k (N .from k)) (label N E k (N .to k)) (label N E k x)) (label N E k x)
-
--- branch k is live and closes a loop with the live branches before it
-unfoldable closes : Net → (ℕ → Bool) → ℕ → Bool
-closes N E k = E k && eqb (label N E k (N .from k)) (label N E k (N .to k))
-
--- branch k is live and joins two pieces
-links : Net → (ℕ → Bool) → ℕ → Bool
-links N E k = E k && not (eqb (label N E k (N .from k)) (label N E k (N .to k)))
+use Rattle.graph.specs.Form.{relabel, label, closes, links}
 
 -- how many pieces the first k branches leave: one for each bus that is its own label
-unfoldable pieces : Net → (ℕ → Bool) → ℕ → ℕ
+unfoldable pub pieces : Net → (ℕ → Bool) → ℕ → ℕ
 pieces N E k = count (λ x. eqb (label N E k x) x) (N .buses)
 
 relabel-hit : (p q z : ℕ) → z ≡ q → relabel p q z ≡ p
@@ -57,7 +37,7 @@ relabel-meet p q = go (ℕ-discrete p q) ∙ sym (relabel-hit p q q refl)
     go (yes e) = relabel-hit p q p e
     go (no n) = relabel-miss p q p n
 
-relabel-same : (p q z : ℕ) → p ≡ q → relabel p q z ≡ z
+pub relabel-same : (p q z : ℕ) → p ≡ q → relabel p q z ≡ z
 relabel-same p q z e = go (ℕ-discrete z q)
   where
     go : Dec (z ≡ q) → relabel p q z ≡ z
@@ -79,15 +59,15 @@ kind N E k = go (E k) refl (ℕ-discrete (label N E k (N .from k)) (label N E k 
     go true e (no n) = linking e n
 
 module _ (N : Net) (E : ℕ → Bool) where
-  label-dead : (k x : ℕ) → E k ≡ false → label N E (suc k) x ≡ label N E k x
+  pub label-dead : (k x : ℕ) → E k ≡ false → label N E (suc k) x ≡ label N E k x
   unfolding label
   label-dead k x e = rw e
 
-  label-live : (k x : ℕ) → E k ≡ true → label N E (suc k) x ≡ relabel (label N E k (N .from k)) (label N E k (N .to k)) (label N E k x)
+  pub label-live : (k x : ℕ) → E k ≡ true → label N E (suc k) x ≡ relabel (label N E k (N .from k)) (label N E k (N .to k)) (label N E k x)
   unfolding label
   label-live k x e = rw e
 
-  label-joined : (k x : ℕ) → Joined N (First E k) x (label N E k x)
+  pub label-joined : (k x : ℕ) → Joined N (First E k) x (label N E k x)
   unfolding label
   label-joined zero x = joined-same refl
   label-joined (suc k) x = go (E k) refl (label-joined k)
@@ -124,7 +104,7 @@ module _ (N : Net) (E : ℕ → Bool) where
       go (no n) false t ih = rw (label-dead k (N .from i) t, label-dead k (N .to i) t) (ih (omega arith))
 
   -- two buses have one label exactly where the first k branches join them
-  same-label : (k x y : ℕ) → (label N E k x ≡ label N E k y) ↔ Joined N (First E k) x y
+  pub same-label : (k x y : ℕ) → (label N E k x ≡ label N E k y) ↔ Joined N (First E k) x y
   same-label k x y = (fore, λ j. back (j .1))
     where
       fore : label N E k x ≡ label N E k y → Joined N (First E k) x y
@@ -135,32 +115,32 @@ module _ (N : Net) (E : ℕ → Bool) where
       back (step (l, e) (along p q) c) = rw (← p) (ends-alike k _ l e ∙ rw q (back c))
       back (step (l, e) (against p q) c) = rw (← q) (sym (ends-alike k _ l e) ∙ rw p (back c))
 
-  closes-dead : (k : ℕ) → E k ≡ false → closes N E k ≡ false
+  pub closes-dead : (k : ℕ) → E k ≡ false → closes N E k ≡ false
   unfolding closes
   closes-dead k e = rw e
 
-  closes-closing : (k : ℕ) → E k ≡ true → label N E k (N .from k) ≡ label N E k (N .to k) → closes N E k ≡ true
+  pub closes-closing : (k : ℕ) → E k ≡ true → label N E k (N .from k) ≡ label N E k (N .to k) → closes N E k ≡ true
   unfolding closes
   closes-closing k e p = rw (e, eq-eqb _ _ p)
 
-  closes-linking : (k : ℕ) → label N E k (N .from k) ≢ label N E k (N .to k) → closes N E k ≡ false
+  pub closes-linking : (k : ℕ) → label N E k (N .from k) ≢ label N E k (N .to k) → closes N E k ≡ false
   unfolding closes
   closes-linking k n = rw (ne-eqb _ _ n) (and-false (E k))
 
-  links-dead : (k : ℕ) → E k ≡ false → links N E k ≡ false
+  pub links-dead : (k : ℕ) → E k ≡ false → links N E k ≡ false
   unfolding links
   links-dead k e = rw e
 
-  links-closing : (k : ℕ) → label N E k (N .from k) ≡ label N E k (N .to k) → links N E k ≡ false
+  pub links-closing : (k : ℕ) → label N E k (N .from k) ≡ label N E k (N .to k) → links N E k ≡ false
   unfolding links
   links-closing k p = rw (eq-eqb _ _ p) (and-false (E k))
 
-  links-linking : (k : ℕ) → E k ≡ true → label N E k (N .from k) ≢ label N E k (N .to k) → links N E k ≡ true
+  pub links-linking : (k : ℕ) → E k ≡ true → label N E k (N .from k) ≢ label N E k (N .to k) → links N E k ≡ true
   unfolding links
   links-linking k e n = rw (e, ne-eqb _ _ n)
 
   -- a live branch closes exactly where the branches before it join its ends
-  closes-joined : (k : ℕ) → (closes N E k ≡ true) ↔ ((E k ≡ true) × Joined N (First E k) (N .from k) (N .to k))
+  pub closes-joined : (k : ℕ) → (closes N E k ≡ true) ↔ ((E k ≡ true) × Joined N (First E k) (N .from k) (N .to k))
   closes-joined k = (λ e. go (kind N E k) e, λ h. closes-closing k (h .0) (same-label k _ _ .1 (h .1)))
     where
       go : Kind N E k → closes N E k ≡ true → (E k ≡ true) × Joined N (First E k) (N .from k) (N .to k)
@@ -169,7 +149,7 @@ module _ (N : Net) (E : ℕ → Bool) where
       go (linking e n) h = absurd (true≢false (sym h ∙ closes-linking k n))
 
   -- where none of the first k branches closes, they are without a loop
-  none-closes : (k : ℕ) → ((i : ℕ) → i < k → closes N E i ≡ false) → Forest N (First E k)
+  pub none-closes : (k : ℕ) → ((i : ℕ) → i < k → closes N E i ≡ false) → Forest N (First E k)
   none-closes zero h = λ i s. absurd (omega arith)
   none-closes (suc k) h = go (kind N E k) (none-closes k (λ i l. h i (omega arith)))
     where
@@ -193,7 +173,7 @@ module _ (N : Net) (E : ℕ → Bool) where
               here (no n) = inl (omega arith, t .1)
 
   -- among the first k branches one closes exactly where they have a loop
-  closing-loop : (k : ℕ) → ((i : ℕ) × (i < k) × (closes N E i ≡ true)) ↔ Loop N (First E k)
+  pub closing-loop : (k : ℕ) → ((i : ℕ) × (i < k) × (closes N E i ≡ true)) ↔ Loop N (First E k)
   closing-loop k = (λ (i, l, e). fore i l (closes-joined i .0 e), λ o. back (some-below (closes N E) k) o)
     where
       fore : (i : ℕ) → i < k → (E i ≡ true) × Joined N (First E i) (N .from i) (N .to i) → Loop N (First E k)
@@ -207,7 +187,7 @@ module _ (N : Net) (E : ℕ → Bool) where
       back (inl h) o = h
       back (inr h) o = absurd (forest-no-loop .0 (none-closes k h) o)
 
-  label-idem : (k x : ℕ) → label N E k (label N E k x) ≡ label N E k x
+  pub label-idem : (k x : ℕ) → label N E k (label N E k x) ≡ label N E k x
   label-idem k x = sym (same-label k x (label N E k x) .1 (label-joined k x))
 
   pieces-keep : (k : ℕ) → ((x : ℕ) → label N E (suc k) x ≡ label N E k x) → pieces N E (suc k) ≡ pieces N E k
@@ -228,7 +208,7 @@ module _ (N : Net) (E : ℕ → Bool) where
           omega (arith, count-yes (links N E) k (links-linking k e n), count-no (closes N E) k (closes-linking k n), count-yes E k e)
 
   module _ (sound : Sound N) where
-    label-bus : (k x : ℕ) → k ≤ N .branches → x < N .buses → label N E k x < N .buses
+    pub label-bus : (k x : ℕ) → k ≤ N .branches → x < N .buses → label N E k x < N .buses
     unfolding label
     label-bus zero x m l = l
     label-bus (suc k) x m l = go (E k) refl (label-bus k x (omega arith) l) (label-bus k (N .from k) (omega arith) (sound k m .0))
@@ -272,7 +252,7 @@ module _ (N : Net) (E : ℕ → Bool) where
                 other g = d (sym (label-idem k (N .from k)) ∙ ap L g ∙ f)
             go (no f) = ap (λ z. eqb z x) (sym (label-live k x e ∙ relabel-miss p q (L x) f))
 
-    pieces-links : (k : ℕ) → k ≤ N .branches → pieces N E k + count (links N E) k ≡ N .buses
+    pub pieces-links : (k : ℕ) → k ≤ N .branches → pieces N E k + count (links N E) k ≡ N .buses
     unfolding label pieces count
     pieces-links zero m = rw (count-all (λ x. eqb x x) (N .buses) (λ x l. eq-eqb x _ refl)) (omega arith)
     pieces-links (suc k) m = go (kind N E k) (pieces-links k (omega arith))
@@ -286,7 +266,7 @@ module _ (N : Net) (E : ℕ → Bool) where
     balance : (k : ℕ) → k ≤ N .branches → count E k + pieces N E k ≡ N .buses + count (closes N E) k
     balance k l = omega (arith, pieces-links k l, links-closes k)
 
-    one-piece : 0 < N .buses → Connected N (Live N E) → pieces N E (N .branches) ≡ 1
+    pub one-piece : 0 < N .buses → Connected N (Live N E) → pieces N E (N .branches) ≡ 1
     unfolding pieces Connected
     one-piece some h =
         count-cong (λ x. eqb (L x) x) (λ x. eqb (L 0) x) (N .buses) (λ x l. ap (λ z. eqb z x) (same-label _ x 0 .1 (h x 0 l some)))

@@ -20,7 +20,7 @@ use Rattle.graph.specs.WalkLaws.{walk-count, walk-joined}
 
 module _ (N : Net) (E : ℕ → Bool) (sound : Sound N) (m : N .buses ≤ 256) where
   -- without buses there are no branches
-  no-buses : N .buses ≡ 0 → Tree N (Live N E)
+  pub no-buses : N .buses ≡ 0 → Tree N (Live N E)
   unfolding Connected
   no-buses z = record {
     connected = λ a b l. absurd (omega arith);

@@ -27,8 +27,8 @@ use Rattle.graph.specs.Sides.{away}
 use Rattle.graph.specs.SideLaws.{away-sound}
 use Rattle.drawing.specs.Drawing.{drawnGraph}
 use Rattle.drawing.specs.DrawingLaws.{drawnFroms, drawnTos, drawn-graph, drawn-ends}
-use Rattle.feeders.specs.Feeder.{position, feeder, radialIn}
-use Rattle.feeders.specs.FeederLaws.{feeder-sound, feeder-small, feeder-few}
+use Rattle.feeders.specs.Feeder.{position, feeder}
+use Rattle.feeders.specs.FeederLaws.{feeder-sound, feeder-small, feeder-few, radial-in}
 use Rattle.feeders.specs.FeederRowLaws.{flags-live, same-buses, same-branches, end-position, feeder-ends}
 use Rattle.feeders.specs.FeederRows.{listedIds, endAt, feederGraph, liveFlags, fromEnds, toEnds, endsNet}
 use Rattle.feeders.specs.Supply.{checkNetwork}
@@ -151,11 +151,10 @@ module _ (n : PowerNetwork) (sized : length (n .buses) ≡ 256) (passed : checkN
 
   from-supply : n .«has_supply» ≡ true
       → listLoss (drawnGraph (feederGraph n) flags (endAt (listedIds n) (n .supply))) (loadsAt (n .buses)) (n .branches) (n .«base_mva») flags ≡ lossIn M s
-  unfolding radialIn
   from-supply e =
       let named = value-supplied n e in
       let z = end-position n sized ok (n .supply) (network-inside M .0 passed .1 (n .supply) named .0) in
-      let tree = ap (radial (feeder M)) live-so ∙ fed (n .supply) named in
+      let tree = ap (radial (feeder M)) live-so ∙ sym (radial-in M s) ∙ fed (n .supply) named in
       rw z (drawn-loss n sized ok flags short (position M (n .supply)) (supply-listed M passed (n .supply) named) tree)
       ∙ by-flags (λ E. away (feeder M) E (position M (n .supply)))
       ∙ sym (supplied-loss M s (n .supply) named)

@@ -18,3 +18,4 @@ pub mod Signs
 pub mod Sums
 pub mod RangeLaws
 pub mod Distinct
+pub mod Matching

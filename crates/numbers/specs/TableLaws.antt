@@ -104,6 +104,42 @@ module _ {A B : Type 0} (g : A → B) where
   map-table f zero = refl
   map-table f (suc n) = rw (map-snoc (table f n) (f n), map-table f n)
 
+-- ---- an array that is written anew by rising position
+-- for every other entry it is one of the first i exactly where it is one of the first i + 1
+next-same : (i j : ℕ) → j ≢ i → ltb j i ≡ ltb j (i + 1)
+next-same i j m = go (ltb j i) refl
+  where
+    go : (b : Bool) → ltb j i ≡ b → ltb j i ≡ ltb j (i + 1)
+    go true e = e ∙ sym (lt-ltb j (i + 1) (let l = ltb-true j i e in omega arith))
+    go false e = e ∙ sym (le-ltb j (i + 1) (let l = ltb-false j i e in omega arith))
+
+module _ {A : Type 0} (f g : ℕ → A) where
+  -- the first i of n entries are those of f, the others still those of g
+  unfoldable pub renewed : ℕ → ℕ → List A
+  renewed n i = table (λ j. cond (ltb j i) (f j) (g j)) n
+
+  pub renewed-none : (n : ℕ) → table g n ≡ renewed n 0
+  unfolding renewed
+  renewed-none n = table-cong _ _ n (λ j h. rw (le-ltb j 0 (omega arith)))
+
+  -- the next entry is still that of g
+  pub renewed-next : (n i : ℕ) (d : A) → i < n → getD (renewed n i) i d ≡ g i
+  unfolding renewed
+  renewed-next n i d h = getD-table _ n i d h ∙ rw (le-ltb i i (omega arith))
+
+  pub renewed-more : (n i : ℕ) → i < n → set (renewed n i) i (f i) ≡ renewed n (i + 1)
+  unfolding renewed
+  renewed-more n i h = table-set _ _ n i (f i) h (rw (lt-ltb i (i + 1) (omega arith))) (λ j k m. ap (λ b. cond b (f j) (g j)) (next-same i j m))
+
+  -- where the others are those of f too
+  pub renewed-all : (n i : ℕ) → ((j : ℕ) → j < n → i ≤ j → f j ≡ g j) → renewed n i ≡ table f n
+  unfolding renewed
+  renewed-all n i h = table-cong _ _ n (λ j k. go j k (ltb j i) refl)
+    where
+      go : (j : ℕ) → j < n → (b : Bool) → ltb j i ≡ b → cond (ltb j i) (f j) (g j) ≡ f j
+      go j k true e = rw e
+      go j k false e = rw e (sym (h j k (ltb-false j i e)))
+
 -- ---- an array that is filled by rising position
 module _ {A : Type 0} (f : ℕ → A) (d : A) where
   -- the first i of n entries are those of the table, the others still d
@@ -111,16 +147,12 @@ module _ {A : Type 0} (f : ℕ → A) (d : A) where
   filled n i = table (λ j. cond (ltb j i) (f j) d) n
 
   pub filled-none : (n : ℕ) → table (λ j. d) n ≡ filled n 0
-  unfolding filled
-  filled-none n = table-cong _ _ n (λ j h. rw (le-ltb j 0 (omega arith)))
+  unfolding filled renewed
+  filled-none n = renewed-none f (λ j. d) n
 
   pub filled-more : (n i : ℕ) → i < n → set (filled n i) i (f i) ≡ filled n (i + 1)
-  unfolding filled
-  filled-more n i h = table-set _ _ n i (f i) h (rw (lt-ltb i (i + 1) (omega arith))) (λ j k m. ap (λ b. cond b (f j) d) (same j m (ltb j i) refl))
-    where
-      same : (j : ℕ) → j ≢ i → (b : Bool) → ltb j i ≡ b → ltb j i ≡ ltb j (i + 1)
-      same j m true e = e ∙ sym (lt-ltb j (i + 1) (let l = ltb-true j i e in omega arith))
-      same j m false e = e ∙ sym (le-ltb j (i + 1) (let l = ltb-false j i e in omega arith))
+  unfolding filled renewed
+  filled-more n i h = renewed-more f (λ j. d) n i h
 
   -- no more than n are filled
   pub filled-within : (n i : ℕ) → filled n (min i n) ≡ filled n i
@@ -133,9 +165,5 @@ module _ {A : Type 0} (f : ℕ → A) (d : A) where
 
   -- the others are d in the table too
   pub filled-all : (n i : ℕ) → ((j : ℕ) → j < n → i ≤ j → f j ≡ d) → filled n i ≡ table f n
-  unfolding filled
-  filled-all n i h = table-cong _ _ n (λ j k. go j k (ltb j i) refl)
-    where
-      go : (j : ℕ) → j < n → (b : Bool) → ltb j i ≡ b → cond (ltb j i) (f j) d ≡ f j
-      go j k true e = rw e
-      go j k false e = rw e (sym (h j k (ltb-false j i e)))
+  unfolding filled renewed
+  filled-all n i h = renewed-all f (λ j. d) n i h

@@ -5,6 +5,10 @@ use Prim.Native.Nat.{ℕ, _+_, _*_}
 abbrev pub answerLength : ℕ
 answerLength = 59
 
+-- a line 84: what the live branches of a state are
+abbrev pub formLength : ℕ
+formLength = 11
+
 -- a line 82: an operation
 abbrev pub operationLength : ℕ
 operationLength = 9
@@ -16,6 +20,10 @@ pairLength = 11
 -- a line 8F: a refusal
 abbrev pub refusalLength : ℕ
 refusalLength = 9
+
+-- the two lines on the best state
+abbrev pub resultLength : ℕ
+resultLength = answerLength + formLength
 
 -- an operation for each of "512 switches"
 abbrev pub operationsLength : ℕ
@@ -29,6 +37,6 @@ planLength = 255 * pairLength
 abbrev pub movesLength : ℕ
 movesLength = 510 * operationLength
 
--- all that is printed for a text: 7,472
+-- all that is printed for a text: 7,483
 abbrev pub printedLength : ℕ
-printedLength = answerLength + operationsLength + planLength
+printedLength = resultLength + operationsLength + planLength

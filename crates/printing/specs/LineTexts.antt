@@ -6,12 +6,13 @@ use Prim.Native.Nat.{ℕ, _+_, _*_}
 use native.Mathlib.Omega.{arith}
 use native.Mathlib.Nat.{mul-suc, mul-zero}
 use lib.ListN.{length, length-append}
+use Rattle.graph.specs.declared.form.Form.{Form}
 use Rattle.lines.specs.Hex.{Fields, total}
 use Rattle.lines.specs.Frames.{Frame, layout, frameText}
 use Rattle.lines.specs.HexLaws.{length-fields}
 use Rattle.printing.specs.declared.writer.SwitchOperation.{SwitchOperation}
-use Rattle.printing.specs.Printed.{answer, answerText, operation, operationText, pair, pairText, refusal, refusalText}
-use Rattle.printing.specs.Lengths.{answerLength, operationLength, pairLength, refusalLength}
+use Rattle.printing.specs.Printed.{answer, answerText, formFrame, formFields, formText, operation, operationText, pair, pairText, refusal, refusalText}
+use Rattle.printing.specs.Lengths.{answerLength, formLength, operationLength, pairLength, refusalLength}
 
 -- its line feed included
 pub length-frame : (F : Frame) (f : Fields (F .widths)) → length (frameText F f) ≡ total (layout F) + 1
@@ -21,6 +22,10 @@ length-frame F f = rw (length-append, length-fields)
 pub length-answer : (radial : Bool) (base best reduction iterations : ℕ) (converged : Bool) → length (answerText radial base best reduction iterations converged) ≡ answerLength
 unfolding answerText
 length-answer radial base best reduction iterations converged = length-frame answer _
+
+pub length-form : (f : Form) → length (formText f) ≡ formLength
+unfolding formText
+length-form f = length-frame formFrame (formFields f)
 
 pub length-operation : (o : SwitchOperation) → length (operationText o) ≡ operationLength
 unfolding operationText

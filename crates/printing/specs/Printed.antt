@@ -1,10 +1,12 @@
--- The frames that are printed (document 01, section Triangle).
+-- The frames that are printed (document 01, section Triangle; 84 by document 02, point 5).
 use mathlib.Core.Bool.{Bool, cond}
 use mathlib.Core.List.{List, [], _∷_}
 use Prim.Native.Nat.{ℕ}
 use Rattle.printing.specs.declared.writer.SwitchAction.{SwitchAction}
 use Rattle.printing.specs.declared.writer.SwitchOperation.{SwitchOperation}
 use Rattle.printing.specs.declared.writer.SwitchAction.the-variants.{Open, Close}
+use Rattle.graph.specs.declared.form.Form.{Form}
+use Rattle.graph.specs.Form.{islandsField, branchField}
 use Rattle.lines.specs.Hex.{Fields}
 use Rattle.lines.specs.Frames.{Frame, frameText}
 
@@ -23,6 +25,17 @@ answerFields radial base best reduction iterations converged = (truthByte radial
 
 unfoldable pub answerText : Bool → ℕ → ℕ → ℕ → ℕ → Bool → List ℕ
 answerText radial base best reduction iterations converged = frameText answer (answerFields radial base best reduction iterations converged)
+
+-- ---- 84
+-- "islands u16, then branch u16 or FFFF"
+abbrev pub formFrame : Frame
+formFrame = record { kind = 0x84; widths = 4 ∷ 4 ∷ [] }
+
+abbrev pub formFields : Form → Fields (formFrame .widths)
+formFields f = (islandsField f, (branchField f, tt))
+
+unfoldable pub formText : Form → List ℕ
+formText f = frameText formFrame (formFields f)
 
 -- ---- 82
 -- "switch id, 00 open or 01 close"

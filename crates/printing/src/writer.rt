@@ -7,8 +7,10 @@ ghost use Prim.Native.Nat.{_≤_};
 ghost use lib.ListN.{length};
 ghost use Rattle.lines.specs.Hex.{digits};
 ghost use Rattle.slices.specs.Written.{written};
-ghost use Rattle.printing.specs.Printed.{truthByte, actionByte, answerText, operationText, pairText, refusalText};
+ghost use Rattle.printing.specs.Printed.{truthByte, actionByte, answerText, formText, operationText, pairText, refusalText};
 use crate::lengths::ANSWER_LENGTH;
+use graph::form::Form;
+use graph::form::fields_of;
 use slices::writer::write_digits;
 use slices::writer::write_line;
 
@@ -73,6 +75,15 @@ pub fn write_answer(
     write_digits(out, 4, head);
     write_losses(&mut out[4..], base, best, reduction);
     write_line(&mut out[52..], 6, last_fields);
+}
+
+// The frame 84: the islands and the first closing branch of a state, FFFF where it has no loop.
+pub fn write_form(out: &mut [u8], form: Form)
+    ensures { λ _. ⌜ now (out .exit) ≡ written (formText form) (now (out .entry)) ⌝ }
+{
+    let fields = fields_of(form);
+    let number = 0x1_0000 * fields.islands as u64 + fields.branch as u64;
+    write_line(out, 10, 0x84_0000_0000 + number);
 }
 
 // The frame 82: a switch, and what is done to it.

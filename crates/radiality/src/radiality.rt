@@ -1,28 +1,29 @@
 // Translated and changed from src/network/reconfiguration.rs of oxigrid. Copyright 2024-2026 COOLJAPAN OU (Team Kitasan), Apache License 2.0.
-// Document 01's radiality of a state: the reference for every search and plan.
+// The radiality of a state as document 02 has it, a tree or what instead: the reference for every search and plan.
 ghost use mathlib.Core.Path.{_≡_};
 ghost use Rattle.network.specs.Records.{recordsOf};
 ghost use Rattle.radiality.specs.Answers.{radialityOf};
-ghost use Rattle.feeders.specs.Feeder.{radialIn};
+ghost use Rattle.feeders.specs.Feeder.{formIn};
 ghost use Rattle.feeders.specs.StateCalls.{onState};
-use bfs::radial::is_radial;
 use feeders::feeder::graph_of;
 use feeders::supply::check_network;
+use forms::form::form_of;
+use graph::form::Form;
 use network::error::Verdict;
 use network::topology::PowerNetwork;
 use states::configuration::NetworkConfiguration;
 use states::configuration::check_state;
 use states::configuration::live_branches;
 
-// Whether a state is radial, or document 01's refusal number and place.
+// What the live branches of a state are, or document 01's refusal number and place.
 pub enum Radiality {
-    Radial(bool),
+    Formed(Form),
     Refused { number: u8, place: u16 },
 }
 
-// True for zero buses; else the state is radial when one branch less than there are buses is live and all buses are reached.
+// What the live branches are. They are a tree where there are no buses; else where one less than the buses are live and all buses are reached.
 pub fn verify_radiality(network: PowerNetwork, state: &[u8]) -> Radiality
-    ensures { λ r. ⌜ radialityOf r ≡ onState (recordsOf network) (now (state .entry)) (radialIn (recordsOf network) (now (state .entry))) ⌝ }
+    ensures { λ r. ⌜ radialityOf r ≡ onState (recordsOf network) (now (state .entry)) (formIn (recordsOf network) (now (state .entry))) ⌝ }
 {
     if let Verdict::Refused { number, place } = check_network(network) {
         return Radiality::Refused { number, place };
@@ -31,5 +32,5 @@ pub fn verify_radiality(network: PowerNetwork, state: &[u8]) -> Radiality
         return Radiality::Refused { number, place };
     }
     let live = live_branches(network, NetworkConfiguration::of(state));
-    Radiality::Radial(is_radial(graph_of(network), live))
+    Radiality::Formed(form_of(graph_of(network), live))
 }

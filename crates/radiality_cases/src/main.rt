@@ -1,4 +1,4 @@
-// Radiality of the cases on standard input. A case is a line 'LENGTH NAME', a frame text, a line feed, and a line 'CHANGE STATE'. An empty text
+// What the live branches are in the cases on standard input. A case is a line 'LENGTH NAME', a frame text, a line feed, and a line 'CHANGE STATE'. An empty text
 // stands for the feeder of the case before. CHANGE is a letter for a change of the records, a hyphen for none. STATE has a digit for each byte.
 mod changes;
 
@@ -11,6 +11,7 @@ use cases::line_behind;
 use cases::part_of;
 use cases::state_bytes;
 use changes::changed;
+use graph::form::Form;
 use libc::STDOUT_FILENO;
 use network::error::Verdict;
 use network::switch::ReconfigAlgorithm;
@@ -25,19 +26,32 @@ struct Done {
     to: usize,
 }
 
-fn print_radial(radial: bool) {
-    if !radial {
-        io::write_all(STDOUT_FILENO, b" not");
+fn print_number(number: u16) {
+    io::write_all(STDOUT_FILENO, b" ");
+    io::print_decimal(STDOUT_FILENO, number as u64);
+}
+
+// `tree`, `loop BRANCH ISLANDS` or `islands COUNT`.
+fn print_form(form: Form) {
+    match form {
+        Form::Tree => {
+            io::write_all(STDOUT_FILENO, b" tree");
+        }
+        Form::Loop { branch, islands } => {
+            io::write_all(STDOUT_FILENO, b" loop");
+            print_number(branch);
+            print_number(islands);
+        }
+        Form::Islands(islands) => {
+            io::write_all(STDOUT_FILENO, b" islands");
+            print_number(islands);
+        }
     }
-    io::write_all(STDOUT_FILENO, b" radial\n");
 }
 
 fn print_refusal(number: u8, place: u16) {
-    io::write_all(STDOUT_FILENO, b" ");
-    io::print_decimal(STDOUT_FILENO, number as u64);
-    io::write_all(STDOUT_FILENO, b" ");
-    io::print_decimal(STDOUT_FILENO, place as u64);
-    io::write_all(STDOUT_FILENO, b"\n");
+    print_number(number as u16);
+    print_number(place);
 }
 
 // The line has the change and the state.
@@ -48,9 +62,10 @@ fn print_answer(network: PowerNetwork, line: &[u8]) {
     let state = state_bytes(&line[2..]);
     let n = at_most(line.len() - 2, MAX_STATE);
     match verify_radiality(changed(network, line[0]), &state[0..n]) {
-        Radiality::Radial(radial) => print_radial(radial),
+        Radiality::Formed(form) => print_form(form),
         Radiality::Refused { number, place } => print_refusal(number, place),
     }
+    io::write_all(STDOUT_FILENO, b"\n");
 }
 
 // A text that the reader refuses is said to be no feeder: such a case is wrongly made.

@@ -13,7 +13,7 @@ use Rattle.network.specs.Answers.{accepted}
 use Rattle.states.specs.BaseLaws.{base-good}
 use Rattle.states.specs.Live.{live, baseState, checkState}
 use Rattle.states.specs.Switches.{State, operable, size, toggled}
-use Rattle.feeders.specs.Feeder.{feeder, position, radialIn}
+use Rattle.feeders.specs.Feeder.{feeder, position, formIn, radialIn}
 use Rattle.feeders.specs.StateCalls.{checkRadial}
 use Rattle.feeders.specs.Supply.{checkNetwork}
 use Rattle.feeders.specs.SupplyLaws.{base-radial}
@@ -50,7 +50,7 @@ module _ (N : Network) (ok : checkNetwork N ≡ accepted tt) where
 -- ---- `exhaustive_solve` answers for the network with method 02, whichever its head has. The method decides no loss, so that the loss call on the network itself answers the same
 module _ (N : Network) where
   same-fed : (s : State) (p : Option ℕ) → checkFed N p s ≡ checkFed (asExhaustive N) p s
-  unfolding asExhaustive checkRadial radialIn live feeder position
+  unfolding asExhaustive checkRadial radialIn formIn live feeder position
   same-fed s none = refl
   same-fed s (some id) = refl
 

@@ -1,5 +1,5 @@
 -- Radiality and losses depend on the live branches alone. No radial state has all live branches of another and more besides: no tree is a part of another.
-use mathlib.Core.Path.{_≡_, _∙_, fun-ext}
+use mathlib.Core.Path.{_≡_, sym, ap, _∙_, fun-ext}
 use mathlib.Core.Bool.{true}
 use Prim.Native.Nat.{ℕ, _<_}
 use Rattle.numbers.specs.Tests.{same-test}
@@ -7,16 +7,16 @@ use Rattle.network.specs.Records.{Network}
 use Rattle.network.specs.Inside.{Inside}
 use Rattle.states.specs.Live.{live, SameLive}
 use Rattle.states.specs.Switches.{State}
+use Rattle.graph.specs.Radial.{radial}
 use Rattle.graph.specs.Trees.{live-part-is-whole}
 use Rattle.feeders.specs.Feeder.{feeder, radialIn}
-use Rattle.feeders.specs.FeederLaws.{feeder-sound, inside-radial-tree}
+use Rattle.feeders.specs.FeederLaws.{feeder-sound, radial-in, inside-radial-tree}
 use Rattle.losses.specs.Loss.{lossIn}
 use Rattle.states.specs.LiveBytes.{live-listed}
 
 module _ (N : Network) (s t : State) where
   pub same-radial : SameLive N s t → radialIn N s ≡ radialIn N t
-  unfolding radialIn
-  same-radial h = rw (fun-ext h)
+  same-radial h = radial-in N s ∙ ap (radial (feeder N)) (fun-ext h) ∙ sym (radial-in N t)
 
   pub same-loss : SameLive N s t → lossIn N s ≡ lossIn N t
   unfolding lossIn

@@ -10,7 +10,8 @@ use Rattle.network.specs.Answers.{Answer, accepted, refused}
 use Rattle.states.specs.Live.{baseState}
 use Rattle.states.specs.Switches.{State, GoodState}
 use Rattle.printing.specs.Calls.{Call, called}
-use Rattle.feeders.specs.Feeder.{radialIn}
+use Rattle.graph.specs.declared.form.Form.{Form}
+use Rattle.feeders.specs.Feeder.{formIn, radialIn}
 use Rattle.feeders.specs.Supply.{checkNetwork}
 use Rattle.losses.specs.Loss.{lossIn}
 use Rattle.searches.specs.declared.answer.ReconfigResult.{ReconfigResult}
@@ -32,9 +33,9 @@ pub record SoundBest (N : Network) (b : Best) : Type 0 where
 unfoldable pub reduction : Float → Float → Float
 reduction base best = cond (lt trillionth base) (mul binary64 (div binary64 (sub binary64 base best) base) hundred) zero64
 
--- what is answered beside the best state
+-- what is answered beside the best state: first what its live branches are
 pub record Result : Type 0 where
-  pub radial : Bool
+  pub form : Form
   pub base-loss : Float
   pub best-loss : Float
   pub reduction : Float
@@ -46,7 +47,7 @@ unfoldable pub resultBy : (Network → Best) → Network → Result
 resultBy search N =
     let b = search N in
     record {
-      radial = radialIn N (b .state);
+      form = formIn N (b .state);
       base-loss = lossIn N (baseState N);
       best-loss = lossIn N (b .state);
       reduction = reduction (lossIn N (baseState N)) (lossIn N (b .state));
@@ -62,7 +63,7 @@ solvedBy search N out = called (checkNetwork N) (resultBy search N) (search N .s
 abbrev pub resultOf : ReconfigResult → Result
 resultOf r =
     record {
-      radial = r .«is_radial»;
+      form = r .form;
       base-loss = r .«base_losses_mw»;
       best-loss = r .«optimized_losses_mw»;
       reduction = r .«loss_reduction_pct»;

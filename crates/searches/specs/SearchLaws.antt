@@ -14,15 +14,15 @@ use Rattle.network.specs.Answers.{accepted, refused, answerOf, _andThen_, Judge
 use Rattle.network.specs.AnswerLaws.{accepted-so, then-iff}
 use Rattle.network.specs.Check.{checkRecords}
 use Rattle.states.specs.Listed.{state-accepted, switches-listed, few-switches}
-use Rattle.graph.specs.Rows.{rowRadial}
+use Rattle.graph.specs.Form.{rowForm}
 use Rattle.printing.specs.Calls.{checkRoom, answered, called}
 use Rattle.printing.specs.CallLaws.{call-accepted}
 use Rattle.slices.specs.Written.{written}
-use Rattle.feeders.specs.Feeder.{radialIn}
+use Rattle.feeders.specs.Feeder.{formIn}
 use Rattle.feeders.specs.Supply.{checkNetwork}
 use Rattle.feeders.specs.SupplyLaws.{network-records}
 use Rattle.feeders.specs.FeederRows.{liveFlags}
-use Rattle.feeders.specs.FeederRowLaws.{state-flags, flags-radial}
+use Rattle.feeders.specs.FeederRowLaws.{state-flags, flags-form}
 use Rattle.searches.specs.declared.answer.Found.{Found}
 use Rattle.searches.specs.declared.start.Start.{Start}
 use Rattle.searches.specs.Results.{Best, SoundBest, resultBy, solvedBy}
@@ -77,10 +77,10 @@ module _ (n : PowerNetwork) (search : Network → Best) (sound : (N : Network) �
       unfolding foundOf
       held = ap (λ x. stateOf n (x .configuration)) f ∙ state-held n (search N .state) long (few-switches n ok)
 
-      judged : rowRadial (start .graph) (liveFlags N (found .configuration .switches)) ≡ radialIn N (search N .state)
+      judged : rowForm (start .graph) (liveFlags N (found .configuration .switches)) ≡ formIn N (search N .state)
       unfolding startOf foundOf
       judged =
-          flags-radial n sized ok (search N .state) _ _ (ap (λ x. x .graph) s)
+          flags-form n sized ok (search N .state) _ _ (ap (λ x. x .graph) s)
           (state-flags N (search N .state) 0 ok (state-accepted N (search N .state) 0 .1 (sound N .good)) _ _ (ap (λ x. x .configuration) f) refl) _ refl
 
       pub search-answered : answerWith n start found out ≡ solvedBy search N out

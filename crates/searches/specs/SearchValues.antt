@@ -7,6 +7,7 @@ use Rattle.states.specs.Configuration.{configurationOf}
 use Rattle.states.specs.Live.{baseState}
 use Rattle.network.specs.Records.{Network, recordsOf}
 use Rattle.graph.specs.Rows.{rowRadial}
+use Rattle.graph.specs.Form.{rowForm}
 use Rattle.printing.specs.Calls.{Call}
 use Rattle.slices.specs.Written.{written}
 use Rattle.feeders.specs.FeederRows.{feederGraph, liveFlags}
@@ -35,14 +36,14 @@ startOf n =
 unfoldable pub foundOf : Network → Best → Found
 foundOf N b = record { configuration = configurationOf (b .state); loss = lossIn N (b .state); iterations = b .iterations; converged = b .converged }
 
--- "radial byte of the best state": as the start's rows say of the state that was found. With a checked network's start and what a search found it is that search's call
+-- what the start's rows say that the live branches of the found state are. With a checked network's start and what a search found it is that search's call
 -- (SearchLaws.search-answered)
 unfoldable pub answerWith : PowerNetwork → Start → Found → List ℕ → Call Result
 answerWith n start found out =
     record {
       answer = accepted
           (record {
-            radial = rowRadial (start .graph) (liveFlags (recordsOf n) (found .configuration .switches));
+            form = rowForm (start .graph) (liveFlags (recordsOf n) (found .configuration .switches));
             base-loss = start .loss;
             best-loss = found .loss;
             reduction = reduction (start .loss) (found .loss);

@@ -10,8 +10,9 @@ ghost use Rattle.slices.specs.Written.{written};
 ghost use Rattle.searches.specs.Results.{reduction, solveAnswerOf};
 ghost use Rattle.searches.specs.SearchValues.{answerWith};
 use crate::start::Start;
-use bfs::radial::is_radial;
 use feeders::supply::check_network;
+use forms::form::form_of;
+use graph::form::Form;
 use network::error::Verdict;
 use network::topology::PowerNetwork;
 use numbers::at_most;
@@ -22,7 +23,7 @@ use states::configuration::live_branches;
 
 // What is answered beside the best state.
 pub struct ReconfigResult {
-    pub is_radial: bool,
+    pub form: Form,
     pub base_losses_mw: f64,
     pub optimized_losses_mw: f64,
     pub loss_reduction_pct: f64,
@@ -87,10 +88,10 @@ pub fn answer_with(network: PowerNetwork, start: Start, found: Found, out: &mut 
 {
     let best = found.configuration;
     let graph = start.graph;
-    let radial = is_radial(graph, live_branches(network, best));
+    let form = form_of(graph, live_branches(network, best));
     write_state(best, network.switch_count, out);
     SolveAnswer::Solved(ReconfigResult {
-        is_radial: radial,
+        form,
         base_losses_mw: start.loss,
         optimized_losses_mw: found.loss,
         loss_reduction_pct: reduction(start.loss, found.loss),

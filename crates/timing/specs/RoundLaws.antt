@@ -14,9 +14,9 @@ use Rattle.network.specs.AnswerLaws.{then-iff}
 use Rattle.network.specs.Records.{Network, recordsOf}
 use Rattle.network.specs.declared.topology.PowerNetwork.{PowerNetwork}
 use Rattle.printing.specs.Lengths.{planLength}
-use Rattle.printing.specs.Printed.{truthByte}
+use Rattle.graph.specs.Form.{formNumber}
 use Rattle.frames.specs.Text.{readText}
-use Rattle.feeders.specs.Feeder.{radialIn}
+use Rattle.feeders.specs.Feeder.{formIn}
 use Rattle.feeders.specs.StateCalls.{onState}
 use Rattle.feeders.specs.Supply.{checkNetwork}
 use Rattle.feeders.specs.SupplyLaws.{network-records}
@@ -27,7 +27,7 @@ use Rattle.printing.specs.Calls.{checkRoom, Call, answered, called}
 use Rattle.plan.specs.Plan.{planned}
 use Rattle.searches.specs.Results.{Result, resultBy, solvedBy}
 use Rattle.reconfiguration.specs.Solve.{best, result, solved}
-use Rattle.controller.specs.Calls.{numbered, onRecords, textRadiality, textLoss, onText, textPlan}
+use Rattle.controller.specs.Calls.{numbered, onRecords, textForm, textLoss, onText, textPlan}
 use Rattle.controller.specs.CallLaws.{NoNan, reading-refused, text-untouched}
 use Rattle.timing.specs.Rounds.{valueOf, recordCount, searchValue, textSearch, asked, total}
 
@@ -55,8 +55,8 @@ module _ (kind : ℕ) (t a b : List ℕ) where
 
   module _ (N : Network) where
     pub asked-radiality : kind ≡ 1 → readText t ≡ accepted N
-        → numbered truthByte (onState N a (radialIn N a)) ≡ asked kind t a b
-    unfolding asked textRadiality onRecords
+        → numbered formNumber (onState N a (formIn N a)) ≡ asked kind t a b
+    unfolding asked textForm onRecords
     asked-radiality e so = rw (e, so)
 
     pub asked-loss : kind ≡ 2 → readText t ≡ accepted N
@@ -115,10 +115,10 @@ either-nothing true u v hu hv = hu
 either-nothing false u v hu hv = hv
 
 value-refused : (kind : ℕ) (t a b : List ℕ) (n p : ℕ) → readText t ≡ refused n p → valueOf (asked kind t a b) ≡ 0
-unfolding asked onRecords textRadiality textLoss textPlan
+unfolding asked onRecords textForm textLoss textPlan
 value-refused kind t a b n p so =
     either-nothing (eqb kind 0) _ _ (sym (count-refused t n p so))
-    (either-nothing (eqb kind 1) _ _ (ap valueOf (sym (reading-refused truthByte t _ so)))
+    (either-nothing (eqb kind 1) _ _ (ap valueOf (sym (reading-refused formNumber t _ so)))
     (either-nothing (eqb kind 2) _ _ (ap valueOf (sym (reading-refused (toBits binary64) t _ so)))
     (either-nothing (eqb kind 3) _ _ (ap (λ (q : Call ℕ). valueOf (q .answer)) (sym (text-untouched t _ (replicate planLength 0) so))) refl)))
 

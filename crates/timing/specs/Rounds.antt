@@ -12,7 +12,7 @@ use Rattle.frames.specs.Text.{readText}
 use Rattle.printing.specs.Lengths.{planLength}
 use Rattle.searches.specs.Results.{Result}
 use Rattle.reconfiguration.specs.Solve.{solved}
-use Rattle.controller.specs.Calls.{numbered, onRecords, textRadiality, textLoss, textPlan}
+use Rattle.controller.specs.Calls.{numbered, onRecords, textForm, textLoss, textPlan}
 
 -- what an answer counts for
 abbrev pub valueOf : Answer ℕ → ℕ
@@ -35,7 +35,7 @@ textSearch text = onRecords (readText text) searchValue
 unfoldable pub asked : ℕ → List ℕ → List ℕ → List ℕ → Answer ℕ
 asked kind text first second =
     cond (eqb kind 0) (onRecords (readText text) (λ N. accepted (recordCount N)))
-    (cond (eqb kind 1) (textRadiality text first)
+    (cond (eqb kind 1) (textForm text first)
     (cond (eqb kind 2) (textLoss text first)
     (cond (eqb kind 3) (textPlan text first second (replicate planLength 0) .answer)
     (accepted 0))))

@@ -5,15 +5,16 @@ ghost use lib.ListN.{replicate};
 ghost use Rattle.network.specs.Answers.{accepted};
 ghost use Rattle.network.specs.Records.{recordsOf};
 ghost use Rattle.printing.specs.Lengths.{planLength};
-ghost use Rattle.printing.specs.Printed.{truthByte};
 ghost use Rattle.frames.specs.Text.{readText};
-ghost use Rattle.feeders.specs.Feeder.{radialIn};
+ghost use Rattle.graph.specs.Form.{formNumber};
+ghost use Rattle.feeders.specs.Feeder.{formIn};
 ghost use Rattle.feeders.specs.StateCalls.{onState};
 ghost use Rattle.losses.specs.LossCall.{lossCall};
 ghost use Rattle.plan.specs.Plan.{planned};
 ghost use Rattle.controller.specs.Calls.{numbered, onRecords};
 ghost use Rattle.timing.specs.Rounds.{valueOf, recordCount, searchValue};
 use frames::reader::read_text;
+use graph::form::fields_of;
 use losses::evaluation::LossAnswer;
 use losses::evaluation::evaluate_config;
 use network::error::Verdict;
@@ -21,7 +22,6 @@ use network::topology::PowerNetwork;
 use plan::planner::PlanAnswer;
 use plan::planner::plan;
 use printing::lengths::PLAN_LENGTH;
-use printing::writer::truth_byte;
 use radiality::radiality::Radiality;
 use radiality::radiality::verify_radiality;
 use reconfiguration::solve::solve;
@@ -41,13 +41,16 @@ pub(crate) fn reading(text: &[u8]) -> u64
     network.bus_count as u64 + network.branch_count as u64 + network.switch_count as u64
 }
 
-// 1 for a radial state.
+// What the live branches of a state are, as one number.
 pub(crate) fn radiality(network: PowerNetwork, state: &[u8]) -> u64
-    ensures { λ r. ⌜ r ≡ valueOf (numbered truthByte (onState (recordsOf network) (now (state .entry)) (radialIn (recordsOf network) (now (state .entry))))) ⌝ }
+    ensures { λ r. ⌜ r ≡ valueOf (numbered formNumber (onState (recordsOf network) (now (state .entry)) (formIn (recordsOf network) (now (state .entry))))) ⌝ }
 {
     match verify_radiality(network, state) {
         Radiality::Refused { number, place } => 0,
-        Radiality::Radial(radial) => truth_byte(radial) as u64,
+        Radiality::Formed(form) => {
+            let fields = fields_of(form);
+            0x1_0000 * fields.islands as u64 + fields.branch as u64
+        }
     }
 }
 

@@ -1,4 +1,4 @@
-//! Questions on calls that `feeder` doesn't show: radiality and loss of any state, the best state in a lent slice,
+//! Questions on calls that `feeder` doesn't show: radiality, form and loss of any state, the best state in a lent slice,
 //! operations and plans between any two states, plans cut off, the text of the records. A question is a case of the program `call_cases`
 //! (crates/call_cases/src/calls.rt), its answer what that program is to print.
 
@@ -7,10 +7,12 @@ use crate::compare::Right;
 use crate::driver::Original;
 use crate::feeder::Feeder;
 use crate::random::Random;
+use crate::reckoning::form::{self, Form};
 use crate::reckoning::plan::{self, plan, well_formed};
 use crate::reckoning::{judge, reader, resume, searches, Network, Refusal};
 use crate::states::{any_cut_plan, any_plan, any_state, more_closed, near, OPERATION_LENGTH};
-use crate::{damage, shapes, supplied, supply};
+use crate::wrong_forms::Mistake;
+use crate::{damage, forms, shapes, supplied, supply};
 
 /// One question of a program under test.
 pub struct Question {
@@ -41,7 +43,7 @@ type Listed = (char, Call, &'static str);
 
 /// The letter of each call, and what is asked.
 const CALLS: [Listed; 6] = [
-    ('S', Call::State, "radiality and loss of a state"),
+    ('S', Call::State, "radiality, form and loss of a state"),
     ('B', Call::Best, "the best state in a slice"),
     ('O', Call::Operations, "operations in a slice"),
     ('P', Call::Plan, "a plan in a slice"),
@@ -51,7 +53,7 @@ const CALLS: [Listed; 6] = [
 
 /// What an answered call prints: its fields, and what it writes into the slices.
 struct Answer {
-    result: &'static str,
+    result: String,
     fields: String,
     written: Vec<String>,
 }
@@ -99,7 +101,7 @@ pub fn questions(count: usize, seed: u64) -> impl Iterator<Item = Vec<u8>> + Sen
 
 pub const FULL_QUEUE_QUESTIONS: &str = "a full queue: questions";
 
-/// Radiality and loss on feeders of `shapes::full_queue`. Three states in four have the base's live branches and more, so that a queue
+/// Radiality, form and loss on feeders of `shapes::full_queue`. Three states in four have the base's live branches and more, so that a queue
 /// is full; the others are any.
 pub fn full_queue_questions(count: usize, seed: u64) -> impl Iterator<Item = Vec<u8>> + Send {
     (0..count).map(move |number| {
@@ -110,6 +112,36 @@ pub fn full_queue_questions(count: usize, seed: u64) -> impl Iterator<Item = Vec
         let (name, call) = (format!("S{number}"), Call::State);
         Question { name, text, call, change: '-', present, wanted: Vec::new(), count: 0, rooms: Vec::new() }.written()
     })
+}
+
+pub const FORM_QUESTIONS: &str = "loops and islands: questions";
+
+/// The best state of the named feeders and of some of `shapes::loops_and_islands`, radiality, form and loss of the bases of the former and of
+/// any state of the latter.
+pub fn form_questions(count: usize, seed: u64) -> impl Iterator<Item = Vec<u8>> + Send {
+    let named = forms::named().into_iter().enumerate().flat_map(|(number, (_, feeder, _))| {
+        let network = reader::read(&feeder.text()).expect("a named feeder is acceptable");
+        [Call::State, Call::Best].map(|call| on_base(call, number, feeder.text(), &network))
+    });
+    let drawn = (0..count).map(move |number| {
+        let random = &mut Random::new(seed, FORM_QUESTIONS, number);
+        let text = shapes::loops_and_islands(random, number).text();
+        let network = reader::read(&text).expect("shapes are acceptable");
+        asked(random, CALLS[(number % 4 == 3) as usize], number, text, &network)
+    });
+    named.chain(drawn)
+}
+
+/// The base, or a slice that has just room for the best state.
+fn on_base(call: Call, number: usize, text: Vec<u8>, network: &Network) -> Vec<u8> {
+    let (present, rooms) = match call {
+        Call::State => (network.base(), Vec::new()),
+        _ => (Vec::new(), vec![network.switches.len()]),
+    };
+    let mut question =
+        Question { name: String::new(), text, call, change: '-', present, wanted: Vec::new(), count: 0, rooms };
+    question.name = format!("{}{number}", question.listed().0);
+    question.written()
 }
 
 /// Any questions of texts with the 05 line.
@@ -248,13 +280,22 @@ impl Question {
     }
 
     fn printed(&self) -> Printed {
-        let answer = self.network().and_then(|network| self.answer(&network));
+        self.printed_with(None)
+    }
+
+    /// With a mistake about the forms of states, or with none.
+    fn printed_with(&self, mistake: Option<Mistake>) -> Printed {
+        let answer = self.network().and_then(|network| self.answer(&network, mistake));
         let (result, fields, written) = match answer {
-            Ok(answer) => (answer.result.to_string(), answer.fields, answer.written),
+            Ok(answer) => (answer.result, answer.fields, answer.written),
             Err(Refusal { number, place }) => (format!("refused {number}"), self.refusal(number, place), Vec::new()),
         };
         let (name, output) = (self.name.clone(), self.output(&fields, &written));
         Printed { name, output, result: format!("{}: {result}", self.listed().2) }
+    }
+
+    pub fn output_with(&self, mistake: Mistake) -> String {
+        self.printed_with(Some(mistake)).output
     }
 
     /// The records that the call gets.
@@ -271,15 +312,15 @@ impl Question {
         format!("{}{fields}{}\n", self.name, slices.join("\n"))
     }
 
-    /// Radiality and loss are two calls, which refuse alike.
+    /// Radiality, form and loss are three calls, which refuse alike.
     pub fn refusal(&self, number: u8, place: u16) -> String {
-        format!(" refused {number} {place}").repeat(if self.call == Call::State { 2 } else { 1 })
+        format!(" refused {number} {place}").repeat(if self.call == Call::State { 3 } else { 1 })
     }
 
-    fn answer(&self, network: &Network) -> Result<Answer, Refusal> {
+    fn answer(&self, network: &Network, mistake: Option<Mistake>) -> Result<Answer, Refusal> {
         let answer = match self.call {
-            Call::State => state_answer(network, &self.present)?,
-            Call::Best => best_answer(network),
+            Call::State => state_answer(network, &self.present, mistake)?,
+            Call::Best => best_answer(network, mistake),
             Call::Operations => operations_answer(network, &self.present, &self.wanted)?,
             Call::Plan => plan_answer(network, &self.present, &self.wanted)?,
             Call::Text => text_answer(changed(&self.text, self.change)),
@@ -298,23 +339,37 @@ fn refused_unless(holds: bool, number: u8, place: u16) -> Result<(), Refusal> {
     }
 }
 
-fn state_answer(network: &Network, state: &[u8]) -> Result<Answer, Refusal> {
-    refused_unless(well_formed(network, state), 10, 0)?;
-    let original = Original::new(network);
-    let radial = original.radial(state);
-    let (result, loss) = match network.supply {
-        Some(_) if !radial => ("radiality answered, loss refused 11", "refused 11 0".to_string()),
-        _ => (ANSWERED, format!("{:016x}", supply::loss(network, state).to_bits())),
-    };
-    Ok(Answer { result, fields: format!(" {:02x} {loss}", radial as u8), written: Vec::new() })
+/// What a state's live branches are, the original's radiality beside it, and the islands and the branch that are told.
+fn formed(network: &Network, state: &[u8], mistake: Option<Mistake>) -> (Form, [u16; 2]) {
+    let form = form::form(network, &network.live(state));
+    let radial = Original::new(network).radial(state);
+    assert_eq!(form == Form::Tree, radial, "the original and the reckoning disagree on a state");
+    (form, mistake.map_or(form.fields(), |mistake| mistake.fields(network, state)))
 }
 
-/// The fields of the 81 line.
-fn best_answer(network: &Network) -> Answer {
+fn state_answer(network: &Network, state: &[u8], mistake: Option<Mistake>) -> Result<Answer, Refusal> {
+    refused_unless(well_formed(network, state), 10, 0)?;
+    let (form, fields) = formed(network, state, mistake);
+    let radial = form == Form::Tree;
+    let (loss, refused) = match network.supply {
+        Some(_) if !radial => ("refused 11 0".to_string(), ", loss refused 11"),
+        _ => (format!("{:016x}", supply::loss(network, state).to_bits()), ""),
+    };
+    let fields = format!(" {:02x} {:08x} {loss}", radial as u8, form::number(fields));
+    Ok(Answer { result: format!("{ANSWERED}, {}{refused}", form.name()), fields, written: Vec::new() })
+}
+
+/// The fields of the 81 line, then those of the 84 line.
+fn best_answer(network: &Network, mistake: Option<Mistake>) -> Answer {
     let answer = supply::solve(network);
     let ends = [2, 4, 20, 36, 52, 56, 58];
     let fields = ends.windows(2).map(|field| format!(" {}", answer.lines[field[0]..field[1]].to_ascii_lowercase()));
-    Answer { result: ANSWERED, fields: fields.collect(), written: vec![digits(&answer.best)] }
+    let (form, [islands, branch]) = formed(network, &answer.best, mistake);
+    Answer {
+        result: format!("{ANSWERED}, {}", form.name()),
+        fields: fields.chain([format!(" {islands:04x} {branch:04x}")]).collect(),
+        written: vec![digits(&answer.best)],
+    }
 }
 
 fn operations_answer(network: &Network, present: &[u8], wanted: &[u8]) -> Result<Answer, Refusal> {
@@ -341,7 +396,7 @@ fn cut_plan_answer(network: &Network, question: &Question) -> Result<Answer, Ref
 }
 
 fn counted(count: usize, written: Vec<String>) -> Answer {
-    Answer { result: ANSWERED, fields: format!(" {count:04x}"), written }
+    Answer { result: ANSWERED.to_string(), fields: format!(" {count:04x}"), written }
 }
 
 /// An accepted text is the only one of its records.

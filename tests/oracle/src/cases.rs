@@ -2,7 +2,7 @@
 
 use crate::feeder::Feeder;
 use crate::random::Random;
-use crate::{damage, limits, shapes, short};
+use crate::{damage, forms, limits, shapes, short};
 
 pub struct Case {
     pub kind: &'static str,
@@ -19,8 +19,10 @@ pub struct Size {
     pub three_buses: usize,
     pub full: usize,
     pub full_queue: usize,
+    pub loops_and_islands: usize,
     pub questions: usize,
     pub full_queue_questions: usize,
+    pub form_questions: usize,
     pub cut_plans: usize,
     /// The same with the 05 line.
     pub with_line: WithLine,
@@ -45,8 +47,10 @@ impl Size {
                 three_buses: 2_000,
                 full: 3,
                 full_queue: 36,
+                loops_and_islands: 300,
                 questions: 20_000,
                 full_queue_questions: 60,
+                form_questions: 400,
                 cut_plans: 6_700,
                 with_line: WithLine {
                     few_buses: 600,
@@ -63,8 +67,10 @@ impl Size {
                 three_buses: 200_000,
                 full: 30,
                 full_queue: 540,
+                loops_and_islands: 6_000,
                 questions: 200_000,
                 full_queue_questions: 1_000,
+                form_questions: 8_000,
                 cut_plans: 67_000,
                 with_line: WithLine {
                     few_buses: 30_000,
@@ -92,7 +98,9 @@ pub fn cases(size: Size, seed: u64) -> Cases {
         .chain(seeded("damaged copies", size.damaged, seed, damage::damaged))
         .chain(full_size(size.full, seed))
         .chain(full_size_not_radial(seed))
-        .chain(full_queue(size.full_queue, seed));
+        .chain(full_queue(size.full_queue, seed))
+        .chain(named("loops and islands, named", forms::named().into_iter().map(|(_, feeder, _)| feeder.text())))
+        .chain(loops_and_islands(size.loops_and_islands, seed));
     Box::new(fixed.chain(seeded))
 }
 
@@ -167,5 +175,14 @@ fn full_queue(count: usize, seed: u64) -> impl Iterator<Item = Case> + Send {
     (0..count).map(move |number| {
         let feeder = shapes::full_queue(&mut Random::new(seed, FULL_QUEUE, number), number);
         Case { kind: FULL_QUEUE, text: feeder.text() }
+    })
+}
+
+pub const LOOPS_AND_ISLANDS: &str = "loops and islands, 1 to 256 buses";
+
+fn loops_and_islands(count: usize, seed: u64) -> impl Iterator<Item = Case> + Send {
+    (0..count).map(move |number| {
+        let feeder = shapes::loops_and_islands(&mut Random::new(seed, LOOPS_AND_ISLANDS, number), number);
+        Case { kind: LOOPS_AND_ISLANDS, text: feeder.text() }
     })
 }

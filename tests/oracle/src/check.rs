@@ -1,32 +1,41 @@
-//! Document 01's worked examples on the original, those of document 02's Points 2 and 4, and document 01's steps against the original.
+//! Document 01's worked examples on the original, those of document 02's Points 2, 4 and 5, and document 01's steps against the original.
 
 use crate::cases::{Case, Cases};
 use crate::driver::Original;
 use crate::expected::{expected, Expected};
 use crate::feeder::{triangle, Feeder, OPERABLE, TIE};
+use crate::forms::{self, joined};
+use crate::reckoning::form::{self, Form};
 use crate::reckoning::resume::Move;
 use crate::reckoning::searches::Searches;
 use crate::reckoning::{judge, plan, reader, resume, Network, Refusal, CLOSED, OPEN};
 use crate::shapes::SHAPES;
 use crate::supply;
 
-const TRIANGLE: &str = "810140100000000000003FF00000000000004052C00000000000000201\n82000A00\n82000B01\n83000B000A\n";
+/// Document 01's four lines, and document 02's "840000FFFF for the triangle".
+pub const TRIANGLE: &str =
+    "810140100000000000003FF00000000000004052C00000000000000201\n840000FFFF\n82000A00\n82000B01\n83000B000A\n";
 
-/// The triangle's four lines, the section Triangle's marked cases, the refusal table's examples, and the 05 line's.
+/// The triangle's five lines, the section Triangle's marked cases, the refusal table's examples, the 05 line's, and the forms of states.
 pub fn worked_examples() -> bool {
     let mut failed = 0;
     let mut check = |name: &str, holds: bool| {
         println!("{}  {name}", if holds { "ok    " } else { "FAILED" });
         failed += !holds as usize;
     };
-    check("triangle prints document 01's four lines", expected(&triangle().text()).output() == TRIANGLE);
-    for (name, feeder, state, radial, loss) in states() {
+    check(
+        "triangle prints document 01's four lines and the 84 line",
+        expected(&triangle().text()).output() == TRIANGLE,
+    );
+    for (name, feeder, state, form, loss) in states() {
         let network = network(&feeder);
-        let original = Original::new(&network);
-        check(
-            name,
-            original.radial(&state) == radial && loss.is_none_or(|loss| supply::loss(&network, &state) == loss),
-        );
+        let radial = Original::new(&network).radial(&state) == (form == Form::Tree);
+        let formed = form::form(&network, &network.live(&state)) == form;
+        check(name, radial && formed && loss.is_none_or(|loss| supply::loss(&network, &state) == loss));
+    }
+    for (name, feeder, fields) in forms::named() {
+        let output = expected(&feeder.text()).output();
+        check(name, output.split_inclusive('\n').nth(1).is_some_and(|second| second == form::line(fields)));
     }
     for (name, feeder, line) in searches() {
         check(name, expected(&feeder.text()).output().starts_with(&line));
@@ -50,32 +59,27 @@ fn network(feeder: &Feeder) -> Network {
     reader::read(&feeder.text()).expect("a worked example is acceptable")
 }
 
-type StateCase = (&'static str, Feeder, Vec<u8>, bool, Option<f64>);
+type StateCase = (&'static str, Feeder, Vec<u8>, Form, Option<f64>);
 
-/// The marked cases on states: radial or not, and the loss where document 01 gives one.
+/// The marked cases on states: what the live branches are, and the loss where document 01 gives one.
 fn states() -> Vec<StateCase> {
-    let buses = |count: u16, ends: &[(u16, u16)]| {
-        let mut feeder = Feeder { base_mva: 1.0, ..Feeder::default() };
-        (1..=count).for_each(|id| feeder.bus(id, 1.0));
-        ends.iter().for_each(|&(from, to)| feeder.branch(from, to, 0.5));
-        feeder
-    };
     let turned = turned_triangle();
     let supplied = |supply, feeder: Feeder| Feeder { supply: Some(supply), ..feeder };
+    let closed_by = |branch| Form::Loop { branch, islands: 0 };
     vec![
-        ("no buses: radial, loss 0", buses(0, &[]), vec![], true, Some(0.0)),
-        ("one bus: radial", buses(1, &[]), vec![], true, None),
-        ("one bus, own loop: not", buses(1, &[(1, 1)]), vec![], false, None),
-        ("two buses, one branch: radial", buses(2, &[(1, 2)]), vec![], true, None),
-        ("two parallel: not", buses(2, &[(1, 2), (1, 2)]), vec![], false, None),
-        ("triangle base loss 4", triangle(), vec![0, 1], true, Some(4.0)),
-        ("exchanged 1", triangle(), vec![1, 0], true, Some(1.0)),
-        ("all closed: not radial, loss 5.6875", triangle(), vec![0, 0], false, Some(5.6875)),
-        ("branch 0 turned: base loss 1.75", turned.clone(), vec![0, 1], true, Some(1.75)),
-        ("supply 1: base loss 4", supplied(1, triangle()), vec![0, 1], true, Some(4.0)),
-        ("branch 0 turned, supply 1: base loss 4", supplied(1, turned.clone()), vec![0, 1], true, Some(4.0)),
-        ("supply 2: base loss 1.75", supplied(2, triangle()), vec![0, 1], true, Some(1.75)),
-        ("branch 0 turned, supply 3: base loss 0.4375", supplied(3, turned), vec![0, 1], true, Some(0.4375)),
+        ("no buses: a tree, loss 0", joined(0, &[]), vec![], Form::Tree, Some(0.0)),
+        ("one bus: a tree", joined(1, &[]), vec![], Form::Tree, None),
+        ("one bus, own loop: loop 0", joined(1, &[(1, 1)]), vec![], closed_by(0), None),
+        ("two buses, one branch: a tree", joined(2, &[(1, 2)]), vec![], Form::Tree, None),
+        ("two parallel: loop 1", joined(2, &[(1, 2), (1, 2)]), vec![], closed_by(1), None),
+        ("triangle base loss 4", triangle(), vec![0, 1], Form::Tree, Some(4.0)),
+        ("exchanged 1", triangle(), vec![1, 0], Form::Tree, Some(1.0)),
+        ("all closed: loop 2, loss 5.6875", triangle(), vec![0, 0], closed_by(2), Some(5.6875)),
+        ("branch 0 turned: base loss 1.75", turned.clone(), vec![0, 1], Form::Tree, Some(1.75)),
+        ("supply 1: base loss 4", supplied(1, triangle()), vec![0, 1], Form::Tree, Some(4.0)),
+        ("branch 0 turned, supply 1: base loss 4", supplied(1, turned.clone()), vec![0, 1], Form::Tree, Some(4.0)),
+        ("supply 2: base loss 1.75", supplied(2, triangle()), vec![0, 1], Form::Tree, Some(1.75)),
+        ("branch 0 turned, supply 3: base loss 0.4375", supplied(3, turned), vec![0, 1], Form::Tree, Some(0.4375)),
     ]
 }
 
@@ -92,9 +96,9 @@ fn supplies() -> Vec<(&'static str, Vec<u8>, &'static str)> {
     let empty = Feeder { base_mva: 1.0, ..Feeder::default() };
     let mut looped = triangle();
     looped.switches[1].flags = OPERABLE;
-    let stays = "81013FDC0000000000003FDC0000000000000000000000000000000101\n";
+    let stays = "81013FDC0000000000003FDC0000000000000000000000000000000101\n840000FFFF\n";
     vec![
-        ("branch 0 turned, supply 1: document 01's four lines", with(1, turned_triangle()), TRIANGLE),
+        ("branch 0 turned, supply 1: the triangle's lines", with(1, turned_triangle()), TRIANGLE),
         ("supply 3: base loss 0.4375, nothing is moved", with(3, triangle()), stays),
         ("14: supply 9 of buses 1 to 3", with(9, triangle()), "8F0E000A\n"),
         ("14: no buses", with(1, empty), "8F0E0002\n"),
@@ -109,7 +113,7 @@ fn searches() -> Vec<(&'static str, Feeder, String)> {
     let line = |best: f64, iterations: u16, converged: u8| {
         let reduction: f64 = (4.0 - best) / 4.0 * 100.0;
         let bits = [4.0f64.to_bits(), best.to_bits(), reduction.to_bits()];
-        format!("8101{:016X}{:016X}{:016X}{iterations:04X}{converged:02X}\n", bits[0], bits[1], bits[2])
+        format!("8101{:016X}{:016X}{:016X}{iterations:04X}{converged:02X}\n840000FFFF\n", bits[0], bits[1], bits[2])
     };
     let with = |method, iterations| Feeder { method, iterations, ..triangle() };
     vec![
@@ -129,8 +133,8 @@ fn refusals() -> Vec<(&'static str, Vec<u8>, &'static str)> {
         change(&mut feeder);
         feeder.text()
     };
-    let none_lost = "8101000000000000000000000000000000000000000000000000000101\n";
-    let not_radial = "8100000000000000000000000000000000000000000000000000000000\n";
+    let none_lost = "8101000000000000000000000000000000000000000000000000000101\n840000FFFF\n";
+    let not_radial = "8100000000000000000000000000000000000000000000000000000000\n8400FFFFFF\n";
     vec![
         ("1: 0G", b"0G\n".to_vec(), "8F010001\n"),
         ("2: empty text, line 1", vec![], "8F020001\n"),
@@ -228,7 +232,7 @@ fn two_pairs(order: [usize; 4]) -> Option<String> {
     judge::fault_of_moves(&network, &present, &wanted, &order.map(|at| moves[at]))
 }
 
-/// The reckoned steps, loss and radiality (two ways) against the original on every accepted text of a set; the same steps with the
+/// The reckoned steps, loss, radiality and forms (each two ways) against the original on every accepted text of a set; the same steps with the
 /// original's loss, which give the answers with a supply; the reader's verdict against what it must be whatever the text.
 pub fn agree(cases: Cases) -> bool {
     let (mut agreed, mut supplied, mut refused) = (0, 0, 0);
@@ -311,9 +315,11 @@ fn states_agree(network: &Network, states: &[Vec<u8>]) -> bool {
     turned.branches.iter_mut().for_each(|branch| (branch.from, branch.to) = (branch.to, branch.from));
     states.iter().all(|state| {
         let live = network.live(state);
-        let radial = [original.radial(state), plan::radial(network, &live), judge::tree(network, &live)];
+        let form = form::form(network, &live);
+        let radial = [original.radial(state), plan::radial(network, &live), form == Form::Tree];
         let same = |other: f64| other.to_bits() == supply::loss(network, state).to_bits();
         radial.iter().all(|&one| one == radial[0])
+            && form == judge::form(network, &live)
             && match network.supply {
                 None => same(steps.loss(state)) && same(original.loss(state)),
                 Some(_) => !radial[0] || (same(steps.loss(state)) && same(supply::loss(&turned, state))),

@@ -4,6 +4,7 @@
 use crate::cases::{Case, Cases};
 use crate::expected::{Answered, Expected};
 use crate::program::Running;
+use crate::reckoning::form::{parallel, Form};
 use crate::supplied;
 use std::collections::BTreeMap;
 use std::sync::atomic::{AtomicBool, Ordering};
@@ -84,6 +85,7 @@ fn answer_results(answered: &Answered) -> Vec<(String, usize)> {
     let method = ["exchange", "tabu", "exhaustive"][usize::from(answered.network.method)];
     let base = if answered.pairs.is_some() { "radial base" } else { "base not radial" };
     let mut results = vec![(format!("answered, {method}, {base}"), 1)];
+    results.extend(form_results(answered).into_iter().map(|name| (format!("best state: {name}"), 1)));
     if answered.best != answered.network.base() {
         results.push((format!("answered, {method}, {base}: switches moved"), 1));
     }
@@ -91,6 +93,24 @@ fn answer_results(answered: &Answered) -> Vec<(String, usize)> {
     if pairs > 0 {
         let several = if pairs > 1 { "plans of several pairs" } else { "plans of one pair" };
         results.extend([(several.to_string(), 1), ("pairs judged".to_string(), pairs)]);
+    }
+    results
+}
+
+/// What the best state is; of a loop also which branch closes it.
+fn form_results(answered: &Answered) -> Vec<&'static str> {
+    let network = &answered.network;
+    let mut results = vec![answered.form.name()];
+    if let Form::Loop { branch, .. } = answered.form {
+        let closing = &network.branches[usize::from(branch)];
+        if closing.from == closing.to {
+            results.push("a loop of a branch with equal ends");
+        } else if parallel(network, &network.live(&answered.best), branch.into()) {
+            results.push("a loop of two parallels");
+        }
+    }
+    if answered.form != Form::Tree && network.buses.len() == 256 {
+        results.push("no tree, 256 buses");
     }
     results
 }

@@ -1,7 +1,8 @@
-//! What `feeder` is to print: the original's 81 and 82 lines (with a supply, those of the steps with its loss), the reckoning's 83
-//! lines or its one 8F line.
+//! What `feeder` is to print: the original's 81 and 82 lines (with a supply, those of the steps with its loss), the reckoning's 84
+//! line between them and its 83 lines, or its one 8F line.
 
 use crate::driver::Original;
+use crate::reckoning::form::{self, with_form, Form, ANSWER_LENGTH};
 use crate::reckoning::plan::{self, Pair};
 use crate::reckoning::{judge, reader, Network, Refusal};
 use crate::supply;
@@ -17,6 +18,8 @@ pub struct Answered {
     /// The 81 line and the 82 lines.
     pub search: String,
     pub best: Vec<u8>,
+    /// What the best state's live branches are.
+    pub form: Form,
     /// The plan from the base to the best state; none when the base isn't radial.
     pub pairs: Option<Vec<Pair>>,
 }
@@ -31,10 +34,16 @@ pub fn expected(text: &[u8]) -> Expected {
     let base = network.base();
     let radial_base = judge::tree(&network, &network.live(&base));
     assert_eq!(radial_base, original.radial(&base), "the original and the judge disagree on the base");
+    let form = form::form(&network, &network.live(&answer.best));
+    assert_eq!(
+        form == Form::Tree,
+        original.radial(&answer.best),
+        "the original and the reckoning disagree on the best state"
+    );
     let pairs = radial_base.then(|| {
         plan::plan(&network, &base, &answer.best, usize::MAX).expect("from a radial base only refusal 13 can come")
     });
-    Expected::Answered(Box::new(Answered { network, search: answer.lines, best: answer.best, pairs }))
+    Expected::Answered(Box::new(Answered { network, search: answer.lines, best: answer.best, form, pairs }))
 }
 
 impl Expected {
@@ -58,16 +67,23 @@ impl Expected {
 
 impl Answered {
     pub fn output(&self) -> String {
-        format!("{}{}", self.search, self.plan_lines())
+        with_form(&self.search, self.form.fields()) + &self.plan_lines()
     }
 
-    fn plan_lines(&self) -> String {
+    pub fn plan_lines(&self) -> String {
         self.pairs.as_ref().map_or(String::new(), |pairs| plan::lines(&self.network, pairs))
     }
 
     fn fault(&self, output: &[u8]) -> Option<String> {
-        let Some(rest) = output.strip_prefix(self.search.as_bytes()) else {
-            return Some("the 81 and 82 lines are not the original's".to_string());
+        let (first, moved) = self.search.split_at(ANSWER_LENGTH);
+        let Some(rest) = output.strip_prefix(first.as_bytes()) else {
+            return Some("the 81 line is not the original's".to_string());
+        };
+        let Some(rest) = rest.strip_prefix(form::line(self.form.fields()).as_bytes()) else {
+            return Some("what follows the 81 line is not the reckoning's 84 line".to_string());
+        };
+        let Some(rest) = rest.strip_prefix(moved.as_bytes()) else {
+            return Some("the 82 lines are not the original's".to_string());
         };
         if self.pairs.is_some() {
             let Some(printed) = self.printed_pairs(rest) else {

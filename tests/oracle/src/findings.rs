@@ -69,31 +69,31 @@ fn of_solve() -> Vec<Finding> {
             says: "solve: \"Returns an error if the base configuration is infeasible (non-radial or disconnected)\"; is_radial: \"forms a tree (no cycles)\"",
             does: "any base is answered; a base without a cycle that isn't connected is not radial",
             feeder: with_buses(0, 100, &[0.0, 0.0]),
-            prints: "8100000000000000000000000000000000000000000000000000000101\n",
+            prints: "8100000000000000000000000000000000000000000000000000000101\n840001FFFF\n",
         },
         Finding {
             says: "converged: \"Whether the algorithm converged within `max_iterations`\"",
             does: "the exchange that ends for want of an improvement in its last allowed round has not converged",
             feeder: with_buses(0, 1, &[]),
-            prints: "8101000000000000000000000000000000000000000000000000000100\n",
+            prints: "8101000000000000000000000000000000000000000000000000000100\n840000FFFF\n",
         },
         Finding {
             says: "n_iterations: \"Number of iterations (or SA steps) actually performed\"",
             does: "the tabu search reports max_iterations, though it ended in its first round",
             feeder: with_buses(1, 100, &[]),
-            prints: "8101000000000000000000000000000000000000000000000000006401\n",
+            prints: "8101000000000000000000000000000000000000000000000000006401\n840000FFFF\n",
         },
         Finding {
             says: "the same, and max_iterations: \"Maximum number of outer iterations\"",
             does: "the exhaustive search reports its number of radial states and heeds no maximum",
             feeder: with_buses(2, 0, &[]),
-            prints: "8101000000000000000000000000000000000000000000000000000101\n",
+            prints: "8101000000000000000000000000000000000000000000000000000101\n840000FFFF\n",
         },
         Finding {
             says: "switch_operations: \"List of switch operations that transform the base config to the best\"",
             does: "in switch order: carried out one by one it may open before it closes (document 01's triangle)",
             feeder: triangle(),
-            prints: "810140100000000000003FF00000000000004052C00000000000000201\n82000A00\n82000B01\n83000B000A\n",
+            prints: "810140100000000000003FF00000000000004052C00000000000000201\n840000FFFF\n82000A00\n82000B01\n83000B000A\n",
         },
     ]
 }
@@ -112,13 +112,13 @@ fn of_exchange() -> Vec<Finding> {
             says: "BranchExchange: \"open the highest-loss branch in the created loop\"; branch_exchange_step, 3: \"Find the branch in the loop with the highest loss sensitivity\"",
             does: "at flat voltage every sensitivity is zero and the sort keeps the path's order: branch 0 (it loses 0.8) is opened for a loss of 1.4; branch 1 (it loses 1) would give 0.3",
             feeder: triangle_of([0.2, 1.0, 0.1]),
-            prints: "81013FFCCCCCCCCCCCCD3FF6666666666666403638E38E38E390000201\n82000100\n82000301\n8300030001\n",
+            prints: "81013FFCCCCCCCCCCCCD3FF6666666666666403638E38E38E390000201\n840000FFFF\n82000100\n82000301\n8300030001\n",
         },
         Finding {
             says: "\"Take the first improving exchange and break (Merlin-Back style)\"; BranchExchange: \"(fast, locally optimal)\"",
             does: "the break comes after the first radial exchange, improving or not: opening branch 1 would take the loss from 1 to 0.5, it is not tried, and the answer is one exchange away from a better state",
             feeder: triangle_of([0.0, 1.0, 0.5]),
-            prints: "81013FF00000000000003FF00000000000000000000000000000000101\n",
+            prints: "81013FF00000000000003FF00000000000000000000000000000000101\n840000FFFF\n",
         },
     ]
 }
@@ -131,19 +131,19 @@ fn of_a_round() -> Vec<Finding> {
             says: "branch_exchange_step, 4: \"apply the exchange and return\"; best_improvement",
             does: "all ties are tried and the last improving one wins, neither the first nor the best: tie 3 (loss 0.75) goes before tie 2 (0.5)",
             feeder: side_by_side(0, 1, &[1.0, 0.5, 0.75], &[(0, OPERABLE), (1, OPERABLE | TIE), (2, OPERABLE | TIE)]),
-            prints: "81013FF00000000000003FE80000000000004039000000000000000100\n82000100\n82000301\n8300030001\n",
+            prints: "81013FF00000000000003FE80000000000004039000000000000000100\n840000FFFF\n82000100\n82000301\n8300030001\n",
         },
         Finding {
             says: "branch_exchange_step, 1: \"Temporarily close it → creates one loop in the graph\"; find_loop_branches_closed_tie: \"the unique loop\"",
             does: "a tie out of service makes no loop, yet a path between its ends is walked: from a base with one loop the exchange closes the dead tie and opens a section",
             feeder: dead_tie,
-            prints: "81013FF80000000000003FE00000000000004050AAAAAAAAAAAA000201\n82000100\n82000201\n",
+            prints: "81013FF80000000000003FE00000000000004050AAAAAAAAAAAA000201\n840000FFFF\n82000100\n82000201\n",
         },
         Finding {
             says: "branch_exchange_step, 4: \"If opening that branch (and closing the tie) reduces total losses\"",
             does: "a reduction of 1e-9 MW or less doesn't count",
             feeder: side_by_side(0, 100, &[1e-9, 0.0], &[(0, OPERABLE), (1, OPERABLE | TIE)]),
-            prints: "81013E112E0BE826D6953E112E0BE826D6950000000000000000000101\n",
+            prints: "81013E112E0BE826D6953E112E0BE826D6950000000000000000000101\n840000FFFF\n",
         },
     ]
 }
@@ -162,25 +162,25 @@ fn of_tabu_and_exhaustive() -> Vec<Finding> {
             says: "enumerate_radial_configs: \"choosing exactly one switch to open from each fundamental loop\"; Exhaustive: \"enumerate all radial spanning trees\"; of a section switch: \"include in open set if bit not set\"",
             does: "only normally open switches are toggled, no section is ever opened: the tree with the tie closed and the section open is never looked at",
             feeder: side_by_side(2, 0, &[1.0, 0.5], &section_and_tie),
-            prints: "81013FF00000000000003FF00000000000000000000000000000000101\n",
+            prints: "81013FF00000000000003FF00000000000000000000000000000000101\n840000FFFF\n",
         },
         Finding {
             says: "TabuSearch: \"deterministic local search escaping local minima\"",
             does: "one toggle of a live branch leaves no tree: from a radial base the answer is the base, whatever there is to gain",
             feeder: side_by_side(1, 100, &[1.0, 0.5], &section_and_tie),
-            prints: "81013FF00000000000003FF00000000000000000000000000000006401\n",
+            prints: "81013FF00000000000003FF00000000000000000000000000000006401\n840000FFFF\n",
         },
         Finding {
             says: "Switch::can_operate: \"`false` means the switch is locked out (cannot be operated)\"",
             does: "the exhaustive search closes locked ties",
             feeder: locked,
-            prints: "810100000000000000003FE00000000000000000000000000000000101\n82000101\n",
+            prints: "810100000000000000003FE00000000000000000000000000000000101\n840000FFFF\n82000101\n",
         },
         Finding {
             says: "loss_reduction_pct: \"Percentage reduction in losses\"; best_configuration: \"The optimal switch configuration found\"",
             does: "from a base that isn't radial the exhaustive search's answer may lose more than the base: the reduction is negative",
             feeder: in_pieces,
-            prints: "81013FF00000000000004000000000000000C059000000000000000101\n82000101\n",
+            prints: "81013FF00000000000004000000000000000C059000000000000000101\n840000FFFF\n82000101\n",
         },
     ]
 }
@@ -193,13 +193,13 @@ fn of_loss() -> Vec<Finding> {
             says: "compute_losses_estimate: \"For each energised branch: P_loss ≈ R × (P²_load_downstream / V²_nominal)\"",
             does: "downstream is the to side, whichever end the supply is at: here bus 1 without load, so nothing is lost",
             feeder: turned,
-            prints: "8101000000000000000000000000000000000000000000000000000000\n",
+            prints: "8101000000000000000000000000000000000000000000000000000000\n840000FFFF\n",
         },
         Finding {
             says: "downstream_load_mw: \"not traversing back through `parent_bus` (to avoid double-counting in loops)\"",
             does: "in a loop each branch carries the whole load: two branches side by side lose twice what one loses, not half",
             feeder: side_by_side(0, 0, &[0.5, 0.5], &[]),
-            prints: "81003FF00000000000003FF00000000000000000000000000000000000\n",
+            prints: "81003FF00000000000003FF00000000000000000000000000000000000\n8400000001\n",
         },
     ]
 }
@@ -213,25 +213,25 @@ fn of_ends() -> Vec<Finding> {
             says: "compute_losses_estimate: \"(directed: from→to of the branch defines feeder flow direction)\"",
             does: "the map goes both ways: the load of bus 3 reaches branch 0 against the direction of branch 1",
             feeder: against,
-            prints: "81013FE00000000000003FE00000000000000000000000000000000000\n",
+            prints: "81013FE00000000000003FE00000000000000000000000000000000000\n840000FFFF\n",
         },
         Finding {
             says: "branch_exchange_solve: \"to completion\"",
             does: "it ends at max_iterations, here before its first round, whatever there is to gain",
             feeder: side_by_side(0, 0, &[1.0, 0.5], &[(0, OPERABLE), (1, OPERABLE | TIE)]),
-            prints: "81013FF00000000000003FF00000000000000000000000000000000000\n",
+            prints: "81013FF00000000000003FF00000000000000000000000000000000000\n840000FFFF\n",
         },
         Finding {
             says: "converged: \"Whether the algorithm converged within `max_iterations`\"",
             does: "tabu and the exhaustive search have always converged, tabu with no round at all too",
             feeder: with_buses(1, 0, &[]),
-            prints: "8101000000000000000000000000000000000000000000000000000001\n",
+            prints: "8101000000000000000000000000000000000000000000000000000001\n840000FFFF\n",
         },
         Finding {
             says: "loss_reduction_pct: \"(base − opt) / base × 100\"",
             does: "it is 0 when the base loses 1e-12 MW or less: here all of it is saved",
             feeder: side_by_side(1, 1, &[1e-12, 0.0], &[(0, OPERABLE)]),
-            prints: "81013D719799812DEA1100000000000000000000000000000000000101\n82000100\n",
+            prints: "81013D719799812DEA1100000000000000000000000000000000000101\n840000FFFF\n82000100\n",
         },
     ]
 }
@@ -241,7 +241,8 @@ type RecordFinding = (&'static str, &'static str, String);
 /// What the original does with records that document 01 refuses, or with items that it drops.
 fn on_records() -> Vec<RecordFinding> {
     let mut findings = vec![
-        ("three buses without a branch (two islands beside the main one), n_islands", "1", islands()),
+        ("three buses without a branch (two islands beside the main one), n_islands", "1", islands(&[1, 2, 3], &[])),
+        ("a bus with a branch to itself (no islands), n_islands", "1", islands(&[1], &[(1, 1)])),
         ("buses 1 and 2, a branch from 1 to an unlisted 9: verify_radiality", "true", unlisted_end()),
         ("the same: degree and neighbors of 9", "1, [1]", unlisted_neighbors()),
         ("a bus id twice, with 1 MW and with 5 MW: loss of a branch to it, verify_radiality", "1, false", bus_twice()),
@@ -308,8 +309,8 @@ fn opening(open_switches: Vec<usize>) -> NetworkConfiguration {
     NetworkConfiguration { open_switches, closed_switches: vec![], is_radial: false, n_islands: 0 }
 }
 
-fn islands() -> String {
-    let result = solver(ReconfigAlgorithm::BranchExchange, vec![]).solve(&network(&[1, 2, 3], &[], 1.0));
+fn islands(ids: &[usize], ends: &[(u16, u16)]) -> String {
+    let result = solver(ReconfigAlgorithm::BranchExchange, vec![]).solve(&network(ids, ends, 1.0));
     result.map_or("an error".to_string(), |result| result.best_configuration.n_islands.to_string())
 }
 

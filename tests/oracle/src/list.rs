@@ -2,17 +2,18 @@
 //! texts that show it. An entry is a line of eight hexadecimal digits, the text's length and the output's length (u16
 //! each), then the text, then the output.
 
-use crate::cases::{cases, Case, Size, FULL_QUEUE};
+use crate::cases::{cases, Case, Size, FULL_QUEUE, LOOPS_AND_ISLANDS};
 use crate::compare::Tally;
 use crate::expected::{expected, Expected};
 use crate::supplied;
 use crate::wrong::{self, Mistake};
 
-/// How many texts are kept of a kind (evenly chosen; fewer with the 05 line, and of a full queue, which are long), for each mistake and
+/// How many texts are kept of a kind (evenly chosen; fewer with the 05 line, and of kinds which are long), for each mistake and
 /// of each refusal number.
 const OF_A_KIND: usize = 35;
 const OF_A_KIND_WITH_LINE: usize = 12;
 const OF_A_FULL_QUEUE: usize = 8;
+const OF_LOOPS_AND_ISLANDS: usize = 15;
 const FOR_A_MISTAKE: usize = 3;
 const OF_A_REFUSAL: usize = 10;
 /// Texts that are longer need a length of more than 16 bits in a program that replays the list.
@@ -36,6 +37,8 @@ pub fn list(seed: u64) -> Vec<u8> {
             tally.add(case.kind, &right);
         }
     }
+    let unseen: Vec<String> = unseen.iter().map(|(mistake, seen)| format!("{}: {seen}", mistake.name())).collect();
+    assert!(unseen.is_empty(), "fewer than {FOR_A_MISTAKE} texts show {}", unseen.join(", "));
     eprint!("{}\n{} entries, {} bytes\n", tally.lines(), tally.total(), list.len());
     list
 }
@@ -49,6 +52,7 @@ fn evenly_chosen(all: &[Case]) -> Vec<bool> {
             if case.kind != kind.0 {
                 let most = match case.kind {
                     FULL_QUEUE => OF_A_FULL_QUEUE,
+                    LOOPS_AND_ISLANDS => OF_LOOPS_AND_ISLANDS,
                     kind if kind.starts_with(supplied::LINE) => OF_A_KIND_WITH_LINE,
                     _ => OF_A_KIND,
                 };

@@ -10,6 +10,7 @@ mod expected;
 mod feeder;
 mod findings;
 mod flat;
+mod forms;
 mod limits;
 mod list;
 mod program;
@@ -24,6 +25,7 @@ mod supply;
 mod values;
 mod wrong;
 mod wrong_calls;
+mod wrong_forms;
 
 use cases::Size;
 use compare::Compared;
@@ -44,7 +46,7 @@ const USAGE: &str = "usage:
   oracle findings                          where the original's comments are not what its code does
   oracle wrong NAME                        text on standard input: the output of a program with that mistake
   oracle wrong-programs SIZE SEED          for each mistake, the first text of the set that shows it
-  oracle wrong-calls SIZE SEED             for each mistake with a plan cut off, the first question that shows it
+  oracle wrong-calls SIZE SEED             for each mistake with a plan cut off, and about what live branches are, the first question that shows it
   oracle smallest NAME                     the smallest feeder that shows a mistake
   oracle list SEED                         the fixed list of texts and expected outputs
   oracle entry FILE NUMBER                 one entry of such a list
@@ -77,7 +79,7 @@ fn main() -> ExitCode {
         ["findings"] => findings::print(),
         ["wrong", name] => print(wrong::named(name).output(&input()).as_bytes()),
         ["wrong-programs", size, seed] => wrong::all_caught(set(size, seed)),
-        ["wrong-calls", size, seed] => wrong_calls::all_caught(calls::cut_plans(named(size).cut_plans, number(seed))),
+        ["wrong-calls", size, seed] => wrong_calls::all_caught(named(size), number(seed)),
         ["smallest", name] => print(&wrong::smallest(wrong::named(name))),
         ["list", seed] => print(&list::list(number(seed))),
         ["entry", file, entry] => list::print_entry(&read_file(file), number(entry) as usize),
@@ -106,7 +108,8 @@ fn set(size: &str, seed: &str) -> cases::Cases {
     Box::new(cases::cases(size, seed).chain(supplied::cases(size, seed)))
 }
 
-/// Questions on texts without the 05 line, then on feeders with a full queue, then on texts with the line; on plans cut off behind all.
+/// Questions on texts without the 05 line, then on feeders with a full queue, then on texts with the line; then on plans cut off; on loops and
+/// islands behind all.
 fn questions(size: &str, seed: &str) -> cases::Cases {
     let (size, seed) = (named(size), number(seed));
     let before = calls::runs("questions", calls::questions(size.questions, seed));
@@ -116,7 +119,9 @@ fn questions(size: &str, seed: &str) -> cases::Cases {
         calls::runs(calls::FULL_QUEUE_QUESTIONS, full_queue).chain(calls::runs("05 line: questions", with_line));
     let cut = calls::runs(calls::CUT_PLANS, calls::cut_plans(size.cut_plans, seed));
     let cut_with_line = calls::cut_plans_with_line(size.with_line.cut_plans, seed);
-    Box::new(before.chain(later).chain(cut).chain(calls::runs(calls::CUT_PLANS_WITH_LINE, cut_with_line)))
+    let forms = calls::runs(calls::FORM_QUESTIONS, calls::form_questions(size.form_questions, seed));
+    let cut = cut.chain(calls::runs(calls::CUT_PLANS_WITH_LINE, cut_with_line));
+    Box::new(before.chain(later).chain(cut).chain(forms))
 }
 
 /// The accepted texts of the set, to be written back.

@@ -490,6 +490,33 @@ pub fn full_queue(random: &mut Random, number: usize) -> Feeder {
     feeder
 }
 
+/// 1 to 256 buses, 256 in one of five, with a base that is mostly no tree: in turn in pieces, with loops, with both. The loops are rings,
+/// parallels and branches with equal ends, and the methods come in turn too. At most ten ties.
+pub fn loops_and_islands(random: &mut Random, number: usize) -> Feeder {
+    const BUSES: [(usize, usize); 5] = [(1, 4), (5, 16), (17, 64), (65, 255), (256, 256)];
+    let (in_pieces, looped) = (number % 3 != 1, number % 3 != 0);
+    let (least, most) = BUSES[number / 3 % 5];
+    let plain = Mix::plain(random, least, most);
+    let pieces = random.pick(&[2, 2, 3, 5, plain.buses / 2, plain.buses]);
+    let mix = Mix {
+        pieces: if in_pieces { pieces } else { 1 },
+        ties: random.below(4),
+        joins: random.below(3),
+        loops: if looped { random.pick(&[0, 1, 2, 5]) } else { 0 },
+        own: if looped { random.below(3) } else { 0 },
+        parallel: if looped { random.below(4) } else { 0 },
+        dead: random.pick(&[0, 0, 3]),
+        dead_ties: 20,
+        locked: 20,
+        unswitched: random.pick(&[10, 50, 90]),
+        turned: 50,
+        ..plain
+    };
+    let mut feeder = mix.feeder(random);
+    (feeder.method, feeder.iterations) = ((number / 15 % 3) as u8, random.pick(&[0, 1, 2, 3]));
+    feeder
+}
+
 /// For each bus the piece of the base that it is in.
 fn pieces(feeder: &Feeder) -> HashMap<u16, u16> {
     let tie = |k: usize| feeder.switches.iter().any(|s| usize::from(s.branch) == k && s.flags & TIE != 0);

@@ -1,17 +1,20 @@
 //! Programs with one mistake each, to see that a set of texts tells them from a right one.
 
 use crate::cases::Cases;
+use crate::check::TRIANGLE;
 use crate::expected::{expected, Answered, Expected};
+use crate::reckoning::form::{self, with_form, Form};
 use crate::reckoning::plan::{self, Pair};
 use crate::reckoning::searches::{Searches, Slip};
 use crate::reckoning::{judge, reader, Network, Refusal};
-use crate::short;
+use crate::{short, wrong_forms};
 
 #[derive(Debug, Clone, Copy, PartialEq)]
 pub enum Mistake {
     Search(Slip),
     Reading(Reading),
     Plan(Plan),
+    Form(wrong_forms::Mistake),
     Print(Print),
 }
 
@@ -61,13 +64,15 @@ pub enum Plan {
     ForAnyBase,
 }
 
-/// Mistakes in the 81 and 82 lines, and wrong solvers of document 01.
+/// Mistakes in the 81 and 82 lines and with the place of the 84 line, and wrong solvers of document 01.
 #[derive(Debug, Clone, Copy, PartialEq)]
 pub enum Print {
     ActionsSwapped,
     RadialByteOfBase,
     ClosingsFirst,
     SortedById,
+    FormBehindOperations,
+    FormUnlessTree,
     NoLastLineFeed,
     LowerCase,
     OneFixedAnswer,
@@ -117,11 +122,13 @@ const PLAN: [Plan; 7] = [
     Plan::None,
     Plan::ForAnyBase,
 ];
-const PRINT: [Print; 11] = [
+const PRINT: [Print; 13] = [
     Print::ActionsSwapped,
     Print::RadialByteOfBase,
     Print::ClosingsFirst,
     Print::SortedById,
+    Print::FormBehindOperations,
+    Print::FormUnlessTree,
     Print::NoLastLineFeed,
     Print::LowerCase,
     Print::OneFixedAnswer,
@@ -138,7 +145,8 @@ pub fn all() -> Vec<Mistake> {
     let searches = Slip::ALL.into_iter().map(Mistake::Search);
     let reading = READING.into_iter().map(Mistake::Reading);
     let plans = PLAN.into_iter().map(Mistake::Plan);
-    searches.chain(reading).chain(plans).chain(PRINT.into_iter().map(Mistake::Print)).collect()
+    let forms = wrong_forms::ALL.into_iter().map(Mistake::Form);
+    searches.chain(reading).chain(plans).chain(forms).chain(PRINT.into_iter().map(Mistake::Print)).collect()
 }
 
 pub fn named(name: &str) -> Mistake {
@@ -171,7 +179,11 @@ impl Mistake {
                 network => search_output(network, slip),
             },
             (Mistake::Plan(mistake), Expected::Answered(answered)) => {
-                answered.search.clone() + &mistake.lines(answered)
+                with_form(&answered.search, answered.form.fields()) + &mistake.lines(answered)
+            }
+            (Mistake::Form(mistake), Expected::Answered(answered)) => {
+                let fields = mistake.fields(&answered.network, &answered.best);
+                with_form(&answered.search, fields) + &answered.plan_lines()
             }
         }
     }
@@ -182,7 +194,12 @@ fn search_output(network: &Network, slip: Slip) -> String {
     let answer = searches.solve();
     let base = network.base();
     let pairs = plan::plan(network, &base, &answer.best, usize::MAX).unwrap_or_default();
-    searches.lines(&answer) + &plan::lines(network, &pairs)
+    with_form(&searches.lines(&answer), fields(network, &answer.best)) + &plan::lines(network, &pairs)
+}
+
+/// The islands and the branch of a state.
+fn fields(network: &Network, state: &[u8]) -> [u16; 2] {
+    form::form(network, &network.live(state)).fields()
 }
 
 impl Reading {
@@ -377,8 +394,6 @@ fn matched(network: &Network, wanted: &[u8]) -> Vec<Pair> {
     closings.zip(moved(1).filter(|&i| base[i] == 0)).map(|(closed, opened)| Pair { closed, opened }).collect()
 }
 
-const FIXED: &str = "810140100000000000003FF00000000000004052C00000000000000201\n82000A00\n82000B01\n83000B000A\n";
-
 impl Print {
     fn output(self, right: &Expected) -> String {
         match (self, right) {
@@ -386,7 +401,7 @@ impl Print {
             (Print::NoLastLineFeed, _) => right.output().trim_end().to_string(),
             (Print::LowerCase, _) => right.output().to_ascii_lowercase(),
             (_, Expected::Refused(_)) => right.output(),
-            (Print::OneFixedAnswer, _) => FIXED.to_string(),
+            (Print::OneFixedAnswer, _) => TRIANGLE.to_string(),
             (_, Expected::Answered(answered)) => self.answer(answered),
         }
     }
@@ -395,11 +410,12 @@ impl Print {
         let right = answered.output();
         let first: &str = right.lines().next().unwrap_or_default();
         let moved: Vec<&str> = right.lines().filter(|line| line.starts_with("82")).collect();
-        let plan: Vec<&str> = right.lines().filter(|line| line.starts_with("83")).collect();
+        let form = form::line(answered.form.fields());
         let all = |first: String, moved: Vec<String>| -> String {
-            let plan = plan.iter().map(|line| line.to_string());
-            [first].into_iter().chain(moved).chain(plan).map(|line| line + "\n").collect()
+            let moved: String = moved.into_iter().map(|line| line + "\n").collect();
+            format!("{first}\n{form}{moved}{}", answered.plan_lines())
         };
+        let of_base = form::line(fields(&answered.network, &answered.network.base()));
         let as_is: Vec<String> = moved.iter().map(|line| line.to_string()).collect();
         match self {
             Print::ActionsSwapped => all(first.to_string(), as_is.iter().map(|line| swapped(line)).collect()),
@@ -420,8 +436,12 @@ impl Print {
             Print::InventedRounds => {
                 all(format!("{}{:04X}{}", &first[..52], answered.network.max_iterations, &first[56..]), as_is)
             }
-            Print::BaseUntouched => format!("{}{}{:016X}{}\n", &first[..20], &first[4..20], 0, &first[52..]),
-            Print::NoExchange => format!("{}{}{:016X}000101\n", &first[..20], &first[4..20], 0),
+            Print::FormBehindOperations => format!("{}{form}{}", answered.search, answered.plan_lines()),
+            Print::FormUnlessTree if answered.form == Form::Tree => answered.search.clone() + &answered.plan_lines(),
+            Print::BaseUntouched => {
+                format!("{}{}{:016X}{}\n{of_base}", &first[..20], &first[4..20], 0, &first[52..])
+            }
+            Print::NoExchange => format!("{}{}{:016X}000101\n{of_base}", &first[..20], &first[4..20], 0),
             _ => right,
         }
     }

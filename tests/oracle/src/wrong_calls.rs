@@ -1,9 +1,12 @@
-//! Calls on plans cut off with one mistake each, to see that the questions tell them from a right one.
+//! Calls on plans cut off, and calls that tell what live branches are, with one mistake each, to see that the questions tell them from
+//! right ones.
 
 use crate::calls::{self, Question};
+use crate::cases::Size;
 use crate::reckoning::plan::{plan, Pair};
 use crate::reckoning::resume::{lines, moves, Move};
 use crate::reckoning::{Network, Refusal};
+use crate::wrong_forms;
 
 #[derive(Debug, Clone, Copy, PartialEq)]
 enum Mistake {
@@ -148,16 +151,49 @@ fn closings(network: &Network, present: &[u8], wanted: &[u8]) -> u64 {
     before.iter().zip(&after).filter(|(&before, &after)| after && !before).count() as u64
 }
 
-/// For each mistake the first question that shows it; false if one is never seen, or if the call without a mistake answers otherwise
-/// than the reckoning.
-pub fn all_caught(questions: impl Iterator<Item = Vec<u8>>) -> bool {
+/// For each mistake the first question that shows it; false if one is never seen.
+pub fn all_caught(size: Size, seed: u64) -> bool {
+    let questions = || calls::questions(size.questions, seed).chain(calls::form_questions(size.form_questions, seed));
+    let Some(of_cut_plans) = of_cut_plans(calls::cut_plans(size.cut_plans, seed)) else { return false };
+    let unseen = of_cut_plans + of_forms("S", questions()) + of_forms("B", questions());
+    let counts = [ALL.len(), wrong_forms::ALL.len()];
+    println!(
+        "{} mistakes with plans cut off, {} about what live branches are (S and B each), {unseen} never seen",
+        counts[0], counts[1]
+    );
+    unseen == 0
+}
+
+/// The mistakes about what live branches are in the calls of a letter, and how many are never seen.
+fn of_forms(letter: &str, questions: impl Iterator<Item = Vec<u8>>) -> usize {
+    let mut unseen = wrong_forms::ALL.to_vec();
+    for text in questions {
+        let question = &calls::read(&text)[0];
+        if unseen.is_empty() || !question.name.starts_with(letter) {
+            continue;
+        }
+        let right = calls::answers(&text);
+        unseen.retain(|&mistake| {
+            let seen = question.output_with(mistake) != right;
+            if seen {
+                println!("question {:6}  {mistake:?}", question.name);
+            }
+            !seen
+        });
+    }
+    unseen.iter().for_each(|mistake| println!("NEVER SEEN in {letter}  {mistake:?}"));
+    unseen.len()
+}
+
+/// How many mistakes with plans cut off are never seen; none if the call without a mistake answers otherwise than the reckoning.
+fn of_cut_plans(questions: impl Iterator<Item = Vec<u8>>) -> Option<usize> {
     let mut unseen = ALL.to_vec();
     for text in questions {
         let right = calls::answers(&text);
         let question = &calls::read(&text)[0];
         if Wrong(None).output(question) != right {
             println!("without a mistake it answers otherwise:\n{}", String::from_utf8_lossy(&text));
-            return false;
+            return None;
         }
         unseen.retain(|&mistake| {
             let seen = Wrong(Some(mistake)).output(question) != right;
@@ -168,6 +204,5 @@ pub fn all_caught(questions: impl Iterator<Item = Vec<u8>>) -> bool {
         });
     }
     unseen.iter().for_each(|mistake| println!("NEVER SEEN       {mistake:?}"));
-    println!("{} mistakes in calls on plans cut off, {} never seen", ALL.len(), unseen.len());
-    unseen.is_empty()
+    Some(unseen.len())
 }

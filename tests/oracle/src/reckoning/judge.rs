@@ -1,6 +1,7 @@
 //! A judge of plans that makes none: it carries the pairs out on the state's bytes and looks at every stopping point, or the single
 //! moves and looks behind each. Trees are told by union-find; a branch lies on the loop of a closing when the buses stay joined without it.
 
+use super::form::Form;
 use super::plan::{count, path, Pair};
 use super::resume::{resume, Move};
 use super::{Network, CLOSED, OPEN};
@@ -119,14 +120,24 @@ fn joined_without(network: &Network, live: &[bool], branch: usize) -> bool {
 
 /// Connected, and no branch has both ends in one piece when it is added.
 pub fn tree(network: &Network, live: &[bool]) -> bool {
-    let (pieces, closes_loop) = pieces(network, live);
-    pieces <= 1 && !closes_loop
+    form(network, live) == Form::Tree
 }
 
-/// The number of connected pieces, and whether some branch closes a loop.
-fn pieces(network: &Network, live: &[bool]) -> (usize, bool) {
-    let (_, pieces, closes_loop) = joined(network, live);
-    (pieces, closes_loop)
+/// The answer of `form::form`, by union-find.
+pub fn form(network: &Network, live: &[bool]) -> Form {
+    let (pieces, closing) = pieces(network, live);
+    let islands = pieces.saturating_sub(1) as u16;
+    match closing {
+        Some(branch) => Form::Loop { branch: branch as u16, islands },
+        None if islands > 0 => Form::Islands(islands),
+        None => Form::Tree,
+    }
+}
+
+/// The number of connected pieces, and the first branch that closes a loop.
+fn pieces(network: &Network, live: &[bool]) -> (usize, Option<usize>) {
+    let (_, pieces, closing) = joined(network, live);
+    (pieces, closing)
 }
 
 /// For each bus a label, the same for two buses just where live branches join them.
@@ -135,21 +146,22 @@ pub fn labels(network: &Network, live: &[bool]) -> Vec<usize> {
     (0..parent.len()).map(|bus| root(&mut parent, bus)).collect()
 }
 
-/// Union-find, the number of pieces and whether some branch closes a loop.
-fn joined(network: &Network, live: &[bool]) -> (Vec<usize>, usize, bool) {
+/// Union-find, the number of pieces and the first branch that closes a loop.
+fn joined(network: &Network, live: &[bool]) -> (Vec<usize>, usize, Option<usize>) {
     let mut parent: Vec<usize> = (0..network.buses.len()).collect();
-    let (mut pieces, mut closes_loop) = (parent.len(), false);
-    for (branch, _) in network.branches.iter().zip(live).filter(|(_, &live)| live) {
+    let (mut pieces, mut closing) = (parent.len(), None);
+    for k in (0..live.len()).filter(|&k| live[k]) {
+        let branch = &network.branches[k];
         let a = root(&mut parent, branch.from);
         let b = root(&mut parent, branch.to);
         if a == b {
-            closes_loop = true;
+            closing = closing.or(Some(k));
         } else {
             parent[a] = b;
             pieces -= 1;
         }
     }
-    (parent, pieces, closes_loop)
+    (parent, pieces, closing)
 }
 
 fn root(parent: &mut [usize], mut at: usize) -> usize {

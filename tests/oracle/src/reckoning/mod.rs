@@ -1,7 +1,8 @@
-//! An independent reckoning, written from the sentences of document 01 and of document 02's Points 2 and 4; it shares no code with the original or with the crates.
-//! `reader` gives the verdict on any byte string, `plan` the planner's answer, `resume` that for a plan cut off, `judge` looks at
-//! both by another method, `searches` steps through document 01's searches.
+//! An independent reckoning, written from the sentences of document 01 and of document 02's Points 2, 4 and 5; it shares no code with the original or with the crates.
+//! `reader` gives the verdict on any byte string, `plan` the planner's answer, `resume` that for a plan cut off, `form` what the live branches of a
+//! state are, `judge` looks at these by another method, `searches` steps through document 01's searches.
 
+pub mod form;
 pub mod judge;
 pub mod plan;
 pub mod reader;

@@ -40,17 +40,17 @@ pub fn well_formed(network: &Network, state: &[u8]) -> bool {
 /// "True for zero buses; else n−1 live branches, and all n buses reached."
 pub fn radial(network: &Network, live: &[bool]) -> bool {
     let n = network.buses.len();
-    n == 0 || (count(live) == n - 1 && reached(network, live).iter().all(|&bus| bus))
+    n == 0 || (count(live) == n - 1 && reached(network, live, 0).iter().all(|&bus| bus))
 }
 
 pub fn count(live: &[bool]) -> usize {
     live.iter().filter(|&&branch| branch).count()
 }
 
-/// The buses joined with the first one: spread over live branches until nothing is new.
-fn reached(network: &Network, live: &[bool]) -> Vec<bool> {
+/// The buses joined with one: spread over live branches, of the first so many as there are flags, until nothing is new.
+pub fn reached(network: &Network, live: &[bool], start: usize) -> Vec<bool> {
     let mut reached = vec![false; network.buses.len()];
-    reached[0] = true;
+    reached[start] = true;
     loop {
         let before = count(&reached);
         for (branch, _) in network.branches.iter().zip(live).filter(|(_, &live)| live) {

@@ -30,7 +30,7 @@ write-result-requires : tie.Need-write-result-requires
 write-result-requires c κs =
     let start = c .before .before .before .before .before .before .before .before .before .before in
     let s = c .before .before .before .before .before in
-    result-bits _ (network-records _ (start .pre .0)) (solved-result _ (start .pre .0) _ (search needs) (rw (c .before .before .result .given .1) at (s .solve .ensures)))
+    (result-bits _ (network-records _ (start .pre .0)) (solved-result _ (start .pre .0) _ (search needs) (rw (c .before .before .result .given .1) at (s .solve .ensures))), omega (arith, start .pre .1))
 
 write-moves-requires : tie.Need-write-moves-requires
 write-moves-requires c κs =

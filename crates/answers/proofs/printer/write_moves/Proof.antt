@@ -1,4 +1,4 @@
--- `write_moves` meets its contract: the plan's lines stand behind the operations' lines, and those behind the 81 line.
+-- `write_moves` meets its contract: the plan's lines stand behind the operations' lines, and those behind the lines on the best state.
 use mathlib.Core.Path.{sym}
 use Prim.Native.Nat.{_+_, _-_}
 use native.Mathlib.Omega.{arith}
@@ -6,7 +6,7 @@ use lib.ListN.{length, length-drop}
 use borrow.Rule.Slice.PartMut.{putMid}
 use Rattle.numbers.specs.Parts.{part-rest}
 use Rattle.network.specs.Records.{recordsOf}
-use Rattle.printing.specs.Lengths.{answerLength}
+use Rattle.printing.specs.Lengths.{resultLength}
 use Rattle.answers.specs.Printing.{operationLines, planLines, moveLines}
 use Rattle.feeders.specs.SupplyLaws.{network-records}
 use Rattle.answers.specs.PrintingLaws.{operations-short, plan-short}
@@ -51,7 +51,7 @@ write-plan-requires : tie.Need-write-plan-requires
 write-plan-requires c κs =
     let w = c .before .before .before in
     let start = c .before .before .before .before .before .before in
-    (start .pre .0, rw part-rest (omega (arith, w .write-operations .ensures .0, operations-short _ (network-records _ (start .pre .0 .0)), start .pre .1, length-drop (answerLength + w .write-operations .result) (putMid answerLength (length (start .args .out .now) - answerLength) (start .args .out .now) (w .write-operations .last .0)), moves-room (start .args .out .now) (operationLines (recordsOf (start .args .network))) (omega (arith, operations-short _ (network-records _ (start .pre .0 .0)), start .pre .1)) (w .write-operations .ensures .1))))
+    (start .pre .0, rw part-rest (omega (arith, w .write-operations .ensures .0, operations-short _ (network-records _ (start .pre .0 .0)), start .pre .1, length-drop (resultLength + w .write-operations .result) (putMid resultLength (length (start .args .out .now) - resultLength) (start .args .out .now) (w .write-operations .last .0)), moves-room (start .args .out .now) (operationLines (recordsOf (start .args .network))) (omega (arith, operations-short _ (network-records _ (start .pre .0 .0)), start .pre .1)) (w .write-operations .ensures .1))))
 
 add-result : tie.Need-add-result
 add-result c =

@@ -15,17 +15,17 @@ not-solved-requires c κs = search needs
 enum-known-answer-2 : tie.Need-enum-known-answer-2
 enum-known-answer-2 c = search needs
 
+radial-byte-requires : tie.Need-radial-byte-requires
+radial-byte-requires c κs = search needs
+
 truth-byte-requires : tie.Need-truth-byte-requires
 truth-byte-requires c κs = search needs
-
-truth-byte-requires-2 : tie.Need-truth-byte-requires-2
-truth-byte-requires-2 c κs = search needs
 
 returns : tie.Need-returns
 returns c = c .not-solved .ensures ∙ ap (λ a. solvedNumbers (solveAnswerOf a)) (sym (c .before .before .answer .given .1))
 
 returns-2 : tie.Need-returns-2
-returns-2 c = rw (c .before .truth-byte .ensures, c .truth-byte2 .ensures, c .before .before .before .answer2 .given .1)
+returns-2 c = rw (c .before .radial-byte .ensures, c .truth-byte .ensures, c .before .before .before .answer2 .given .1)
 
 pub solved-numbers-spec : {M : Type 1} → statement M
 solved-numbers-spec =
@@ -34,7 +34,7 @@ solved-numbers-spec =
     enum-known-answer
     not-solved-requires
     enum-known-answer-2
+    radial-byte-requires
     truth-byte-requires
-    truth-byte-requires-2
     returns
     returns-2)

@@ -1,8 +1,8 @@
 -- `feeder_radiality` meets its contract: the text is refused, or the call on its records answers.
-use mathlib.Core.Path.{ap, _∙_}
+use mathlib.Core.Path.{refl, ap, _∙_}
 use Rattle.frames.specs.ReadingLaws.{read-refused, read-accepted}
-use Rattle.controller.specs.Calls.{numbersOf, textRadiality}
-use Rattle.controller.specs.CallLaws.{reading-refused, reading-answered}
+use Rattle.controller.specs.Calls.{numbered, radialByte, numbersOf, textRadiality}
+use Rattle.controller.specs.CallLaws.{radial-or-not, reading-refused, reading-answered}
 use borrow.Author.Needs.{needs}
 use Rattle.controller.proofs.calls.feeder_radiality.Statement.{statement}
 use Rattle.controller.proofs.calls.feeder_radiality.Tie as tie
@@ -37,7 +37,7 @@ unfolding textRadiality
 returns-2 c =
     let told = c .before .before in
     let so = read-accepted _ _ (told .before .before .read-text .ensures) (told .enum-told .given .1) in
-    c .radiality-numbers .ensures ∙ ap numbersOf (reading-answered _ _ _ so (c .before .verify-radiality .ensures))
+    c .radiality-numbers .ensures ∙ ap (λ a. numbersOf (numbered radialByte a)) (c .before .verify-radiality .ensures) ∙ ap numbersOf (radial-or-not _ _ ∙ reading-answered _ _ _ so refl)
 
 pub feeder-radiality-spec : {M : Type 1} → statement M
 feeder-radiality-spec =

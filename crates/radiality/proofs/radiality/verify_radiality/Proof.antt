@@ -5,7 +5,7 @@ use borrow.Author.Needs.{needs}
 use Rattle.network.specs.Answers.{accepted, answerOf}
 use Rattle.network.specs.AnswerLaws.{refused-first, accepted-then}
 use Rattle.network.proofs.ArrayLengths.{buses-256}
-use Rattle.feeders.specs.FeederRowLaws.{state-flags, flags-radial}
+use Rattle.feeders.specs.FeederRowLaws.{state-flags, flags-form}
 use Rattle.feeders.specs.SupplyLaws.{network-records}
 use Rattle.radiality.proofs.radiality.verify_radiality.Statement.{statement}
 use Rattle.radiality.proofs.radiality.verify_radiality.Tie as tie
@@ -46,8 +46,8 @@ live-branches-requires c κs = search needs
 graph-of-requires : tie.Need-graph-of-requires
 graph-of-requires c κs = search needs
 
-is-radial-requires : tie.Need-is-radial-requires
-is-radial-requires c κs = search needs
+form-of-requires : tie.Need-form-of-requires
+form-of-requires c κs = search needs
 
 returns-3 : tie.Need-returns-3
 returns-3 c =
@@ -60,10 +60,10 @@ returns-3 c =
     let ok = network-records _ (sym (records .check-network .ensures) ∙ ap answerOf (head .enum-told .given .1)) in
     let good = sym (state .check-state .ensures) ∙ ap answerOf (passed .enum-told2 .given .1) in
     ap accepted
-    (flags-radial (start .args .network) (buses-256 (start .args .network) (start .good .0)) ok _ _ _ (c .before .graph-of .ensures)
+    (flags-form (start .args .network) (buses-256 (start .args .network) (start .good .0)) ok _ _ _ (c .before .graph-of .ensures)
     (state-flags _ _ 0 ok good _ _ (flags .before .of .ensures) (flags .live-branches .ensures))
     _
-    (c .is-radial .ensures))
+    (c .form-of .ensures))
     ∙ accepted-then _ _ _ (passed .enum-told2 .given .1) (state .check-state .ensures)
     ∙ accepted-then _ _ _ (head .enum-told .given .1) (records .check-network .ensures)
 
@@ -82,5 +82,5 @@ verify-radiality-spec =
     of-requires
     live-branches-requires
     graph-of-requires
-    is-radial-requires
+    form-of-requires
     returns-3)

@@ -8,8 +8,8 @@ use Rattle.searches.proofs.answer.answer_with.Tie as tie
 live-branches-requires : tie.Need-live-branches-requires
 live-branches-requires c κs = search needs
 
-is-radial-requires : tie.Need-is-radial-requires
-is-radial-requires c κs = search needs
+form-of-requires : tie.Need-form-of-requires
+form-of-requires c κs = search needs
 
 write-state-requires : tie.Need-write-state-requires
 write-state-requires c κs = search needs
@@ -25,7 +25,7 @@ unfolding answerWith stateOf
 returns c =
     let written = c .before .before .before in
     let judged = written .before .before in
-    rw (written .write-state .ensures, judged .is-radial .ensures, judged .before .live-branches .ensures, c .reduction .ensures)
+    rw (written .write-state .ensures, judged .form-of .ensures, judged .before .live-branches .ensures, c .reduction .ensures)
 
 pub answer-with-spec : {M : Type 1} → statement M
-answer-with-spec = tie.close (tie.spec live-branches-requires is-radial-requires write-state-requires reduction-requires same-length returns)
+answer-with-spec = tie.close (tie.spec live-branches-requires form-of-requires write-state-requires reduction-requires same-length returns)

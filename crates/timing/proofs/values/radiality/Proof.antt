@@ -1,6 +1,8 @@
 -- `radiality` meets its contract: each case of the call counts for its number.
 use mathlib.Core.Path.{ap, sym, _∙_}
-use Rattle.printing.specs.Printed.{truthByte}
+use native.Mathlib.Omega.{arith}
+use Rattle.graph.specs.declared.form.FormFields.{FormFields}
+use Rattle.graph.specs.Form.{formNumber}
 use Rattle.radiality.specs.Answers.{radialityOf}
 use Rattle.controller.specs.Calls.{numbered}
 use Rattle.timing.specs.Rounds.{valueOf}
@@ -14,29 +16,40 @@ verify-radiality-requires c κs = search needs
 enum-known-number : tie.Need-enum-known-number
 enum-known-number c = search needs
 
-enum-known-radial : tie.Need-enum-known-radial
-enum-known-radial c = search needs
+enum-known-form : tie.Need-enum-known-form
+enum-known-form c = search needs
 
-truth-byte-requires : tie.Need-truth-byte-requires
-truth-byte-requires c κs = search needs
+fields-of-requires : tie.Need-fields-of-requires
+fields-of-requires c κs = search needs
 
 cast-result : tie.Need-cast-result
 cast-result c = search needs
+
+mul-result : tie.Need-mul-result
+mul-result c = search needs
+
+cast-result-2 : tie.Need-cast-result-2
+cast-result-2 c = search needs
+
+add-result : tie.Need-add-result
+add-result c = search needs
 
 returns : tie.Need-returns
 unfolding numbered
 returns c =
     let answer = c .before in
-    ap (λ a. valueOf (numbered truthByte (radialityOf a))) (sym (answer .number .given .1))
-    ∙ ap (λ a. valueOf (numbered truthByte a)) (answer .before .before .verify-radiality .ensures)
+    ap (λ a. valueOf (numbered formNumber (radialityOf a))) (sym (answer .number .given .1))
+    ∙ ap (λ a. valueOf (numbered formNumber a)) (answer .before .before .verify-radiality .ensures)
 
 returns-2 : tie.Need-returns-2
-unfolding numbered
+unfolding numbered formNumber
 returns-2 c =
-    let answer = c .before .before in
-    c .truth-byte .ensures
-    ∙ ap (λ a. valueOf (numbered truthByte (radialityOf a))) (sym (answer .radial .given .1))
-    ∙ ap (λ a. valueOf (numbered truthByte a)) (answer .before .before .verify-radiality .ensures)
+    let fields = c .before .before in
+    let answer = fields .before .before in
+    let same = fields .fields-of .ensures in
+    omega (arith, ap (λ (f : FormFields). f .islands) same, ap (λ (f : FormFields). f .branch) same)
+    ∙ ap (λ a. valueOf (numbered formNumber (radialityOf a))) (sym (answer .form .given .1))
+    ∙ ap (λ a. valueOf (numbered formNumber a)) (answer .before .before .verify-radiality .ensures)
 
 pub radiality-spec : {M : Type 1} → statement M
 radiality-spec =
@@ -44,8 +57,11 @@ radiality-spec =
     (tie.spec
     verify-radiality-requires
     enum-known-number
-    enum-known-radial
-    truth-byte-requires
+    enum-known-form
+    fields-of-requires
     cast-result
+    mul-result
+    cast-result-2
+    add-result
     returns
     returns-2)
