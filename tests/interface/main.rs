@@ -318,7 +318,7 @@ fn form_answer(checks: &mut Checks, text: &[u8], state: &[u8]) -> bool {
         && compare(checks, "radiality", text, is_tree, numbers, library::radiality(text, state))
 }
 
-/// The lines that the answer's 84 line is among: as told by hand, of the best state.
+/// The 84 line that is answered for a named feeder is the one told by hand.
 fn named_form(checks: &mut Checks, (name, feeder, fields): &forms::Named) -> bool {
     let text = feeder.text();
     let mut out = vec![0; TEXT_LENGTH];
