@@ -22,12 +22,14 @@
 extern "C" {
 #endif
 
-#define FEEDER_VERSION "0.7"
+#define FEEDER_VERSION "0.8"
 
-/* What a text may list, how many iterations its head may ask for, and how many of its switches may be normally open with method 02. */
+/* What a text may list, how many of its switches may be on one branch, how many iterations its head may ask for, and how many of its switches may be normally
+ * open with method 02. */
 #define FEEDER_MAX_BUSES 256
 #define FEEDER_MAX_BRANCHES 512
 #define FEEDER_MAX_SWITCHES 512
+#define FEEDER_MAX_SWITCHES_ON_BRANCH 2
 #define FEEDER_MAX_ITERATIONS 1000
 #define FEEDER_MAX_TIES 10
 
@@ -54,19 +56,22 @@ extern "C" {
     (FEEDER_HEAD_BYTES + FEEDER_MAX_BUSES * FEEDER_BUS_BYTES + FEEDER_MAX_BRANCHES * FEEDER_BRANCH_BYTES                                   \
      + FEEDER_MAX_SWITCHES * FEEDER_SWITCH_BYTES + FEEDER_SUPPLY_BYTES)
 
-/* Bytes of an 81, an 84, an 82 and an 83 line; a single move of feeder_resume is an 82 line. */
+/* Bytes of an 81, an 84 and an 82 line; a single move of feeder_resume is an 82 line. An 86 line has 7 bytes and 4 for each switch that it moves: 15 where it closes
+ * one and opens one, and FEEDER_PAIR_LENGTH (23) where it closes two and opens two. */
 #define FEEDER_ANSWER_LENGTH 59
 #define FEEDER_FORM_LENGTH 11
 #define FEEDER_OPERATION_LENGTH 9
-#define FEEDER_PAIR_LENGTH 11
+#define FEEDER_PAIR_HEAD_LENGTH 7
+#define FEEDER_ID_LENGTH 4
+#define FEEDER_PAIR_LENGTH (FEEDER_PAIR_HEAD_LENGTH + 2 * FEEDER_MAX_SWITCHES_ON_BRANCH * FEEDER_ID_LENGTH)
 #define FEEDER_MOVE_LENGTH 9
 
-/* Bytes of out that are enough for every text and every state: for feeder_operations; for feeder_plan, as a plan has fewer pairs than there are
- * buses; for either slice of feeder_resume (4590, two moves for each pair); for feeder_answer_text (7483); for feeder_write_text (27436, the longest accepted
- * text). FEEDER_MAX_SWITCHES are enough for feeder_base_state and feeder_solve. */
+/* Bytes of out that are enough for every text and every state: for feeder_operations; for feeder_plan (3833), as a plan has fewer pairs than there are buses and moves
+ * no switch twice; for either slice of feeder_resume (4608, a move for each switch); for feeder_answer_text (8511); for feeder_write_text (27436, the longest
+ * accepted text). FEEDER_MAX_SWITCHES are enough for feeder_base_state and feeder_solve. */
 #define FEEDER_OPERATIONS_LENGTH (FEEDER_MAX_SWITCHES * FEEDER_OPERATION_LENGTH)
-#define FEEDER_PLAN_LENGTH ((FEEDER_MAX_BUSES - 1) * FEEDER_PAIR_LENGTH)
-#define FEEDER_MOVES_LENGTH (2 * (FEEDER_MAX_BUSES - 1) * FEEDER_MOVE_LENGTH)
+#define FEEDER_PLAN_LENGTH ((FEEDER_MAX_BUSES - 1) * FEEDER_PAIR_HEAD_LENGTH + FEEDER_MAX_SWITCHES * FEEDER_ID_LENGTH)
+#define FEEDER_MOVES_LENGTH (FEEDER_MAX_SWITCHES * FEEDER_MOVE_LENGTH)
 #define FEEDER_TEXT_LENGTH (FEEDER_ANSWER_LENGTH + FEEDER_FORM_LENGTH + FEEDER_OPERATIONS_LENGTH + FEEDER_PLAN_LENGTH)
 #define FEEDER_FRAMES_LENGTH FEEDER_LONGEST_TEXT
 
@@ -76,14 +81,14 @@ extern "C" {
 #define FEEDER_RADIALITY_STACK 179520
 #define FEEDER_FORM_STACK 179520
 #define FEEDER_LOSS_STACK 201600
-#define FEEDER_PLAN_STACK 179520
-#define FEEDER_RESUME_STACK 192960
-#define FEEDER_ANSWER_TEXT_STACK 220544
+#define FEEDER_PLAN_STACK 182656
+#define FEEDER_RESUME_STACK 198144
+#define FEEDER_ANSWER_TEXT_STACK 224640
 #define FEEDER_BASE_STATE_STACK 195456
 #define FEEDER_SOLVE_STACK 179584
 #define FEEDER_OPERATIONS_STACK 179520
 #define FEEDER_WRITE_TEXT_STACK 207040
-#define FEEDER_STACK 278528
+#define FEEDER_STACK 282624
 
 /* The refusals, as docs/INTERFACE.md has them. The place of 1 to 9, 14 and 15 is the text's line, from 1: the first faulty line is answered, and of its numbers the lowest (2
  * where it is over 36 characters). The place of 10 and 11 is 0 for the present, first or only state and 1 for the wanted or second one; that of 12 is the
@@ -98,7 +103,7 @@ enum feeder_refusal {
     FEEDER_OUT_OF_RANGE = 5,       /* a float outside its range, or not finite */
     FEEDER_NOT_LISTED = 6,         /* a branch end that is not listed, or a branch position not below the count */
     FEEDER_ID_TWICE = 7,           /* a bus id twice among the buses, or a switch id twice among the switches */
-    FEEDER_SECOND_SWITCH = 8,      /* a second switch on a branch */
+    FEEDER_THIRD_SWITCH = 8,       /* a third switch on a branch */
     FEEDER_TOO_MANY_TIES = 9,      /* more than FEEDER_MAX_TIES normally open switches with method 02 */
     FEEDER_BAD_STATE = 10,         /* a state isn't one byte 0 or 1 for each switch */
     FEEDER_NOT_RADIAL = 11,        /* a plan's state isn't radial, or with a supply that of a loss */
@@ -146,25 +151,34 @@ struct feeder_answer feeder_form(const uint8_t *text, size_t text_length, const 
  * the supply it counts the load on the side away from it, and a state that isn't radial is 11. Refusals 1 to 11, 14 and 15. */
 struct feeder_answer feeder_loss(const uint8_t *text, size_t text_length, const uint8_t *state, size_t state_length);
 
-/* The plan from the present state to the wanted one: value is the number of pairs. In out stands an 83 line for each pair, "83", id closed, id opened
- * (4 digits each) and a line feed. Refusals 1 to 15. */
+/* The plan from the present state to the wanted one: value is the number of pairs. In out stands an 86 line for each pair: "86", how many switches it closes (2
+ * digits), their ids (4 digits each), how many it opens (2), their ids, and a line feed. It closes every open switch of one branch and opens those of another that are
+ * open in the wanted state, one or two of each, in the order of the text's 04 lines. Lines differ in length: the counts say where a line ends.
+ *
+ *     to carry out a line   close the closed ids from the first to the last, then open the opened ids from the first to the last
+ *     to undo it            close the opened ids from the last to the first, then open the closed ids from the last to the first
+ *
+ * Lines are carried out from the first on, and undone from the last that was done. A run may stop or turn round between whole lines: there the feeder is radial. Who is stopped within a line goes on or back by feeder_resume.
+ * Within a line no bus is cut off, and one loop is closed from its last closing to its first opening. No switch is in two lines. Refusals 1 to 15; 13 where out is
+ * shorter than the lines together, 7 bytes a pair and 4 a moved switch. */
 struct feeder_answer feeder_plan(const uint8_t *text, size_t text_length, const uint8_t *present, size_t present_length,
                                  const uint8_t *wanted, size_t wanted_length, uint8_t *out, size_t out_length);
 
-/* The plan from the present state to the wanted one, cut off when count of its single moves were done: value is the number of moves that remain. A pair of
- * the plan is two moves, its closing and then its opening. The text and wanted are those of the plan, and present is the state in which it BEGAN, the one that
- * feeder_plan had, and not the one after the cut. In remaining stands an 82 line for each move that is left, in their order: carried out, they finish the plan.
- * In back stand count 82 lines, the moves that were done, inverted and the last one first: carried out, they go back to the present state. A line is "82",
- * switch id (4 digits), 00 to open or 01 to close, and a line feed; that is the opposite of a state's byte, which is 1 where a switch is open. remaining and back
- * overlap neither each other nor any other slice; FEEDER_MOVES_LENGTH bytes are enough for each. Refusals 1 to 16; where either slice is too short, 13, and
- * neither is written to. README says what a controller stores, and what it does first where the cut may have come between a move and the storing of count. */
+/* The plan from the present state to the wanted one, cut off when count of its single moves were done: value is the number of moves that remain. Each switch is a
+ * move of its own: of a pair first the closings, then the openings, each in the order of its line. The text and wanted are those of the plan, and present is the state
+ * in which it BEGAN, the one that feeder_plan had, and not the one after the cut. In remaining stands an 82 line for each move that is left, in their order: carried
+ * out, they finish the plan. In back stand count 82 lines, the moves that were done, inverted and the last one first: carried out, they go back to the present
+ * state. A line is "82", switch id (4 digits), 00 to open or 01 to close, and a line feed; that is the opposite of a state's byte, which is 1 where a switch is open.
+ * remaining and back overlap neither each other nor any other slice; FEEDER_MOVES_LENGTH bytes are enough for each. Refusals 1 to 16; where either slice is too
+ * short, 13, and neither is written to. README says what a controller stores, and what it does first where the cut may have come between a move and the storing
+ * of count. */
 struct feeder_answer feeder_resume(const uint8_t *text, size_t text_length, const uint8_t *present, size_t present_length,
                                    const uint8_t *wanted, size_t wanted_length, uint64_t count, uint8_t *remaining, size_t remaining_length,
                                    uint8_t *back, size_t back_length);
 
 /* What the program feeder prints for an accepted text: value is the number of bytes. In out stand the search's 81 line; its best state's 84 line, "84",
  * islands and branch as in feeder_form (4 digits each) and a line feed; an 82 line for each switch that stands otherwise than in the base; and, where the base is
- * radial, the plan's 83 lines. Refusals 1 to 9 and 13 to 15. */
+ * radial, the plan's 86 lines. Refusals 1 to 9 and 13 to 15. */
 struct feeder_answer feeder_answer_text(const uint8_t *text, size_t text_length, uint8_t *out, size_t out_length);
 
 /* The base, in which exactly the normally open switches are open: value is the number of switches. In out stands a byte for each. Refusals 1 to 9

@@ -26,11 +26,12 @@ CLOSED = 'closed'
 OPEN = 'open'
 _STANDS = (CLOSED, OPEN)
 
-# Close one switch, then open the other: the pairs of a plan are carried out in their order.
+# A pair of a plan: the ids of the switches that it closes, those of one branch, and of those that it then opens, of another; a tuple of one or two each. Carried out, both
+# tuples are gone through from the first to the last. Undone, the opened ones are closed, then the closed ones opened, each from the last to the first.
 Pair = namedtuple('Pair', 'close open')
 # What is done with a switch. A list of these is NO order to switch in: that is the plan's.
 Operation = namedtuple('Operation', 'switch stands')
-# A single move of a plan: the switch, and how it stands then. Moves are carried out in their order.
+# A single move of a plan: one switch, and how it stands then. Moves are carried out in their order.
 Move = namedtuple('Move', 'switch stands')
 # A plan that was cut off: the moves that finish it, and those that go back to the state in which it began.
 Resumed = namedtuple('Resumed', 'remaining back')
@@ -48,7 +49,7 @@ Bus = namedtuple('Bus', 'id pd')
 Branch = namedtuple('Branch', 'from_bus to_bus r status')
 Switch = namedtuple('Switch', 'id branch normally_open can_operate')
 
-# the words of document 01; of 02 the second half of 11, and 14 to 16
+# the words of document 01; of 02 are 8, 12, the second half of 11, and 14 to 16
 CONDITIONS = {
     1: 'unended line, odd digits, another character',
     2: 'wrong kind or length, line missing or too many',
@@ -57,11 +58,11 @@ CONDITIONS = {
     5: 'float outside its range, or not finite',
     6: 'branch end not listed, or branch position not below the count',
     7: 'bus or switch id twice in its kind',
-    8: 'second switch on a branch',
+    8: 'third switch on a branch',
     9: 'eleventh normally open switch, method 02',
     10: "state isn't one byte 00 (closed) or 01 (open) for each switch",
     11: "a plan's state isn't radial, or with a supply that of a loss",
-    12: "a differing live branch's switch is locked",
+    12: 'a switch that the plan would move is locked',
     13: 'lent slice shorter than the answer',
     14: 'supply bus not listed',
     15: 'a supply is named, and the base is not radial',
@@ -138,20 +139,20 @@ def loss(text, state):
 
 
 def plan(text, present, wanted):
-    """The pairs that lead from the present state to the wanted one, in the order in which they are carried out."""
+    """The pairs that lead from the present state to the wanted one, in the order in which they are carried out. A run may stop between whole pairs."""
     lines, = _lines_on_states(_library().feeder_plan, text, present, wanted)
-    return [Pair(int(line[2:6], 16), int(line[6:10], 16)) for line in lines]
+    return [_pair(line) for line in lines]
 
 
 def resume(text, present, wanted, count):
-    """The plan from the present state to the wanted one, cut off when so many of its single moves were done: a pair is two, its closing and then its opening. Present is the state
-    in which the plan began, and not the one after the cut. `Resumed` has the moves that remain and those that go back; a count below 0 is a ValueError."""
+    """The plan from the present state to the wanted one, cut off when so many of its single moves were done: each switch of a pair is one, those that it closes and then
+    those that it opens. Present is the state in which the plan began, and not the one after the cut. `Resumed` has the moves that remain and those that go back; a count below 0 is a ValueError."""
     remaining, back = _lines_on_states(_library().feeder_resume, text, present, wanted, _count(count))
     return Resumed(*([Move(*_operation(line)) for line in lines] for lines in (remaining, back)))
 
 
 def answer_text(text):
-    """What the program feeder prints for an accepted text: 81, 84, 82 and, from a radial base, 83 lines."""
+    """What the program feeder prints for an accepted text: 81, 84, 82 and, from a radial base, 86 lines."""
     text = _bytes(text)
     answer, room = _lent(_library().feeder_answer_text, text)
     return _checked(answer, room[:answer.value]).decode()
@@ -297,6 +298,18 @@ def _lines_on_states(call, text, present, wanted, *done):
 def _operation(line):
     """An 82 line: the switch, and how it stands then."""
     return int(line[2:6], 16), CLOSED if line[6:8] == '01' else OPEN
+
+
+def _pair(line):
+    """An 86 line: two lists of ids, each behind its length."""
+    closed, rest = _id_list(line[2:])
+    opened, _ = _id_list(rest)
+    return Pair(closed, opened)
+
+
+def _id_list(digits):
+    behind = 2 + 4 * int(digits[:2], 16)
+    return tuple(int(digits[k:k + 4], 16) for k in range(2, behind, 4)), digits[behind:]
 
 
 def _ids(text):

@@ -33,7 +33,7 @@ MEANINGS = {
     ('branches', 6): 'from_bus or to_bus is the id of no bus',
     ('switches', 6): 'branch is the id of no branch',
     ('switches', 7): 'a row before it has the same id',
-    ('switches', 8): 'a row before it is on the same branch',
+    ('switches', 8): 'two rows before it are on the same branch',
     ('switches', 9): 'it is the eleventh normally open switch, and method 2 takes ten',
     (SUPPLY, 14): 'supply is the id of no bus',
     (SUPPLY, 15): 'as the switches normally stand, a bus is not connected or there is a loop, and a supply is named',
@@ -141,6 +141,13 @@ def keep_text(text, path, database):
     path.write_bytes(text.encode())
 
 
+def in_order(pair, switches):
+    """What is done with the switches of a pair, one behind the other; by their names."""
+    closings = [f'close {switches[switch]},' for switch in pair.close]
+    openings = [f'open {switches[switch]}' for switch in pair.open]
+    return '\n   '.join([*closings, 'then ' + ',\n   '.join(openings)])
+
+
 def print_plan(tables, text):
     found = lugwefa.solve(text)
     pairs = pairs_of(text, found)
@@ -148,7 +155,7 @@ def print_plan(tables, text):
     switches = {row['id']: f'switch {row["id"]} {shown(row["name"])} on {cables[row["branch"]]}' for row in tables['switches']}
     print(f'{found.base_loss:.4f} MW are lost as the switches normally stand, {found.best_loss:.4f} MW after the plan: {found.reduction:.1f} percent less')
     for number, pair in enumerate(pairs, 1):
-        print(f'{number}. close {switches[pair.close]},\n   then open {switches[pair.open]}')
+        print(f'{number}. {in_order(pair, switches)}')
     print('Every bus stays connected all the way, and after each step there is no loop: a run may stop there.' if pairs else 'No switch has to move.')
 
 

@@ -33,7 +33,7 @@ CREATE TABLE switches (
     row INTEGER PRIMARY KEY,
     id INTEGER,
     name TEXT,
-    branch INTEGER,             -- id of a branch
+    branch INTEGER,             -- id of a branch; at most two switches have the same
     normally_open INTEGER,      -- 1 or 0
     can_operate INTEGER         -- 1; 0: locked
 );

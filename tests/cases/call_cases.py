@@ -5,17 +5,26 @@ usage: tests/cases/call_cases.py
 
 Each case of stdin is a line 'LENGTH NAME', a frame text, a line feed, and three lines: the letters CALL and CHANGE with a blank and PRESENT, then
 WANTED, then SLICE (crates/call_cases/src/calls.rt). Each case of stdout is 'NAME FIELDS [SLICE]' or 'NAME refused NUMBER PLACE [SLICE]', with
-the slice as the call leaves it; call S is three calls without a slice, and call R has two, the second in a line of its own. Every answer is written by hand from documents 01 and 02; that of a state's form
-must be what labels and searches give. tests/oracle/self-test holds them against the original Rust and the oracle's own reckoning.
+the slice as the call leaves it; call S is three calls without a slice, and call R has two, the second in a line of its own. Every answer is written by hand from documents 01 and 02, but
+for those on drawn feeders, which are reckoned and judged as in the generators beside this one; that of a state's form must be what labels and searches give. tests/oracle/self-test
+holds them against the original Rust and the oracle's own reckoning.
 """
 import os
 import struct
+import sys
 
-import feeders
+sys.dont_write_bytecode = True
+import loss_cases
+import plan_cases
+import plans
+import resume_cases
 from feeders import TREE
 
 ROOT = os.path.join(os.path.dirname(os.path.abspath(__file__)), '..', '..', 'crates', 'call_cases')
 EXCHANGE, TABU, EXHAUSTIVE = 0, 1, 2
+ROOM_FOR_CASES = 344064
+# bytes of an 86 line with one id on each side
+LINE = 15
 cases = []
 
 
@@ -24,13 +33,18 @@ def bits(x):
 
 
 class Feeder:
-    """Loads of buses 1, 2, ..; branches (from, to, r); switches (id, branch position, flags); the id of the supply, where there is one."""
+    """Loads of buses 1, 2, ..; branches (from, to, r); switches (id, branch position, flags); the id of the supply, where there is one; the positions of branches out of service."""
 
-    def __init__(self, loads, branches, switches, supply=None):
-        self.loads, self.branches, self.switches, self.supply = loads, branches, switches, supply
+    def __init__(self, loads, branches, switches, supply=None, out_of_service=()):
+        self.loads, self.branches, self.switches, self.supply, self.out_of_service = loads, branches, switches, supply, out_of_service
+
+    def records(self):
+        """The feeder that plans are made for."""
+        branches = [(a, b, int(k not in self.out_of_service)) for k, (a, b, _) in enumerate(self.branches)]
+        return resume_cases.Feeder(list(range(1, len(self.loads) + 1)), branches, self.switches, supply=self.supply)
 
     def form(self, state):
-        feeder = feeders.Feeder(range(1, len(self.loads) + 1), [(a, b, 1) for a, b, _ in self.branches], self.switches)
+        feeder = self.records()
         return feeder.form(feeder.live(state))
 
     def fed(self, supply):
@@ -39,7 +53,7 @@ class Feeder:
     def text(self, method=EXCHANGE, iterations=100):
         lines = ['01%04X%04X%04X%016X%02X%04X' % (len(self.loads), len(self.branches), len(self.switches), bits(1.0), method, iterations)]
         lines += ['02%04X%016X' % (i + 1, bits(load)) for i, load in enumerate(self.loads)]
-        lines += ['03%04X%04X%016X01' % (a, b, bits(r)) for a, b, r in self.branches]
+        lines += ['03%04X%04X%016X%02X' % (a, b, bits(r), k not in self.out_of_service) for k, (a, b, r) in enumerate(self.branches)]
         lines += ['04%04X%04X%02X' % switch for switch in self.switches]
         lines += ['05%04X' % self.supply] if self.supply is not None else []
         return ''.join(line + '\n' for line in lines)
@@ -61,13 +75,16 @@ TIES_ONLY = Feeder([0.0, 1.0, 2.0], [(1, 2, 0.25), (2, 3, 0.25)], [(8, 0, 3), (9
 RING = Feeder([0.0, 2.0, 3.0, 1.0, 2.0], [(1, 2, 0.25), (2, 3, 0.25), (3, 4, 0.25), (4, 5, 0.25), (5, 1, 0.25)], [(10 + k, k, 3 if k == 2 else 2) for k in range(5)])
 # ids fall, and every second switch is a locked tie
 LARGEST = Feeder([0.0], [(1, 1, 0.0)] * 512, [(1000 - i, i, i % 2) for i in range(512)])
+# document 02's triangle with a switch at each end of branch 2, both ties, and of branch 1, of which 13 is locked
+TWO_EACH = Feeder([0.0, 1.0, 2.0], SIDES, [(12, 2, 3), (10, 1, 2), (11, 2, 3), (13, 1, 0)])
 LOCKED = Feeder([0.0, 1.0, 2.0], SIDES, [(10, 1, 0), (11, 2, 3)])
 # the longest text without a supply: own loops at the last bus
 OWN_LOOPS = Feeder([0.0] * 256, [(256, 256, 0.0)] * 512, [(1000 - i, i, 2) for i in range(512)])
 # three buses in a row, joined by two branches each
 ROW = Feeder([0.0, 1.0, 2.0], [(1, 2, 0.25), (2, 3, 0.25)] * 2, [(40, 0, 2), (30, 1, 2), (20, 2, 3), (10, 3, 3)])
-# bus 1 joined with each of 255 others by two branches, the second of them a tie
-LONGEST = Feeder([0.0] * 256, [(1, 2 + k, 0.0) for k in range(255)] * 2, [(1000 - i, i, 2 if i < 255 else 3) for i in range(510)])
+# bus 1 joined with each of 255 others by two branches, the second of them a tie; the last bus's two have a second switch each, listed first and last
+LONGEST = Feeder([0.0] * 256, [(1, 2 + k, 0.0) for k in range(255)] * 2,
+                 [(2001, 509, 3)] + [(1000 - i, i, 2 if i < 255 else 3) for i in range(510)] + [(2000, 254, 2)])
 
 
 def case(call, name, text, printed, present='', wanted='', room=0, change='-', slices=None):
@@ -114,7 +131,7 @@ def refused_state(name, text, bytes_, fault):
 
 
 def plan(name, present, wanted, room, known, feeder=TRIANGLE, method=EXCHANGE):
-    lines = ''.join('83%04X%04X\n' % pair for pair in known)
+    lines = ''.join(map(plans.line_of, plan_cases.listed(known)))
     slice_case('P', 'plan-' + name, feeder.text(method), room, '%04x' % len(known), lines, present=present, wanted=wanted)
 
 
@@ -209,7 +226,7 @@ def network_refusals():
             slice_case('O', 'operations-change-%s-%s' % (change, states), TRIANGLE.text(), 18, refused(*fault), '', present=present, wanted=wanted, change=change)
     slice_case('B', 'best-of-no-text', '0G\n', 2, refused(1, 1), '')
     slice_case('O', 'operations-of-no-text', '0G\n', 18, refused(1, 1), '', present='01', wanted='10')
-    slice_case('P', 'plan-of-no-text', '0G\n', 11, refused(1, 1), '', present='01', wanted='10')
+    slice_case('P', 'plan-of-no-text', '0G\n', LINE, refused(1, 1), '', present='01', wanted='10')
     refused_state('of-no-text', '0G\n', '01', (1, 1))
 
 
@@ -239,11 +256,11 @@ def states_and_plans():
     state('base', TRIANGLE, '01', TREE, 4.0)
     state('exchanged', TRIANGLE, '10', TREE, 1.0)
     state('branch-0-turned', TURNED, '01', TREE, 1.75)
-    plan('exactly-full', '01', '10', 11, [(11, 10)])
-    plan('one-byte-longer', '01', '10', 12, [(11, 10)])
+    plan('exactly-full', '01', '10', 15, [(11, 10)])
+    plan('one-byte-longer', '01', '10', 16, [(11, 10)])
     plan('equal-states', '01', '01', 0, [])
-    slice_case('P', 'plan-one-byte-short', TRIANGLE.text(), 10, refused(13, 0), '', present='01', wanted='10')
-    slice_case('P', 'plan-all-closed', TRIANGLE.text(), 11, refused(11, 0), '', present='00', wanted='10')
+    slice_case('P', 'plan-one-byte-short', TRIANGLE.text(), 14, refused(13, 0), '', present='01', wanted='10')
+    slice_case('P', 'plan-all-closed', TRIANGLE.text(), LINE, refused(11, 0), '', present='00', wanted='10')
 
 
 def written_texts():
@@ -269,7 +286,7 @@ def searches_with_supply():
         best(drawing + '-supply-1-tabu', fed, 2, TREE, 4.0, 4.0, 100, 1, '01', TABU)
         best(drawing + '-supply-1-exhaustive', fed, 2, TREE, 4.0, 4.0, 1, 1, '01', EXHAUSTIVE)
         for method in (EXCHANGE, TABU, EXHAUSTIVE):
-            plan('%s-supply-1-method-%d' % (drawing, method), '01', '10', 11, [(11, 10)], fed, method)
+            plan('%s-supply-1-method-%d' % (drawing, method), '01', '10', LINE, [(11, 10)], fed, method)
             plan('%s-supply-1-method-%d-none' % (drawing, method), '01', '01', 3, [], fed, method)
         operations(drawing + '-supply-1', fed, '01', '10', 18, [(10, 0), (11, 1)])
         # at bus 2 and at bus 3 both radial states lose the same
@@ -282,7 +299,7 @@ def searches_with_supply():
     best('ring', RING, 5, TREE, 27.0, 12.25, 2, 1, '01000')
     # 25 + 9 + 49 + 25 quarters and, with 11 opened in place of 12, 4 + 9 + 16 + 4; with 10 in place of 11 as much
     best('ring-supply-4', RING.fed(4), 5, TREE, 27.0, 8.25, 2, 1, '01000')
-    plan('ring-supply-4', '00100', '01000', 11, [(12, 11)], RING.fed(4))
+    plan('ring-supply-4', '00100', '01000', LINE, [(12, 11)], RING.fed(4))
     for method, rounds in [(EXCHANGE, 1), (TABU, 100), (EXHAUSTIVE, 1)]:
         best('only-bus-supply-method-%d' % method, ONE_BUS.fed(1), 0, TREE, 0.0, 0.0, rounds, 1, '', method)
         best('two-buses-supply-2-method-%d' % method, TWO_BUSES.fed(2), 0, TREE, 0.0, 0.0, rounds, 1, '', method)
@@ -300,7 +317,7 @@ def calls_with_supply():
     for bytes_ in ('', '0', '000', '02'):
         refused_state('supply-malformed-%s' % bytes_, fed.text(), bytes_, (10, 0))
     operations('supply-not-radial', fed, '00', '11', 18, [(10, 0), (11, 0)])
-    slice_case('P', 'plan-supply-not-radial', fed.text(), 11, refused(11, 1), '', present='01', wanted='00')
+    slice_case('P', 'plan-supply-not-radial', fed.text(), LINE, refused(11, 1), '', present='01', wanted='00')
     slice_case('T', 'text-supply', fed.text(), 230, '%04x' % 226, fed.text())
     slice_case('T', 'text-supply-one-byte-short', fed.text(), 225, refused(13, 0), '')
     for change, fault in [('I', (3, 1)), ('U', (6, 5)), ('W', (4, 1))]:
@@ -310,7 +327,7 @@ def calls_with_supply():
                                 ('of-no-buses', NO_BUSES.fed(1), (14, 2)), ('not-listed-on-a-loop', OWN_LOOP.fed(3), (14, 4))]:
         refused_state('supply-' + name, feeder.text(), '2', fault)
         for call in 'BOPT':
-            slice_case(call, 'supply-%s-%s' % (name, call), feeder.text(), 11, refused(*fault), '', present='2', wanted='2')
+            slice_case(call, 'supply-%s-%s' % (name, call), feeder.text(), LINE, refused(*fault), '', present='2', wanted='2')
 
 
 def cut_plans():
@@ -343,29 +360,146 @@ def cut_plans():
     cut_plan('row-5-done', 5, (36, 36), refused(16, 0), text=ROW.text(), present='0011', wanted='1100')
 
 
+def two_on_a_branch():
+    """From a base with both ties of branch 2 open no swap is radial; tabu toggles one of them, which changes no live branch; of the masks 0 to 2 each is radial."""
+    for name, method, rounds in [('exchange', EXCHANGE, 1), ('tabu', TABU, 100), ('exhaustive', EXHAUSTIVE, 3)]:
+        best('two-each-' + name, TWO_EACH, 4 + method, TREE, 4.0, 4.0, rounds, 1, '1010', method)
+    slice_case('B', 'best-two-each-one-byte-short', TWO_EACH.text(), 3, refused(13, 0), '')
+    # the first operable section of branch 1 opens
+    for name, first, second, found in [('both-operable', 2, 2, '100'), ('first-locked', 0, 2, '001'), ('second-locked', 2, 0, '100')]:
+        best('two-sections-' + name, Feeder([0.0, 1.0, 2.0], SIDES, [(10, 1, first), (11, 2, 3), (14, 1, second)]), 3, TREE, 4.0, 1.0, 2, 1, found)
+    # a tie beside an open one joins nothing: with both closed branch 0 carries 2 - 2 MW and branch 1, by 0.125, 2 MW
+    ties = Feeder([0.0, 2.0, -2.0], [(1, 2, 0.25), (2, 3, 0.125)], [(7, 1, 3), (8, 1, 3)])
+    best('two-ties-exchange', ties, 2, (1, None), 1.0, 1.0, 1, 1, '11')
+    best('two-ties-tabu', ties, 2, (1, None), 1.0, 1.0, 100, 1, '11', TABU)
+    best('two-ties-exhaustive', ties, 2, TREE, 1.0, 0.5, 1, 1, '00', EXHAUSTIVE)
+    # with one of the two a section, closing the other joins
+    best('tie-and-section-tabu', Feeder(ties.loads, ties.branches, [(7, 1, 3), (8, 1, 2)]), 2, TREE, 1.0, 0.5, 100, 1, '00', TABU)
+    best('two-sections-tabu', Feeder(PARALLEL.loads, PARALLEL.branches, [(7, 1, 2), (8, 1, 2)]), 2, TREE, 3.0, 1.0, 100, 1, '10', TABU)
+    for bytes_, form, loss in [('1010', TREE, 4.0), ('1000', TREE, 4.0), ('0010', TREE, 4.0), ('0000', (0, 2), 5.6875), ('0100', TREE, 1.0), ('0001', TREE, 1.0), ('0101', TREE, 1.0),
+                               ('1100', (1, None), 0.25), ('0011', (1, None), 0.25), ('1111', (1, None), 0.25)]:
+        state('two-each-' + bytes_, TWO_EACH, bytes_, form, loss)
+    for bytes_ in ('101', '10100', '1012'):
+        refused_state('two-each-malformed-' + bytes_, TWO_EACH.text(), bytes_, (10, 0))
+    operations('two-each', TWO_EACH, '1010', '0100', 27, [(12, 1), (10, 0), (11, 1)])
+    operations('two-each-dead-in-both', TWO_EACH, '1010', '0010', 9, [(12, 1)])
+    for name, room in [('exactly-full', 19), ('one-byte-longer', 20), ('ten-bytes-longer', 29)]:
+        plan('two-each-' + name, '1010', '0100', room, [((12, 11), 10)], TWO_EACH)
+    plan('two-each-back', '0100', '1010', 19, [(10, (12, 11))], TWO_EACH)
+    plan('two-each-first-open', '1000', '0100', LINE, [(12, 10)], TWO_EACH)
+    plan('two-each-second-to-open', '0100', '0010', LINE, [(10, 11)], TWO_EACH)
+    plan('two-each-dead-in-both', '1010', '0010', 0, [], TWO_EACH)
+    plan('two-and-two', '0101', '1010', 23, [((9, 6), (8, 7))], Feeder([0.0, 1.0], [(1, 2, 0.5), (2, 1, 0.25)], [(8, 0, 2), (9, 1, 3), (7, 0, 2), (6, 1, 3)]))
+    for room in (18, 15, 0):
+        slice_case('P', 'plan-two-each-no-room-%d' % room, TWO_EACH.text(), room, refused(13, 0), '', present='1010', wanted='0100')
+        slice_case('P', 'plan-two-each-13-would-move-%d' % room, TWO_EACH.text(), room, refused(12, 13), '', present='1010', wanted='0101')
+    moves = [(12, 1), (11, 1), (10, 0)]
+    cut = {'text': TWO_EACH.text(), 'present': '1010', 'wanted': '0100'}
+    back = [[], [(12, 0)], [(11, 0), (12, 0)], [(10, 1), (11, 0), (12, 0)]]
+    for done in range(4):
+        cut_plan('two-each-%d-done' % done, done, (9 * (3 - done), 9 * done), '%04x' % (3 - done), moves[done:], back[done], **cut)
+        cut_plan('two-each-%d-done-longer' % done, done, (28, 37), '%04x' % (3 - done), moves[done:], back[done], **cut)
+    for done, rooms in [(0, (26, 27)), (1, (17, 9)), (1, (18, 8)), (2, (9, 17)), (3, (0, 26))]:
+        cut_plan('two-each-no-room-%d-done-%d-%d' % (done, *rooms), done, rooms, refused(13, 0), **cut)
+    for done in (4, 5, 65536 + 2, 2**64 - 1):
+        cut_plan('two-each-of-3-moves-%d-done' % done, done, (36, 36), refused(16, 0), **cut)
+    for done in (0, 4):
+        cut_plan('two-each-13-would-move-%d-done' % done, done, (27, 27), refused(12, 13), text=TWO_EACH.text(), present='1010', wanted='0101')
+    slice_case('T', 'text-two-each', TWO_EACH.text(), 246, '%04x' % 245, TWO_EACH.text())
+    third = Feeder(TWO_EACH.loads, SIDES, TWO_EACH.switches + [(14, 2, 2)]).text()
+    refused_state('third-switch', third, '10100', (8, 12))
+    for call in 'BOPT':
+        slice_case(call, 'third-switch-' + call, third, LINE, refused(8, 12), '', present='10100', wanted='01000')
+    cut_plan('third-switch', 9, (9, 9), refused(8, 12), text=third, present='10100', wanted='01000')
+
+
+def drawn_feeder(draw, may_be_locked):
+    """Two to seven buses, none, one or two switches a branch, and two radial states."""
+    n = 2 + draw.below(6)
+    ends = [(i, draw.below(i)) for i in range(1, n)] + [(draw.below(n), draw.below(n)) for _ in range(1 + draw.below(4))]
+    branches = [tuple(1 + i for i in draw.shuffled(pair)) + (draw.below(64) / 64,) for pair in draw.shuffled(ends)]
+    feeder = Feeder([float(draw.below(10)) for _ in range(n)], branches, [])
+    order = draw.shuffled(range(len(branches)))
+    first = feeder.records().joined(order)
+    second = feeder.records().joined([k for k in order if k not in first] + order)
+    feeder.out_of_service = [k for k in range(len(branches)) if k not in first | second and draw.chance(30)]
+    records = feeder.records()
+    states = plans.drawn_switches(draw, records, first, second, draw.ids(2 * len(branches)), may_be_locked)
+    feeder.switches = records.switches
+    return feeder, *states
+
+
+def drawn_plan(name, draw, feeder, present, wanted):
+    """The plan in slices exact, one byte short and longer, and cut off: before its first move, at its first loop, at its end and beyond."""
+    records, text = feeder.records(), feeder.text()
+    fault = plans.refusal(records, '', present, wanted)
+    if fault:
+        slice_case('P', 'plan-' + name, text, 0, refused(*fault), '', present=present, wanted=wanted)
+        cut_plan(name, 2**64 - 1, (0, 9), refused(*fault), text=text, present=present, wanted=wanted)
+        return
+    pairs = plans.plan(records, present, wanted)
+    length = plans.length_of(pairs)
+    plan_cases.judge(records, present, wanted, pairs)
+    plan(name, present, wanted, length + draw.choice([0, 1, 9]), pairs, feeder)
+    if pairs:
+        slice_case('P', 'plan-%s-one-byte-short' % name, text, length - 1, refused(13, 0), '', present=present, wanted=wanted)
+    moves = resume_cases.moves_of(pairs)
+    for done in sorted({0, len(pairs[0][0]), len(moves)}) if pairs else [0]:
+        remaining, back = resume_cases.lists_of(moves, done)
+        resume_cases.judge(records, present, wanted, done, remaining, back)
+        rooms = 9 * len(remaining) + draw.choice([0, 1]), 9 * len(back)
+        cut_plan('%s-%d-done' % (name, done), done, rooms, '%04x' % len(remaining), remaining, back, text, present, wanted)
+    cut_plan(name + '-too-many-done', len(moves) + 1, (0, 0), refused(16, 0), text=text, present=present, wanted=wanted)
+
+
+def drawn_until(draw, kind):
+    """With a locked switch that would move, with two that a pair closes or opens, or with any pair."""
+    while True:
+        feeder, present, wanted = drawn_feeder(draw, kind == 'locked')
+        fault, pairs = plans.refusal(feeder.records(), '', present, wanted), plans.plan(feeder.records(), present, wanted)
+        if {'locked': fault is not None, 'two': any(len(ids) == 2 for pair in pairs for ids in pair), 'any': bool(pairs)}[kind]:
+            return feeder, present, wanted
+
+
+def drawn():
+    draw = resume_cases.Draw(6)
+    for i, kind in enumerate(['two', 'any', 'two', 'locked'] * 3):
+        feeder, present, wanted = drawn_until(draw, kind)
+        name = 'drawn-%s-%d' % (kind, i)
+        parts = feeder.loads, [branch + (int(k not in feeder.out_of_service),) for k, branch in enumerate(feeder.branches)], [k for _, k, _ in feeder.switches], 1.0
+        for j, bytes_ in enumerate((present, ''.join(draw.choice('01') for _ in present))):
+            state('%s-%d' % (name, j), feeder, bytes_, feeder.form(bytes_), loss_cases.loss(parts, bytes_))
+        listed = [(number, 1 - int(aimed)) for (number, _, _), found, aimed in zip(feeder.switches, present, wanted) if found != aimed]
+        operations(name, feeder, present, wanted, 9 * len(listed) + i % 2, listed)
+        drawn_plan(name, draw, feeder, present, wanted)
+
+
 def largest():
     best('512-switches', LARGEST, 512, (0, 0), 0.0, 0.0, 1, 1, '01' * 256)
     slice_case('B', 'best-512-switches-one-byte-short', LARGEST.text(), 511, refused(13, 0), '')
     state('256-buses-last-of-512-own-loops', OWN_LOOPS, '1' * 511 + '0', (255, 511), 0.0)
     operations('512', LARGEST, '0' * 512, '1' * 512, 4608, [(1000 - i, 0) for i in range(512)])
     slice_case('O', 'operations-512-one-byte-short', LARGEST.text(), 4607, refused(13, 0), '', present='0' * 512, wanted='1' * 512)
-    longest = {'text': LONGEST.text(), 'present': '0' * 255 + '1' * 255, 'wanted': '1' * 255 + '0' * 255}
-    # switch 745 - k closes before switch 1000 - k opens; with 255 moves done switch 618 is closed, and switch 873 is to be opened
-    remaining = [(873, 0)] + [move for k in range(128, 255) for move in [(745 - k, 1), (1000 - k, 0)]]
-    back = [(618, 0)] + [move for k in reversed(range(127)) for move in [(1000 - k, 1), (745 - k, 0)]]
-    cut_plan('510-moves-255-done', 255, (2295, 2296), '00ff', remaining, back, **longest)
-    cut_plan('510-moves-510-done-one-byte-short', 510, (0, 4589), refused(13, 0), **longest)
+    longest = {'text': LONGEST.text(), 'present': '1' + '0' * 255 + '1' * 255 + '0', 'wanted': '0' + '1' * 255 + '0' * 255 + '1'}
+    # first switches 2001 and 491 close, 746 and 2000 open; then switch 745 - k closes before switch 1000 - k opens, k from 0: with 257 moves done 619 is closed, and 874 is to be opened
+    first, others = [(2001, 1), (491, 1), (746, 0), (2000, 0)], [[(745 - k, 1), (1000 - k, 0)] for k in range(254)]
+    remaining = [(874, 0)] + [move for pair in others[127:] for move in pair]
+    back = [(619, 0)] + [(number, 1 - action) for pair in reversed(others[:126]) for number, action in reversed(pair)] + [(2000, 1), (746, 1), (491, 0), (2001, 0)]
+    assert len(first + remaining + back) == 4 + 512
+    cut_plan('512-moves-257-done', 257, (2295, 2314), '00ff', remaining, back, **longest)
+    pairs = [((2001, 491), (746, 2000))] + [(745 - k, 1000 - k) for k in range(254)]
+    plan('longest', longest['present'], longest['wanted'], 3834, pairs, LONGEST)
 
 
 def main():
-    for make in (best_states, moved_bytes, best_of_no_tree, listed_operations, refused_states, network_refusals, states_of_no_tree, states_and_plans, written_texts, searches_with_supply, calls_with_supply, cut_plans, largest):
+    for make in (best_states, moved_bytes, best_of_no_tree, listed_operations, refused_states, network_refusals, states_of_no_tree, states_and_plans, written_texts, searches_with_supply, calls_with_supply, cut_plans, two_on_a_branch, drawn, largest):
         make()
     names = [name for name, _, _ in cases]
     assert len(names) == len(set(names)), 'a name stands twice'
     os.makedirs(ROOT, exist_ok=True)
     with open(os.path.join(ROOT, 'stdin'), 'w') as out:
         out.write(''.join(question for _, question, _ in cases))
-        assert out.tell() <= 262144, 'the program has no room for the cases'
+        assert out.tell() <= ROOM_FOR_CASES, 'the program has no room for the cases'
     with open(os.path.join(ROOT, 'stdout'), 'w') as out:
         out.write(''.join('%s %s\n' % (name, printed) for name, _, printed in cases))
     print('%d cases' % len(cases))

@@ -2,6 +2,9 @@
 
 # islands and closing branch of a tree
 TREE = 0, None
+# Whether the bytes of its switches make a branch in service dead, and ways to get that wrong.
+IS_DEAD = {'': lambda bytes_: '1' in bytes_, 'any closed switch makes a branch live': lambda bytes_: '0' not in bytes_,
+           'the last switch decides': lambda bytes_: bytes_[-1] == '1', 'the first switch decides': lambda bytes_: bytes_[0] == '1'}
 
 
 class Feeder:
@@ -20,9 +23,24 @@ class Feeder:
         lines += ['05%04X' % self.supply] if self.supply is not None else []
         return ''.join(line + '\n' for line in lines).encode()
 
-    def live(self, state):
-        opened = {k for (_, k, _), byte in zip(self.switches, state) if byte == '1'}
-        return {k for k, (_, _, status) in enumerate(self.branches) if status == 1 and k not in opened}
+    def live(self, state, wrong=''):
+        """In service and no open switch on it; a name of IS_DEAD makes it wrong."""
+        bytes_on = {}
+        for (_, k, _), byte in zip(self.switches, state):
+            bytes_on.setdefault(k, []).append(byte)
+        dead = {k for k, bytes_ in bytes_on.items() if IS_DEAD.get(wrong, IS_DEAD[''])(bytes_)}
+        return {k for k, (_, _, status) in enumerate(self.branches) if status == 1 and k not in dead}
+
+    def on(self, k):
+        """Where the switches on a branch stand in the list."""
+        return [i for i, (_, on, _) in enumerate(self.switches) if on == k]
+
+    def open_on(self, state, k):
+        """The ids of the switches on a branch that are open, in list order."""
+        return [self.switches[i][0] for i in self.on(k) if state[i] == '1']
+
+    def is_radial(self, live):
+        return not self.buses or self.joined(live) == live and len(live) == len(self.buses) - 1
 
     def labels(self, order):
         """For each bus a label that it shares with the buses joined to it, and those of these branches whose ends the ones before have

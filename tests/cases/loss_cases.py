@@ -172,6 +172,18 @@ def marked():
         refusal('state-' + name, TRIANGLE, state, (10, 0))
 
 
+def two_on_a_branch():
+    """Document 02's triangle with switches on branches 2, 1, 2, 1: a branch with one of two open has no load and lets none pass."""
+    two_each = TRIANGLE[:2] + ([2, 1, 2, 1], 1.0)
+    for state, known in [('1010', 4.0), ('1000', 4.0), ('0010', 4.0), ('0100', 1.0), ('0001', 1.0), ('0101', 1.0), ('0000', 5.6875), ('1100', 0.25), ('0011', 0.25), ('1111', 0.25)]:
+        case('two-each-' + state, two_each, state, known)
+    for state, known in [('1010', 0.4375), ('1000', 0.4375), ('0010', 0.4375), ('0001', 0.4375)]:
+        case('two-each-supply-3-' + state, two_each, state, known, ties=[0, 2], supply=3)
+    for state in ('0000', '1100', '0011'):
+        refusal('two-each-not-radial-supply-' + state, two_each, state, (11, 0), ties=[0], supply=1)
+    refusal('two-each-short-state', two_each, '101', (10, 0))
+
+
 def faulty_records():
     """The loss call tests the records first, method and iterations too."""
     refusal('records-iterations-1001', TRIANGLE, '01', (3, 1), 'iterations 1001')
@@ -214,6 +226,8 @@ def drawn():
         n = draw.randint(1, 12)
         branches = [(draw.randint(1, n), draw.randint(1, n), draw.uniform(0, 1000), int(draw.random() < 0.9)) for _ in range(draw.randint(0, 20))]
         switches = draw.sample(range(len(branches)), draw.randint(0, len(branches)))
+        # a second one on some of them, listed in any order
+        switches = draw.sample(switches + switches[::3], len(switches + switches[::3]))
         feeder = ([draw.uniform(-1e6, 1e6) for _ in range(n)], branches, switches, draw.uniform(0.001, 100))
         case('drawn-%d' % i, feeder, ''.join(draw.choice('01') for _ in switches))
 
@@ -398,7 +412,7 @@ def drawn_with_supply():
 
 
 def main():
-    for make in (marked, faulty_records, ranges, fused, drawn, with_supply, refused_with_supply, other_bits, at_every_bus, chains, drawn_with_supply,
+    for make in (marked, two_on_a_branch, faulty_records, ranges, fused, drawn, with_supply, refused_with_supply, other_bits, at_every_bus, chains, drawn_with_supply,
                  own_loops, first_of_a_chain, stars_chains_trees, supply_walks):
         make()
     assert told_apart == set(WRONG), set(WRONG) - told_apart
@@ -415,4 +429,6 @@ def main():
     print('%d cases' % len(cases))
 
 
-main()
+# tests/cases/call_cases.py takes the loss from here
+if __name__ == '__main__':
+    main()

@@ -8,76 +8,39 @@ letter for a change of the records once they are read (see CHANGES), a hyphen fo
 the states, SLICE a dot for each byte of the lent slice. The cases of a feeder stand together, and only the first has the text. Each case
 of stdout is 'NAME PAIRS [SLICE]' or 'NAME refused NUMBER PLACE [SLICE]', with the slice as the call leaves it. The answers of the named
 cases are written by hand from documents 01 and 02, and those of the drawn ones reckoned from 01's sections State, Refusals and Plan; both must
-agree on the named ones, and each planner of WRONG must fail on one. Where there is a plan, the one back is a case too. Every plan that
-stdout shows is judged: its pairs are carried out and undone, and each stopping point is held to demand 3 by labels.
+agree on the named ones, and each planner of plans.WRONG must fail on one and on several drawn ones. Where there is a plan, the one back is a case too. Every plan that
+stdout shows is judged: its pairs are carried out and undone switch by switch, and each stopping point and each state between is held to demand 3 by labels.
 """
 import os
 import random
 import re
 
-import feeders
+import plans
+from feeders import Feeder
+from plans import answer, length_of, line_of, plan
 
 ROOT = os.path.join(os.path.dirname(os.path.abspath(__file__)), '..', '..', 'crates', 'plan_cases')
 CHANGES = {'iterations 1001': 'A', 'switch 10 a tie': 'F', '': '-'}
-# bytes of an 83 line
-PAIR_LENGTH = 11
-cases, told_apart = [], set()
+ROOM_FOR_CASES = 655360
+# bytes of an 86 line with one id on each side
+LINE = 15
+# the planners of plans.WRONG are tried on feeders of at most so many buses, and each must fail on so many drawn cases
+FEW_BUSES, FEWEST_TOLD = 64, 8
+cases, told_apart = [], {}
 
 
-class Feeder(feeders.Feeder):
-    def is_radial(self, live):
-        return not self.buses or self.joined(live) == live and len(live) == len(self.buses) - 1
-
-
-def plan(feeder, present, wanted, order=None, turned=False, last=False, over_present=False, first_of_all=False):
-    """Document 01's plan; each option is a way to get it wrong."""
-    before, aim = feeder.live(present), feeder.live(wanted)
-    live, pairs, number_on = set(before), [], {k: number for number, k, _ in feeder.switches}
-    for _, k, _ in sorted(feeder.switches, key=order) if order else feeder.switches:
-        if k not in aim or k in before:
-            continue
-        a, b = feeder.branches[k][:2]
-        way = feeder.path(before if over_present else live, *((b, a) if turned else (a, b))) or [None]
-        opened = way[0] if first_of_all else [j for j in way if j not in aim][-1 if last else 0]
-        live = live - {opened} | {k}
-        pairs.append((number_on[k], number_on.get(opened)))
-    return pairs
-
-
-WRONG = {'by position': dict(order=lambda switch: switch[1]), 'by id': dict(order=lambda switch: switch[0]), 'from the to bus': dict(turned=True),
-         'the last': dict(last=True), 'over the present path': dict(over_present=True), 'a wanted branch': dict(first_of_all=True)}
-
-
-def answer(feeder, change, present, wanted, room):
-    """The pairs, or number and place of the refusal."""
-    ties = [i for i, (_, _, flags) in enumerate(feeder.switches) if flags & 1 or change == 'switch 10 a tie' and i == 10]
-    if change == 'iterations 1001':
-        return 3, 1
-    if feeder.method == 2 and len(ties) > 10:
-        return 9, 2 + len(feeder.buses) + len(feeder.branches) + ties[10]
-    base = ''.join('01'[i in ties] for i in range(len(feeder.switches)))
-    if feeder.supply is not None and not feeder.is_radial(feeder.live(base)):
-        return 15, 2 + len(feeder.buses) + len(feeder.branches) + len(feeder.switches)
-    states = (0, present), (1, wanted)
-    for place, state in states:
-        if len(state) != len(feeder.switches) or set(state) - {'0', '1'}:
-            return 10, place
-    for place, state in states:
-        if not feeder.is_radial(feeder.live(state)):
-            return 11, place
-    differing = feeder.live(present) ^ feeder.live(wanted)
-    for number, k, flags in feeder.switches:
-        if k in differing and not flags & 2:
-            return 12, number
-    pairs = plan(feeder, present, wanted)
-    return pairs if PAIR_LENGTH * len(pairs) <= room else (13, 0)
+def listed(pairs):
+    """The pairs of a plan; an id alone stands for a list of one."""
+    return [tuple(ids if isinstance(ids, tuple) else (ids,) for ids in pair) for pair in pairs]
 
 
 def case(name, feeder, present, wanted, room, known=None, change=''):
+    known = listed(known) if isinstance(known, list) else known
     found = answer(feeder, change, present, wanted, room)
     assert known is None or found == known, (name, found)
-    if known is not None and isinstance(found, list):
-        told_apart.update(wrong for wrong in WRONG if plan(feeder, present, wanted, **WRONG[wrong]) != found)
+    if len(feeder.buses) <= FEW_BUSES:
+        for wrong in plans.tell_apart(feeder, change, present, wanted, room, found):
+            told_apart.setdefault(wrong, []).append(name)
     cases.append((name, feeder, change, present, wanted, room, found))
 
 
@@ -98,25 +61,25 @@ def bytes_of(feeder, live):
 
 
 def between(name, feeder, present, wanted, known):
-    case(name, feeder, bytes_of(feeder, present), bytes_of(feeder, wanted), PAIR_LENGTH * len(known), known)
+    case(name, feeder, bytes_of(feeder, present), bytes_of(feeder, wanted), length_of(listed(known)), known)
 
 
 def slices():
-    case('triangle', TRIANGLE, '01', '10', 11, [(11, 10)])
-    case('triangle-back', TRIANGLE, '10', '01', 11, [(10, 11)])
-    case('one-byte-longer', TRIANGLE, '01', '10', 12, [(11, 10)])
-    case('ten-bytes-longer', TRIANGLE, '01', '10', 21, [(11, 10)])
-    case('one-byte-short', TRIANGLE, '01', '10', 10, (13, 0))
+    case('triangle', TRIANGLE, '01', '10', 15, [(11, 10)])
+    case('triangle-back', TRIANGLE, '10', '01', 15, [(10, 11)])
+    case('one-byte-longer', TRIANGLE, '01', '10', 16, [(11, 10)])
+    case('ten-bytes-longer', TRIANGLE, '01', '10', 25, [(11, 10)])
+    case('one-byte-short', TRIANGLE, '01', '10', 14, (13, 0))
     case('no-slice', TRIANGLE, '01', '10', 0, (13, 0))
     case('same-state-no-slice', TRIANGLE, '01', '01', 0, [])
     case('same-state-longer', TRIANGLE, '10', '10', 5, [])
     case('no-buses', Feeder([], [], []), '', '', 0, [])
     case('one-bus', Feeder([7], [], []), '', '', 3, [])
     case('one-bus-own-loop-open', Feeder([7], [(7, 7, 1)], [(1, 0, 2)]), '1', '1', 0, [])
-    case('two-parallel', Feeder([1, 2], [(1, 2, 1), (2, 1, 1)], [(8, 0, 2), (9, 1, 2)]), '01', '10', 11, [(9, 8)])
+    case('two-parallel', Feeder([1, 2], [(1, 2, 1), (2, 1, 1)], [(8, 0, 2), (9, 1, 2)]), '01', '10', 15, [(9, 8)])
     two = chain([(1, 4, 1), (2, 4, 1)], [0, 1, 2, 3, 4])
-    for name, room, known in [('exactly-full', 22, [(103, 100), (104, 102)]), ('one-byte-longer', 23, [(103, 100), (104, 102)]),
-                              ('one-byte-short', 21, (13, 0)), ('room-for-one', 11, (13, 0))]:
+    for name, room, known in [('exactly-full', 30, [(103, 100), (104, 102)]), ('one-byte-longer', 31, [(103, 100), (104, 102)]),
+                              ('one-byte-short', 29, (13, 0)), ('room-for-one', 15, (13, 0))]:
         case('two-pairs-' + name, two, '00011', '10100', room, known)
 
 
@@ -139,37 +102,37 @@ def network_refusals():
     ties, ten = (Feeder([1, 2], [(1, 2, 1)] * 11, [(1 + i, i, flags[i]) for i in range(11)], method=method)
                  for flags, method in (([3] * 11, 0), ([3] * 10 + [2], 2)))
     present, wanted = '0' + '1' * 10, '1' * 10 + '0'
-    case('eleven-ties', ties, present, wanted, 11, [(11, 1)])
-    case('ten-ties-exhaustive', ten, present, wanted, 11, [(11, 1)])
-    case('eleven-ties-exhaustive', ten, present, wanted, 11, (9, 25), 'switch 10 a tie')
+    case('eleven-ties', ties, present, wanted, LINE, [(11, 1)])
+    case('ten-ties-exhaustive', ten, present, wanted, LINE, [(11, 1)])
+    case('eleven-ties-exhaustive', ten, present, wanted, LINE, (9, 25), 'switch 10 a tie')
     case('eleven-ties-exhaustive-states-02', ten, '2', '2', 0, (9, 25), 'switch 10 a tie')
-    case('iterations-1001', TRIANGLE, '01', '10', 11, (3, 1), 'iterations 1001')
-    case('iterations-1001-state-02', TRIANGLE, '02', '10', 11, (3, 1), 'iterations 1001')
+    case('iterations-1001', TRIANGLE, '01', '10', LINE, (3, 1), 'iterations 1001')
+    case('iterations-1001-state-02', TRIANGLE, '02', '10', LINE, (3, 1), 'iterations 1001')
     exhaustive = Feeder(TRIANGLE.buses, TRIANGLE.branches, TRIANGLE.switches, TRIANGLE.resistances, TRIANGLE.loads, 2)
-    case('triangle-exhaustive', exhaustive, '01', '10', 11, [(11, 10)])
+    case('triangle-exhaustive', exhaustive, '01', '10', LINE, [(11, 10)])
 
 
 def refusals():
     for name, state in [('empty', ''), ('too-short', '0'), ('too-long', '010'), ('byte-02', '02'), ('byte-02-first', '20'), ('byte-FF', '0F'),
                         ('of-513', '0' * 513)]:
-        case('present-' + name, TRIANGLE, state, '10', 11, (10, 0))
-        case('wanted-' + name, TRIANGLE, '01', state, 11, (10, 1))
-    case('both-malformed', TRIANGLE, '02', '20', 11, (10, 0))
-    case('present-malformed-wanted-not-radial', TRIANGLE, '02', '00', 11, (10, 0))
-    case('present-not-radial-wanted-malformed', TRIANGLE, '00', '02', 11, (10, 1))
+        case('present-' + name, TRIANGLE, state, '10', LINE, (10, 0))
+        case('wanted-' + name, TRIANGLE, '01', state, LINE, (10, 1))
+    case('both-malformed', TRIANGLE, '02', '20', LINE, (10, 0))
+    case('present-malformed-wanted-not-radial', TRIANGLE, '02', '00', LINE, (10, 0))
+    case('present-not-radial-wanted-malformed', TRIANGLE, '00', '02', LINE, (10, 1))
     case('wanted-malformed-no-slice', TRIANGLE, '01', '02', 0, (10, 1))
     for name, state in [('all-closed', '00'), ('both-open', '11')]:
-        case('present-' + name, TRIANGLE, state, '10', 11, (11, 0))
-        case('wanted-' + name, TRIANGLE, '01', state, 11, (11, 1))
-    case('both-not-radial', TRIANGLE, '11', '00', 11, (11, 0))
-    case('same-state-not-radial', TRIANGLE, '00', '00', 11, (11, 0))
+        case('present-' + name, TRIANGLE, state, '10', LINE, (11, 0))
+        case('wanted-' + name, TRIANGLE, '01', state, LINE, (11, 1))
+    case('both-not-radial', TRIANGLE, '11', '00', LINE, (11, 0))
+    case('same-state-not-radial', TRIANGLE, '00', '00', LINE, (11, 0))
     locked = Feeder(TRIANGLE.buses, TRIANGLE.branches, [(10, 1, 0), (11, 2, 3)])
-    case('switch-10-locked', locked, '01', '10', 11, (12, 10))
+    case('switch-10-locked', locked, '01', '10', LINE, (12, 10))
     case('switch-10-locked-no-slice', locked, '01', '10', 0, (12, 10))
-    case('switch-10-locked-present-not-radial', locked, '00', '10', 11, (11, 0))
-    case('switch-10-locked-wanted-not-radial', locked, '01', '11', 11, (11, 1))
+    case('switch-10-locked-present-not-radial', locked, '00', '10', LINE, (11, 0))
+    case('switch-10-locked-wanted-not-radial', locked, '01', '11', LINE, (11, 1))
     case('switch-10-locked-same-state', locked, '01', '01', 0, [])
-    case('switch-11-locked', Feeder(TRIANGLE.buses, TRIANGLE.branches, [(10, 1, 2), (11, 2, 1)]), '01', '10', 11, (12, 11))
+    case('switch-11-locked', Feeder(TRIANGLE.buses, TRIANGLE.branches, [(10, 1, 2), (11, 2, 1)]), '01', '10', LINE, (12, 11))
 
 
 def locked_switches():
@@ -177,13 +140,13 @@ def locked_switches():
                                         ('opening-first', [1, 2, 0, 4, 3], (2, 3), (12, 102)), ('closing-first', [1, 0, 4, 3, 2], (2, 4), (12, 104)),
                                         ('no-differing-one', [4, 3, 2, 1, 0], (1,), [(104, 100), (103, 102)])]:
         feeder = chain(BESIDE, listed, locked)
-        case('locked-' + name, feeder, bytes_of(feeder, {0, 1, 2}), bytes_of(feeder, {1, 3, 4}), 22, known)
+        case('locked-' + name, feeder, bytes_of(feeder, {0, 1, 2}), bytes_of(feeder, {1, 3, 4}), 2 * LINE, known)
     # branch 3 is out of service: its switch differs, is locked and stays as found
     for flags in (0, 2):
         feeder = Feeder(TRIANGLE.buses, TRIANGLE.branches + [(1, 2, 0)], [(12, 3, flags), (10, 1, 2), (11, 2, 2)])
         for present, wanted in (('0', '1'), ('1', '0')):
             name = 'out-of-service-flags-%d-byte-%s-to-%s' % (flags, present, wanted)
-            case(name, feeder, present + '01', wanted + '10', 11, [(11, 10)])
+            case(name, feeder, present + '01', wanted + '10', LINE, [(11, 10)])
             case(name + '-empty', feeder, present + '01', wanted + '01', 0, [])
 
 
@@ -191,12 +154,12 @@ def supplies():
     """Document 02's last line is looked at in the network's test alone: the plan is that of the text without it."""
     for supply in (1, 2, 3):
         fed = Feeder(TRIANGLE.buses, TRIANGLE.branches, TRIANGLE.switches, TRIANGLE.resistances, TRIANGLE.loads, supply=supply)
-        case('supply-%d' % supply, fed, '01', '10', 11, [(11, 10)])
-        case('supply-%d-one-byte-short' % supply, fed, '01', '10', 10, (13, 0))
-        case('supply-%d-present-all-closed' % supply, fed, '00', '10', 11, (11, 0))
-        case('supply-%d-wanted-both-open' % supply, fed, '01', '11', 11, (11, 1))
-        case('supply-%d-wanted-short' % supply, fed, '00', '1', 11, (10, 1))
-        case('supply-%d-iterations-1001' % supply, fed, '01', '10', 11, (3, 1), 'iterations 1001')
+        case('supply-%d' % supply, fed, '01', '10', LINE, [(11, 10)])
+        case('supply-%d-one-byte-short' % supply, fed, '01', '10', LINE - 1, (13, 0))
+        case('supply-%d-present-all-closed' % supply, fed, '00', '10', LINE, (11, 0))
+        case('supply-%d-wanted-both-open' % supply, fed, '01', '11', LINE, (11, 1))
+        case('supply-%d-wanted-short' % supply, fed, '00', '1', LINE, (10, 1))
+        case('supply-%d-iterations-1001' % supply, fed, '01', '10', LINE, (3, 1), 'iterations 1001')
     tied = [(100 + k, k, 3 if k > 2 else 2) for k in range(5)]
     for supply in (1, 4):
         between('supply-%d-two-pairs' % supply, Feeder([1, 2, 3, 4], CHAIN + BESIDE, tied, supply=supply), {0, 1, 2}, {1, 3, 4}, [(103, 100), (104, 102)])
@@ -204,9 +167,66 @@ def supplies():
     present, wanted = '0' + '1' * 10, '1' * 10 + '0'
     for method, known in [(0, (15, 26)), (1, (15, 26)), (2, (9, 25))]:
         fed = Feeder([1, 2], [(1, 2, 1)] * 11, [(1 + i, i, 3 if i < 10 else 2) for i in range(11)], method=method, supply=1)
-        case('supply-ten-ties-method-%d' % method, fed, present, wanted, 11, [(11, 1)])
-        case('supply-eleven-ties-method-%d' % method, fed, present, wanted, 11, known, 'switch 10 a tie')
+        case('supply-ten-ties-method-%d' % method, fed, present, wanted, LINE, [(11, 1)])
+        case('supply-eleven-ties-method-%d' % method, fed, present, wanted, LINE, known, 'switch 10 a tie')
         case('supply-eleven-ties-states-02-method-%d' % method, fed, '2', '2', 0, known, 'switch 10 a tie')
+
+
+# document 02's triangle with a switch at each end of branch 2 and of branch 1, listed apart; switch 13 is locked
+TWO_EACH = Feeder(TRIANGLE.buses, TRIANGLE.branches, [(12, 2, 3), (10, 1, 2), (11, 2, 3), (13, 1, 0)], TRIANGLE.resistances, TRIANGLE.loads)
+PARALLEL = [(1, 2, 1), (2, 1, 1)]
+
+
+def two_on_a_branch():
+    """A pair closes all open switches of the one branch and opens those of the other that the wanted state opens."""
+    there, back = [((12, 11), 10)], [(10, (12, 11))]
+    assert ''.join(map(line_of, listed(there))) == '8602000C000B01000A\n' and ''.join(map(line_of, listed(back))) == '8601000A02000C000B\n'
+    for name, room, known in [('exactly-full', 19, there), ('one-byte-longer', 20, there), ('ten-bytes-longer', 29, there), ('one-byte-short', 18, (13, 0)),
+                              ('room-for-one-and-one', 15, (13, 0)), ('no-slice', 0, (13, 0))]:
+        case('two-each-' + name, TWO_EACH, '1010', '0100', room, known)
+    case('two-each-back', TWO_EACH, '0100', '1010', 19, back)
+    for room in (0, 18, 19):
+        case('two-each-13-would-open-%d' % room, TWO_EACH, '1010', '0101', room, (12, 13))
+    case('two-each-13-would-close', TWO_EACH, '0101', '1010', 23, (12, 13))
+    for name, present, wanted, known in [('first-open', '1000', '0100', [(12, 10)]), ('second-open', '0010', '0100', [(11, 10)]), ('first-to-open', '0100', '1000', [(10, 12)]),
+                                         ('second-to-open', '0100', '0010', [(10, 11)]), ('dead-in-both', '1010', '1000', []), ('dead-by-the-other', '1000', '0010', [])]:
+        case('two-each-' + name, TWO_EACH, present, wanted, LINE * len(known), known)
+    for name, state in [('all-closed', '0000'), ('12-and-10-open', '1100'), ('12-and-13-open', '1001')]:
+        case('two-each-present-' + name, TWO_EACH, state, '0100', 19, (11, 0))
+        case('two-each-wanted-' + name, TWO_EACH, '1010', state, 19, (11, 1))
+    case('two-each-short-state', TWO_EACH, '101', '0100', 19, (10, 0))
+    both = Feeder([1, 2], PARALLEL, [(8, 0, 2), (9, 1, 2), (7, 0, 2), (6, 1, 2)])
+    for name, room, known in [('exactly-full', 23, [((9, 6), (8, 7))]), ('one-byte-short', 22, (13, 0)), ('one-byte-longer', 24, [((9, 6), (8, 7))])]:
+        case('two-and-two-' + name, both, '0101', '1010', room, known)
+    case('two-and-two-one-to-open', both, '0101', '0010', 19, [((9, 6), 7)])
+    # a switch that stays closed ranks its branch: by the first that moves, 2 would be closed first
+    held = Feeder([1, 2, 3, 4], CHAIN + BESIDE, [(1, 3, 2), (2, 4, 2), (3, 3, 2), (4, 0, 2), (5, 2, 2), (6, 1, 0)])
+    case('ranks-by-a-switch-that-stays', held, '011000', '000110', 30, [(3, 4), (2, 5)])
+    for flags in (0, 2):
+        spare = Feeder(TRIANGLE.buses, TRIANGLE.branches + [(1, 2, 0)], [(14, 3, flags)] + TWO_EACH.switches + [(15, 3, flags)])
+        case('two-out-of-service-flags-%d' % flags, spare, '1' + '1010' + '0', '0' + '0100' + '1', 19, there)
+        case('two-out-of-service-flags-%d-empty' % flags, spare, '1' + '1010' + '0', '0' + '1010' + '1', 0, [])
+
+
+def two_and_locked():
+    """12 looks at every switch that would move, in list order, and at no other."""
+    for name, flags, present, wanted, known in [
+            ('opening-listed-first', (0, 3, 1, 2), '0110', '1000', (12, 10)), ('closing-listed-first', (2, 1, 0, 0), '0110', '1001', (12, 12)),
+            ('second-to-close', (2, 3, 1, 2), '0110', '1000', (12, 11)), ('second-to-open', (2, 3, 3, 0), '0110', '1001', (12, 13)),
+            ('second-stays-closed', (2, 3, 3, 0), '0110', '1000', [((12, 11), 10)]), ('first-stays-closed', (0, 3, 3, 2), '0110', '0001', [((12, 11), 13)]),
+            ('first-stays-third-moves', (0, 3, 1, 2), '0110', '0001', (12, 11)),
+            ('closed-one-stays', (2, 0, 3, 2), '0010', '1001', [(11, (10, 13))]), ('both-stay', (0, 0, 3, 2), '0010', '0001', [(11, 13)])]:
+        feeder = Feeder(TRIANGLE.buses, TRIANGLE.branches, [(number, k, flag) for (number, k), flag in zip([(10, 1), (12, 2), (11, 2), (13, 1)], flags)])
+        case('two-locked-' + name, feeder, present, wanted, 23, known)
+    # plan order would find 21, which the first pair opens, before 20; by list order 20, which the second closes, comes first
+    listed_first = Feeder([1, 2, 3, 4], CHAIN + BESIDE, [(23, 3, 2), (20, 4, 0), (24, 2, 2), (21, 0, 0), (22, 4, 2)])
+    case('two-locked-in-list-order', listed_first, '11001', '00110', 40, (12, 20))
+    # branch 3 is dead in both states, and its locked switches differ
+    spare = Feeder(TRIANGLE.buses, TRIANGLE.branches + [(1, 2, 1)], [(14, 3, 0)] + TWO_EACH.switches + [(15, 3, 1)])
+    for present, wanted in ('10', '01'), ('01', '11'), ('11', '10'):
+        name = 'two-locked-dead-in-both-%s-to-%s' % (present, wanted)
+        case(name, spare, present[0] + '1010' + present[1], wanted[0] + '0100' + wanted[1], 19, [((12, 11), 10)])
+        case(name + '-empty', spare, present[0] + '1010' + present[1], wanted[0] + '1010' + wanted[1], 0, [])
 
 
 def drawn(name, draw, n, share):
@@ -225,26 +245,24 @@ def drawn(name, draw, n, share):
     for k, (a, b, _) in enumerate(branches):
         if k not in first | second and draw.random() < 0.3:
             branches[k] = (a, b, 0)
-    positions = [k for k in range(len(branches)) if k not in first & second or draw.random() < 0.7]
-    draw.shuffle(positions)
-    always_operable = first ^ second if n == 256 or draw.random() < 0.9 else ()
-    feeder.switches = [(number, k, draw.randrange(2) + 2 * (k in always_operable or draw.random() < 0.8))
-                       for number, k in zip(draw.sample(range(65536), len(positions)), positions)]
-    states = [''.join(draw.choice('01') if branches[k][2] == 0 else '01'[k not in live] for k in positions) for live in (first, second)]
-    case(name, feeder, *states, PAIR_LENGTH * len(first - second) + draw.choice([0, 0, 1, 7]))
+    states = plans.drawn_switches(draw, feeder, first, second, draw.sample(range(65536), plans.MAX_SWITCHES), n < 256 and draw.random() < 0.15)
+    case(name, feeder, *states, length_of(plan(feeder, *states)) + draw.choice([0, 0, 1, 7]))
 
 
 def full_size():
-    """255 pairs on 256 buses: two trees that share no branch, listed in any order."""
-    draw = random.Random(3)
-    buses = list(range(256))
-    branches = [(i, i + 1, 1) for i in range(255)] + [(draw.randrange(i), i, 1) for i in range(1, 256)]
-    positions = draw.sample(range(510), 510)
-    feeder = Feeder(buses, branches, [(1000 + i, k, 2) for i, k in enumerate(positions)])
-    states = [''.join('01'[(k < 255) == second] for k in positions) for second in (False, True)]
-    assert len(answer(feeder, '', *states, 255 * PAIR_LENGTH)) == 255
-    case('255-pairs', feeder, *states, 255 * PAIR_LENGTH)
-    case('255-pairs-one-byte-short', feeder, *states, 255 * PAIR_LENGTH - 1, (13, 0))
+    """255 pairs on 256 buses: two trees that share no branch, listed in any order, two branches with a switch at each end. And 128 pairs of 256 branches with two switches each,
+    which all move."""
+    for name, buses, seed, pairs, length in [('255-pairs', 256, 3, 255, 3833), ('128-pairs-of-two-and-two', 129, 5, 128, 128 * 23)]:
+        draw = random.Random(seed)
+        branches = [(i, i + 1, 1) for i in range(pairs)] + [(draw.randrange(i), i, 1) for i in range(1, buses)]
+        positions = list(range(2 * pairs)) + ([17, 300] if pairs == 255 else list(range(2 * pairs)))
+        positions = draw.sample(positions, len(positions))
+        assert len(positions) == plans.MAX_SWITCHES
+        feeder = Feeder(list(range(buses)), branches, [(number, k, 2) for number, k in zip(draw.sample(range(1000, 9999), len(positions)), positions)])
+        states = [''.join('01'[(k < pairs) == second] for k in positions) for second in (False, True)]
+        assert len(answer(feeder, '', *states, length)) == pairs
+        case(name, feeder, *states, length)
+        case(name + '-one-byte-short', feeder, *states, length - 1, (13, 0))
 
 
 def back():
@@ -254,38 +272,61 @@ def back():
         question = feeder.text(), change, wanted, present
         if isinstance(found, list) and question not in asked:
             asked.add(question)
-            case(name + '-back', feeder, wanted, present, PAIR_LENGTH * len(found), change=change)
+            case(name + '-back', feeder, wanted, present, length_of(plan(feeder, wanted, present)), change=change)
             assert isinstance(cases[-1][-1], list), name
 
 
-def moved(feeder, state, closes, opens):
-    """The state after a pair that closes a dead branch and opens a live one on the loop which that makes."""
-    operable = {number: k for number, k, flags in feeder.switches if flags & 2 and feeder.branches[k][2] == 1}
-    assert closes in operable and opens in operable, 'moves a switch that it may not move'
-    closed, opened, before = operable[closes], operable[opens], feeder.live(state)
+def branch_of(feeder, ids, order):
+    """The branch of the switches with these ids, which may be moved and stand in this order."""
+    places = [i for number in ids for i, (listed, _, _) in enumerate(feeder.switches) if listed == number]
+    assert len(places) == len(ids) > 0 and places == sorted(set(places))[::order], 'moves none, a switch twice, or out of order'
+    found = {feeder.switches[i][1] for i in places}
+    assert len(found) == 1, 'moves switches of two branches'
+    assert all(feeder.switches[i][2] & 2 for i in places) and feeder.branches[min(found)][2] == 1, 'moves a switch that it may not move'
+    return min(found)
+
+
+def moved(feeder, state, closes, opens, order=1):
+    """The states behind each move of a pair that closes a dead branch and opens a live one on the loop which that makes; order -1 for a pair that is undone."""
+    closed, opened, before = branch_of(feeder, closes, order), branch_of(feeder, opens, order), feeder.live(state)
     assert closed not in before and opened in before, 'closes a live branch or opens a dead one'
+    assert list(closes) == feeder.open_on(state, closed)[::order], 'closes not just the open switches of its branch'
     label, _ = feeder.labels(before - {opened})
     assert len({label[end] for end in feeder.branches[closed][:2]}) == 2, 'opens a branch that is not on the loop'
-    after = ''.join({closes: '0', opens: '1'}.get(number, byte) for (number, _, _), byte in zip(feeder.switches, state))
-    assert feeder.live(after) == before - {opened} | {closed}
-    return after
+    states = [state]
+    for id_, byte in [(id_, '0') for id_ in closes] + [(id_, '1') for id_ in opens]:
+        states.append(''.join(byte if number == id_ else old for (number, _, _), old in zip(feeder.switches, states[-1])))
+    for at, later in enumerate(states):
+        expected = before if at < len(closes) else before | {closed} if at == len(closes) else before - {opened} | {closed}
+        assert feeder.live(later) == expected, 'has other live branches with %d of its moves done' % at
+        assert at == len(closes) or feeder.is_radial(expected), 'is no tree with %d of its moves done' % at
+    return states[1:]
 
 
 def judge(feeder, present, wanted, pairs):
-    """How many stopping points a plan has, all pairs forward and all pairs back, each held to demand 3."""
-    aim, differing = feeder.live(wanted), feeder.live(present) ^ feeder.live(wanted)
-    state, points = present, 0
-    for i, (closes, opens) in enumerate([(None, None)] + pairs + [(closed, opened) for opened, closed in reversed(pairs)]):
-        state = moved(feeder, state, closes, opens) if i else state
-        live = feeder.live(state)
-        assert feeder.is_radial(live), 'stops at a state that is not radial'
-        assert len(aim - live) == abs(len(pairs) - i), 'has another number of pairs than of branches to close'
-        points += 1
-        if i == len(pairs):
-            assert live == aim, 'ends at other branches than the wanted ones'
-            assert all(byte == (aimed if k in differing else found) for (_, k, _), byte, found, aimed in zip(feeder.switches, state, present, wanted))
+    """How many stopping points a plan has, all pairs forward and all pairs back, each held to demand 3, and how many states between them. Going forward each pair is held to
+    document 01's order, its path found by distances."""
+    start, aim = feeder.live(present), feeder.live(wanted)
+    ranks = [feeder.on(branch_of(feeder, closes, 1))[0] for closes, _ in pairs]
+    assert ranks == sorted(feeder.on(k)[0] for k in aim - start), 'closes other branches, or by another order than that of their first listed switches'
+    state, points, between = present, 1, 0
+    for i, (closes, opens) in enumerate(pairs):
+        live, closed = feeder.live(state), branch_of(feeder, closes, 1)
+        way = plans.way(feeder, live, *feeder.branches[closed][:2])
+        assert branch_of(feeder, opens, 1) == [k for k in way if k not in aim][0], 'opens another branch than the first that the wanted state has not'
+        assert list(opens) == feeder.open_on(wanted, branch_of(feeder, opens, 1)), 'opens not just what the wanted state opens'
+        assert len(aim - live) == len(pairs) - i, 'has another number of pairs than of branches to close'
+        states = moved(feeder, state, closes, opens)
+        state, points, between = states[-1], points + 1, between + len(states) - 1
+    assert feeder.live(state) == aim, 'ends at other branches than the wanted ones'
+    there = plans.to_move(feeder, present, wanted)
+    assert state == ''.join(wanted[i] if i in there else byte for i, byte in enumerate(present)), 'moves another switch, or not all'
+    assert sum(len(ids) for pair in pairs for ids in pair) == len(there), 'moves a switch twice'
+    for closes, opens in reversed(pairs):
+        states = moved(feeder, state, opens[::-1], closes[::-1], -1)
+        state, points, between = states[-1], points + 1, between + len(states) - 1
     assert state == present, 'does not lead back'
-    return points
+    return points, between
 
 
 def is_refused(judged, *plan):
@@ -297,38 +338,53 @@ def is_refused(judged, *plan):
 
 
 def judge_the_judge(feeder, present, wanted, pairs):
-    """It refuses what the planners of WRONG make that break demand 3, and a first pair that opens a branch beside the path."""
-    for wrong in 'over the present path', 'a wanted branch':
-        spoilt = plan(feeder, present, wanted, **WRONG[wrong])
-        assert spoilt == pairs or is_refused(judge, feeder, present, wanted, spoilt)
+    """It refuses all that the planners of plans.WRONG make otherwise, and a first pair that opens a branch beside the path."""
+    for wrong in plans.WRONG if len(feeder.buses) <= FEW_BUSES else ('over the present path', 'a wanted branch'):
+        if plans.refusal(feeder, '', present, wanted, wrong) is None:
+            spoilt = plan(feeder, present, wanted, wrong)
+            assert spoilt == pairs or is_refused(judge, feeder, present, wanted, spoilt), wrong
     for closes, opens in pairs[:1]:
         assert is_refused(judge, feeder, present, wanted, [(opens, closes)] + pairs[1:])
-        live, closed = feeder.live(present), next(k for number, k, _ in feeder.switches if number == closes)
-        way = feeder.path(live, *feeder.branches[closed][:2])
+        way = feeder.path(feeder.live(present), *feeder.branches[branch_of(feeder, closes, 1)][:2])
         for number, k, flags in feeder.switches:
-            assert is_refused(moved, feeder, present, closes, number) == (k not in way or not flags & 2)
+            assert is_refused(moved, feeder, present, closes, (number,)) == (k not in way or not flags & 2)
 
 
 def judge_all(shown):
-    """How many plans stdout shows, and their stopping points; each is judged."""
-    read = re.findall(r'(\S+) (\d+|refused \d+ \d+) \[((?:83[0-9A-F]{8}\n)*)(\.*)\]\n', shown)
+    """How many plans stdout shows, their stopping points and the states between; each is judged. And how many pairs close and open so many switches."""
+    read = re.findall(r'(\S+) (\d+|refused \d+ \d+) \[((?:86[0-9A-F]{12,20}\n)*)(\.*)\]\n', shown)
     assert [name for name, *_ in read] == [case[0] for case in cases]
     assert sum(len(''.join(parts)) + 5 for parts in read) == len(shown)
-    plans = points = 0
+    plans_seen, points, between, sizes = 0, 0, 0, {}
     for (name, said, lines, _), (_, feeder, _, present, wanted, _, _) in zip(read, cases):
-        pairs = [(int(line[2:6], 16), int(line[6:], 16)) for line in lines.split()]
+        pairs = [pair_in(line) for line in lines.split()]
         assert len(pairs) == (0 if said.startswith('refused') else int(said)), name
         if not said.startswith('refused'):
-            plans, points = plans + 1, points + judge(feeder, present, wanted, pairs)
+            of_plan = judge(feeder, present, wanted, pairs)
+            plans_seen, points, between = plans_seen + 1, points + of_plan[0], between + of_plan[1]
             judge_the_judge(feeder, present, wanted, pairs)
-    return plans, points
+            for pair in pairs:
+                size = tuple(map(len, pair))
+                sizes[size] = sizes.get(size, 0) + 1
+    return plans_seen, points, between, sizes
+
+
+def pair_in(line):
+    """The ids of an 86 line, by its count bytes."""
+    lists, rest = [], line[2:]
+    for _ in range(2):
+        count, rest = int(rest[:2], 16), rest[2:]
+        lists.append(tuple(int(rest[4 * i:4 * i + 4], 16) for i in range(count)))
+        rest = rest[4 * count:]
+    assert not rest and all(1 <= len(ids) <= 2 for ids in lists), line
+    return tuple(lists)
 
 
 def main():
-    for make in (slices, orders, network_refusals, refusals, locked_switches, supplies, full_size):
+    for make in (slices, orders, network_refusals, refusals, locked_switches, supplies, two_on_a_branch, two_and_locked, full_size):
         make()
     named = len(cases)
-    assert told_apart == set(WRONG), set(WRONG) - told_apart
+    assert set(told_apart) == set(plans.WRONG), set(plans.WRONG) - set(told_apart)
     draw = random.Random(4)
     for i in range(250):
         drawn('drawn-%d' % i, draw, min(draw.randint(2, 40) for _ in range(2)), draw.choice([0, 0, 0.3, 0.6]))
@@ -336,6 +392,8 @@ def main():
         drawn('drawn-256-buses-%d' % i, draw, 256, [0, 0.1, 0.3, 0.6][i])
     feeders = len(cases) - named
     back()
+    told = {wrong: sum(name.startswith('drawn') for name in names) for wrong, names in told_apart.items()}
+    assert min(told.values()) >= FEWEST_TOLD, told
     texts = [case[1].text() for case in cases]
     cases.sort(key=lambda case: texts.index(case[1].text()))
     names = [case[0] for case in cases]
@@ -349,18 +407,21 @@ def main():
             out.write(b'%d %s\n' % (len(given), name.encode()) + given + b'\n')
             out.write(('%s %s\n%s\n%s\n' % (CHANGES[change], present, wanted, '.' * room)).encode())
             before = text
-        assert out.tell() <= 524288, 'the program has no room for the cases'
+        assert out.tell() <= ROOM_FOR_CASES, 'the program has no room for the cases'
     shown = ''
     for name, _, _, _, _, room, found in cases:
         is_plan = isinstance(found, list)
-        lines = ''.join('83%04X%04X\n' % pair for pair in found) if is_plan else ''
+        lines = ''.join(map(line_of, found)) if is_plan else ''
         said = '%d' % len(found) if is_plan else 'refused %d %d' % found
         shown += '%s %s [%s]\n' % (name, said, lines + '.' * (room - len(lines)))
-    plans, points = judge_all(shown)
+    plans_seen, points, between, sizes = judge_all(shown)
     with open(os.path.join(ROOT, 'stdout'), 'w') as out:
         out.write(shown)
-    print('%d named cases, %d drawn feeders, %d cases with the plans back; %d plans with %d stopping points judged' % (
-        named, feeders, len(cases), plans, points))
+    print('%d named cases, %d drawn feeders, %d cases with the plans back; %d plans with %d stopping points and %d states between judged; pairs that close and open %s; '
+          'each of %d wrong planners fails on %d drawn cases or more' % (named, feeders, len(cases), plans_seen, points, between,
+                                                                       ', '.join('%d and %d: %d' % (*size, sizes[size]) for size in sorted(sizes)), len(told), min(told.values())))
 
 
-main()
+# tests/cases/call_cases.py takes the judge from here
+if __name__ == '__main__':
+    main()

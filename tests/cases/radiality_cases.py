@@ -19,8 +19,9 @@ ROOT = os.path.join(os.path.dirname(os.path.abspath(__file__)), '..', '..', 'cra
 ONE, ZERO = 0x3FF0000000000000, 0
 CHANGES = {'max_iterations 1001': 'A', '257 buses': 'B', '513 branches': 'C', '513 switches': 'D', 'base_mva 0': 'E', 'switch 10 a tie': 'F',
            'id of bus 1 is 1': 'G', 'pd of bus 2 is 2000000': 'H', 'end of branch 0 is 9': 'I', 'r of branch 1 is -1': 'J',
-           'switch 0 on branch 3': 'K', 'id of switch 1 is 10': 'L', 'switch 1 on branch 1': 'M', 'three unlisted': 'N', '': '-'}
-WRONG_RECORDS = 'out of service too', 'a byte a branch', 'unlisted too'
+           'switch 0 on branch 3': 'K', 'id of switch 1 is 10': 'L', 'three on branch 1': 'M', 'three unlisted': 'N', '': '-'}
+WRONG_RECORDS = ('out of service too', 'a byte a branch', 'unlisted too', 'any closed switch makes a branch live', 'the last switch decides', 'the first switch decides')
+ROOM_FOR_CASES = 458752
 cases, wrong_ways, told_apart = [], set(), set()
 
 
@@ -111,7 +112,7 @@ def try_wrong_ways(lines, state, change, form):
     wrong = {}
     for way in WRONG_RECORDS:
         feeder = listed(lines, change, way)
-        wrong[way] = feeder.form_by_labels(feeder.live(state))
+        wrong[way] = feeder.form_by_labels(feeder.live(state, way))
     if form != feeders.TREE:
         feeder = listed(lines, change)
         wrong.update(wrong_forms(feeder, feeder.live(state), *form))
@@ -228,6 +229,20 @@ def dead_branches():
             case('%s-%s' % (name, how), small(n, branches, [switch(9, position)]), state, answer)
 
 
+def two_on_a_branch():
+    """A branch is live only where both of its switches are closed. Document 02's triangle has its switches 12, 10, 11, 13 on branches 2, 1, 2, 1."""
+    two_each = [head(3, 3, 4)] + TRIANGLE[1:7] + [switch(12, 2, 3), switch(10, 1, 2), switch(11, 2, 3), switch(13, 1, 0)]
+    for state, answer in [('1010', TREE), ('0010', TREE), ('1000', TREE), ('0000', 'loop 2 0'), ('0100', TREE), ('0001', TREE), ('0101', TREE), ('1100', 'islands 1'),
+                          ('0110', 'islands 1'), ('1001', 'islands 1'), ('0011', 'islands 1'), ('1111', 'islands 1')]:
+        case('two-each-' + state, two_each, state, answer)
+    for state in ('', '101', '10101', '1020'):
+        case('two-each-malformed-' + state, two_each, state, (10, 0))
+    parallel = small(2, [branch(1, 2), branch(2, 1), branch(1, 2, 0)], [switch(1, 0), switch(2, 2), switch(3, 1), switch(4, 1), switch(5, 0), switch(6, 2)])
+    for state, answer in [('000000', 'loop 1 0'), ('100000', TREE), ('000010', TREE), ('001000', TREE), ('000100', TREE), ('010001', 'loop 1 0'), ('101000', 'islands 1'), ('100100', 'islands 1'),
+                          ('001110', 'islands 1')]:
+        case('two-on-parallels-' + state, parallel, state, answer)
+
+
 def refusals():
     for name, state in [('empty', ''), ('too-short', '0'), ('too-long', '010'), ('byte-02', '02'), ('byte-02-first', '20'),
                         ('byte-FF', '0F'), ('too-long-of-513', '0' * 513)]:
@@ -237,7 +252,7 @@ def refusals():
     for change, answer in [('max_iterations 1001', (3, 1)), ('257 buses', (4, 1)), ('513 branches', (4, 1)), ('513 switches', (4, 1)),
                            ('base_mva 0', (5, 1)), ('id of bus 1 is 1', (7, 3)), ('pd of bus 2 is 2000000', (5, 4)),
                            ('end of branch 0 is 9', (6, 5)), ('r of branch 1 is -1', (5, 6)), ('switch 0 on branch 3', (6, 8)),
-                           ('id of switch 1 is 10', (7, 9)), ('switch 1 on branch 1', (8, 9))]:
+                           ('id of switch 1 is 10', (7, 9)), ('three on branch 1', (8, 10))]:
         name = 'records-' + change.replace(' ', '-')
         case(name, TRIANGLE, '01', answer, change)
         case(name + '-state-02', TRIANGLE, '02', answer, change)
@@ -302,12 +317,14 @@ def drawn_states(draw, n, ends, status, on):
     if len(on) <= 4:
         return [''.join(digits) for digits in itertools.product('01', repeat=len(on))]
     fixed = [k for k in range(len(ends)) if status[k] and k not in on]
-    moved = [k for k in on if status[k]]
+    moved = sorted({k for k in on if status[k]})
     states, feeder = set(), feeders.Feeder(range(n), ends, [])
-    for _ in range(20):
+    for _ in range(17):
         tree = feeder.joined(fixed + draw.sample(moved, len(moved)))
-        state = [draw.choice('01') if not status[k] else '01'[k not in tree] for k in on]
-        toggled = draw.sample(range(len(on)), draw.choice([1, 2, 2, 2]))
+        # of two switches on a dead branch one is open, or both are
+        opened = {k: draw.choice([[0], [1], [0, 1]]) if on.count(k) == 2 else [0] for k in moved if k not in tree}
+        state = [draw.choice('01') if not status[k] else '01'[on[:i].count(k) in opened.get(k, ())] for i, k in enumerate(on)]
+        toggled = draw.sample(range(len(on)), draw.choice([1, 2, 3, 3]))
         states |= {''.join(state), ''.join('10'[int(byte)] if i in toggled else byte for i, byte in enumerate(state))}
     states |= {''.join(draw.choice('01') for _ in on) for _ in range(2)}
     return sorted(states)
@@ -317,6 +334,7 @@ def drawn(number, draw, beyond):
     """A feeder of at most 12 buses and its states; so many records of each kind stand beyond those that the call is to list."""
     n = draw.randint(0, 12)
     ends, status, on = drawn_branches(draw, n)
+    on += [k for k in on if draw.random() < 0.4]
     draw.shuffle(on)
     ids = draw.sample(range(65536), n + beyond)
     all_ends = ends + [(draw.randrange(n + beyond), draw.randrange(n + beyond)) for _ in range(beyond)]
@@ -340,7 +358,7 @@ def kinds(answers):
 
 
 def main():
-    for make in (marked, others, full_size, loops, dead_branches, refusals, unlisted, supplies):
+    for make in (marked, others, full_size, loops, dead_branches, two_on_a_branch, refusals, unlisted, supplies):
         make()
     named = len(cases)
     assert told_apart == wrong_ways, wrong_ways - told_apart
@@ -356,7 +374,7 @@ def main():
             text = b'' if lines == before else ''.join(line + '\n' for line in lines).encode()
             out.write(b'%d %s\n' % (len(text), name.encode()) + text + b'\n' + ('%s %s\n' % (change, state)).encode())
             before = lines
-        assert out.tell() <= 393216, 'the program has no room for the cases'
+        assert out.tell() <= ROOM_FOR_CASES, 'the program has no room for the cases'
     with open(os.path.join(ROOT, 'stdout'), 'w') as out:
         for name, _, _, _, answer in cases:
             out.write('%s %s\n' % (name, answer))

@@ -15,6 +15,7 @@ OK = 'accepted'
 ONE, ZERO, MINUS_ZERO = 0x3FF0000000000000, 0, 0x8000000000000000
 INFINITY, MINUS_INFINITY = 0x7FF0000000000000, 0xFFF0000000000000
 NANS = [0x7FF8000000000000, 0x7FF0000000000001, 0xFFF8000000000000, 0xFFF0000000000001, 0xFFFFFFFFFFFFFFFF]
+ROOM_FOR_CASES = 589824
 cases = []
 
 
@@ -90,12 +91,75 @@ def examples():
     two = [head(2, 2, 2), bus(1), bus(2), branch(1, 2), branch(1, 2)]
     case('row-7-switch-again', two + [switch(10, 0), switch(10, 1)], (7, 7))
     case('same-id-as-bus-and-switch', small(switch=switch(1, 0)), OK)
-    case('row-8-two-switches-on-0000', two + [switch(10, 0), switch(11, 0)], (8, 7))
-    case('row-8-on-an-out-of-service-branch', [head(2, 1, 2), bus(1), bus(2), branch(1, 2, ONE, 0), switch(1, 0), switch(2, 0)], (8, 6))
+    case('two-switches-on-0000', two + [switch(10, 0), switch(11, 0)], OK)
+    case('row-8-three-switches-on-0000', [head(2, 2, 3)] + two[1:] + [switch(10, 0), switch(11, 0), switch(12, 0)], (8, 8))
     case('status-00-passes', small(branch=branch(1, 2, ONE, 0)), OK)
     case('own-loop-passes', small(branch=branch(1, 1)), OK)
     for flags in range(4):
         case('flags-%02X-pass' % flags, small(switch=switch(10, 0, flags)), OK)
+
+
+def rows_of_switches(branches, positions, method=0, ids=None, flags=None):
+    """Two buses, parallel branches, and switches on these positions; the first stands on line 4 + branches."""
+    ids, flags = ids or range(10, 10 + len(positions)), flags or [2] * len(positions)
+    rows = [head(2, branches, len(positions), ONE, method), bus(1), bus(2)] + [branch(1, 2)] * branches
+    return rows + [switch(*fields) for fields in zip(ids, positions, flags)]
+
+
+def two_on_a_branch():
+    """Two switches on a branch pass; the third, and any further one, is 8."""
+    for name, first, second in [('sections', 2, 2), ('ties', 3, 3), ('tie-and-section', 3, 2), ('section-and-tie', 2, 3), ('locked-ties', 1, 1), ('locked-and-operable', 0, 2)]:
+        case('two-' + name, rows_of_switches(1, [0, 0], flags=[first, second]), OK)
+        case('two-%s-and-a-third' % name, rows_of_switches(1, [0, 0, 0], flags=[first, second, 2]), (8, 7))
+    for name, line in [('out-of-service', branch(1, 2, ONE, 0)), ('own-loop', branch(1, 1))]:
+        rows = [head(2, 1, 2), bus(1), bus(2), line, switch(1, 0), switch(2, 0)]
+        case('two-on-an-%s-branch' % name, rows, OK)
+        case('row-8-on-an-%s-branch' % name, [head(2, 1, 3)] + rows[1:] + [switch(3, 0)], (8, 7))
+    # document 02's triangle with two switches on each of two branches
+    two_each = TRIANGLE[1:7] + [switch(12, 2, 3), switch(10, 1, 2), switch(11, 2, 3), switch(13, 1, 0)]
+    for method in range(3):
+        case('triangle-two-each-method-%d' % method, [head(3, 3, 4, ONE, method)] + two_each, OK)
+        case('triangle-two-each-and-a-fifth-method-%d' % method, [head(3, 3, 5, ONE, method)] + two_each + [switch(14, 2)], (8, 12))
+    case('triangle-two-each-and-one', [head(3, 3, 5)] + two_each + [switch(14, 0)], OK)
+    for name, positions, place in [('by-turns', [0, 1, 0, 1, 0], 10), ('by-turns-of-the-other', [0, 1, 0, 1, 1], 10), ('then-a-third', [1, 1, 0, 0, 1], 10), ('fourth', [0, 0, 0, 0, 1], 8),
+                                   ('next-branch', [0, 0, 1, 1, 0], 10)]:
+        case('row-8-' + name, rows_of_switches(2, positions), (8, place))
+    case('two-and-two', rows_of_switches(2, [0, 1, 1, 0]), OK)
+    # the id of the third stands twice, or its flags have no meaning, or another switch before it has an id twice
+    case('third-with-its-id-twice', rows_of_switches(2, [0, 0, 0, 1], ids=[10, 11, 10, 12]), (7, 8))
+    case('third-with-flags-04', rows_of_switches(2, [0, 0, 0, 1], flags=[2, 2, 4, 2]), (3, 8))
+    case('third-behind-an-id-twice', rows_of_switches(2, [0, 0, 0], ids=[10, 10, 12]), (7, 7))
+    case('third-before-an-id-twice', rows_of_switches(2, [0, 0, 0, 1], ids=[10, 11, 12, 12]), (8, 8))
+    case('third-before-a-position-2-of-2', rows_of_switches(2, [0, 0, 0, 2]), (8, 8))
+    # ten ties on five branches, two each; the eleventh on one of them or beside them
+    ties = [0, 0, 1, 1, 2, 2, 3, 3, 4, 4]
+    for method in range(3):
+        case('ten-ties-on-five-branches-method-%d' % method, rows_of_switches(6, ties, method, flags=[3] * 10), OK)
+        case('eleventh-tie-as-a-third-method-%d' % method, rows_of_switches(6, ties + [2], method, flags=[3] * 11), (8, 20))
+        case('eleventh-tie-beside-method-%d' % method, rows_of_switches(6, ties + [5], method, flags=[3] * 11), (9, 20) if method == 2 else OK)
+    case('eleventh-tie-as-a-second', rows_of_switches(6, ties[:9] + [5, 4], 2, flags=[3] * 11), (9, 20))
+    case('section-as-a-third-behind-ten-ties', rows_of_switches(6, ties + [2], 2, flags=[3] * 10 + [2]), (8, 20))
+
+
+def many_with_two():
+    """Among many branches, far apart and at the ends of the list."""
+    order = [(37 * k) % 100 for k in range(100)]
+    case('two-far-apart', rows_of_switches(100, order + [order[0]]), OK)
+    case('third-far-apart', rows_of_switches(100, order[:50] + [order[0]] + order[50:] + [order[0]]), (8, 205))
+    case('third-among-100-of-two', rows_of_switches(100, order + order[::-1] + [order[31]]), (8, 304))
+    # counts of eight bits of a position, or of as many switches as fit into one
+    case('two-on-0-and-on-256', rows_of_switches(257, [0, 256, 0, 256]), OK)
+    case('third-on-256', rows_of_switches(257, [0, 256, 256, 0, 256]), (8, 265))
+    # a chain of 256 buses: each of the 255 branches with two switches and one more, or 256 branches with two
+    chain = [bus(65535 - i) for i in range(256)] + [branch(65535 - i, 65534 - i) for i in range(255)] + [branch(65280, 65535)]
+    positions = [(101 * i) % 256 for i in range(256)]
+    both = positions + [(positions[i] + 7) % 256 for i in range(256)]
+    ties = {255: 3}
+    largest = lambda on: [head(256, 256, 512, ONE, 1, 1000)] + chain + [switch(40000 - 77 * i, k, ties.get(k, 2)) for i, k in enumerate(on)]
+    case('256-branches-of-two', largest(both), OK)
+    case('256-branches-of-two-supply', largest(both) + [supply(65400)], OK)
+    assert both.count(both[-1]) == 2 and both[-1] != both[0]
+    case('256-branches-of-two-last-is-a-third', largest(both[:-1] + both[:1]), (8, 1025))
 
 
 def limits():
@@ -213,6 +277,11 @@ def bases():
     fed('of-two-buses-no-branch', [head(2, 0, 0), bus(1), bus(2)], (15, 4), 2)
     # as many branches as a tree has, and a bus apart
     fed('with-a-loop-and-a-bus-apart', [head(4, 3, 0), bus(1), bus(2), bus(3), bus(4), branch(1, 2), branch(2, 3), branch(3, 1)], (15, 9), 4)
+    # two switches on a branch: one open is enough to make it dead
+    for name, first, second, base in [('tie-and-section', 3, 2, OK), ('section-and-tie', 2, 3, OK), ('both-ties', 3, 1, OK), ('both-sections', 2, 0, (15, 11))]:
+        fed('with-a-switch-at-each-end-' + name, [head(3, 3, 3)] + TRIANGLE[1:8] + [switch(11, 2, first), switch(12, 2, second)], base)
+    for name, first, second in [('tie-and-section', 3, 2), ('section-and-tie', 2, 3)]:
+        fed('cut-off-by-one-of-two-' + name, [head(2, 1, 2), bus(1), bus(2), branch(1, 2), switch(5, 0, first), switch(6, 0, second)], (15, 7))
     fed('not-radial-supply-not-listed', TRIANGLE[:8] + [switch(11, 2, 2)], (14, 10), 9)
     case('not-radial-no-supply', TRIANGLE[:8] + [switch(11, 2, 2)], OK)
 
@@ -251,7 +320,7 @@ FAULTS = {
     # 15 is no fault of the line itself: the one branch that is live in the base is out of service
     'supply': {2: dict(kind='06'), 14: dict(number=9), 15: {}},
 }
-PLACES = {'head': 1, 'bus': 3, 'branch': 4, 'switch': 25, 'supply': 26}
+PLACES = {'head': 1, 'bus': 3, 'branch': 4, 'switch': 24, 'supply': 25}
 
 
 def line_of(kind, faults):
@@ -260,7 +329,7 @@ def line_of(kind, faults):
     for number in faults:
         change.update(FAULTS[kind].get(number, {}))
     if kind == 'head':
-        line = head(change.get('buses', 2), 11, 11, change.get('base', ONE), change.get('method', 2)) + change.get('tail', '')
+        line = head(change.get('buses', 2), 10, 11, change.get('base', ONE), change.get('method', 2)) + change.get('tail', '')
     elif kind == 'bus':
         line = bus(change.get('number', 2), change.get('pd', ZERO))
     elif kind == 'branch':
@@ -269,16 +338,16 @@ def line_of(kind, faults):
         line = supply(change.get('number', 2))
     else:
         flags = change.get('flags', 2) | change.get('tie', 0)
-        line = switch(change.get('number', 11), change.get('position', 10), flags)
+        line = switch(change.get('number', 11), change.get('position', 9), flags)
     line = change.get('kind', line[:2]) + line[2:]
     return line[:-1] + 'G' if 1 in faults else line
 
 
 def with_faults(by_kind):
-    """Two buses, eleven branches, eleven switches of which the first ten are ties, with faults in the second bus, first branch, last switch; and a supply line
-    where it has a fault."""
+    """Two buses, ten branches, eleven switches of which the first ten are ties, two of them on the first branch, with faults in the second bus, first branch, last switch; and a
+    supply line where it has a fault."""
     rows = [line_of('head', by_kind.get('head', ())), bus(1), line_of('bus', by_kind.get('bus', ())), line_of('branch', by_kind.get('branch', ()))]
-    rows += [branch(1, 2)] * 9 + [branch(1, 2, ONE, 0 if 15 in by_kind.get('supply', ()) else 1)] + [switch(1 + i, i, 3) for i in range(10)]
+    rows += [branch(1, 2)] * 8 + [branch(1, 2, ONE, 0 if 15 in by_kind.get('supply', ()) else 1)] + [switch(1 + i, max(i - 1, 0), 3) for i in range(10)]
     rows += [line_of('switch', by_kind.get('switch', ()))]
     return rows + [line_of('supply', by_kind['supply'])] if 'supply' in by_kind else rows
 
@@ -307,14 +376,14 @@ def main():
     with open(os.path.join(ROOT, 'stdin'), 'wb') as out:
         for name, data, _ in cases:
             out.write(b'%d %s\n' % (len(data), name.encode()) + data + b'\n')
-        assert out.tell() <= 524288, 'the program has no room for the cases'
+        assert out.tell() <= ROOM_FOR_CASES, 'the program has no room for the cases'
     with open(os.path.join(ROOT, 'stdout'), 'w') as out:
         for name, _, verdict in cases:
             out.write('%s %s\n' % (name, verdict))
     print('%d cases' % len(cases))
 
 
-for make in (examples, limits, ranges, lines, supplies, bases, supply_lines, two_faults):
+for make in (examples, two_on_a_branch, many_with_two, limits, ranges, lines, supplies, bases, supply_lines, two_faults):
     make()
 # tests/cases/writer_cases.py takes the texts from here
 if __name__ == '__main__':

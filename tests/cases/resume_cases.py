@@ -15,20 +15,26 @@ compares each slice with it, byte for byte, and prints 'end', so that no byte at
 The answers of the named calls are written by hand from documents 01 and 02, but for the lists of the longest plan; these and the others are
 reckoned from 01's sections State, Refusals and Plan and 02's Point 4. Both must agree on those by hand, and each answer of WRONG must differ on
 a named one. Every answer that stdout shows is judged by labels: at its count, all along its two lists to the wanted live branches and to the
-bytes of the present state, and as README has it where the stored count is one move behind.
+bytes of the present state, and as README has it where the stored count is one move behind. plans.py has the plans and the ways to get them wrong.
 """
 import functools
+import itertools
 import os
 import re
 
 import feeders
+import plans
+from plans import refusal
 
 ROOT = os.path.join(os.path.dirname(os.path.abspath(__file__)), '..', '..', 'crates', 'resume_cases')
 CHANGES = {'iterations 1001': 'A', 'switch 10 a tie': 'F', '': '-'}
+ROOM_FOR_CASES = 524288
 # bytes of an 82 line
 LINE_LENGTH = 9
 OPEN, CLOSE = 0, 1
-cases, told_apart = [], set()
+# each of TOLD_BY_DRAWN must fail on so many drawn plans
+FEWEST_TOLD = 50
+cases, told_apart, told_by_drawn = [], set(), {}
 
 
 class Draw:
@@ -94,56 +100,34 @@ class Feeder(feeders.Feeder):
         return left
 
 
-@functools.cache
-def pairs_of(feeder, present, wanted):
-    """Document 01's plan: (id closed, id opened) for each pair."""
-    before, aim = feeder.live(present), feeder.live(wanted)
-    live, pairs, number_on = before, [], {k: number for number, k, _ in feeder.switches}
-    for number, k, _ in feeder.switches:
-        if k in aim - before:
-            opened = [j for j in feeder.path(live, *feeder.branches[k][:2]) if j not in aim][0]
-            live = live - {opened} | {k}
-            pairs.append((number, number_on[opened]))
-    return pairs
-
-
-def refusal(feeder, change, present, wanted):
-    """Number and place of a refusal that comes before the count is looked at."""
-    ties = [i for i, (_, _, flags) in enumerate(feeder.switches) if flags & 1 or change == 'switch 10 a tie' and i == 10]
-    lines = 2 + len(feeder.buses) + len(feeder.branches)
-    if change == 'iterations 1001':
-        return 3, 1
-    if feeder.method == 2 and len(ties) > 10:
-        return 9, lines + ties[10]
-    if feeder.supply is not None and feeder.kind(''.join('01'[i in ties] for i in range(len(feeder.switches)))) != 'a tree':
-        return 15, lines + len(feeder.switches)
-    for place, state in enumerate((present, wanted)):
-        if len(state) != len(feeder.switches) or set(state) - {'0', '1'}:
-            return 10, place
-    for place, state in enumerate((present, wanted)):
-        if feeder.kind(state) != 'a tree':
-            return 11, place
-    differing = feeder.live(present) ^ feeder.live(wanted)
-    for number, k, flags in feeder.switches:
-        if k in differing and not flags & 2:
-            return 12, number
-
-
-# Answers that look sensible, each of which a named call must tell from the right one.
-WRONG = {'opening first', 'back in order', 'back not inverted', 'counts pairs', '16 above the pairs', '16 at the last', '16 before all', '16 before 12',
-         '13 before 16', 'count of 8 bits', 'count of 16 bits', 'count of 32 bits', 'only remaining looked at', 'only back looked at', 'remaining written first',
-         'back written first', 'both at once', 'one slice for both', 'answers the count', 'back from the rest'}
+# Answers that look sensible, each of which a named call must tell from the right one; beside them those to the plans of plans.WRONG.
+WRONG = {'opening first', 'back in order', 'back not inverted', 'undone in list order', 'counts pairs', '16 above the pairs', '16 above two a pair', '16 at the last',
+         '16 before all', '16 before 12', '13 before 16', 'count of 8 bits', 'count of 16 bits', 'count of 32 bits', 'only remaining looked at', 'only back looked at',
+         'remaining written first', 'back written first', 'both at once', 'one slice for both', 'answers the count', 'back from the rest'}
+WRONG_PLANS = {'any closed switch makes a branch live', 'the last switch decides', 'by the first switch that moves', 'a branch with two switches closed twice',
+               'only the first open one closed', 'all switches of the opened branch opened', 'ids sorted', '12 for a locked switch that stays',
+               '12 on a branch that is dead in both'}
+# those that drawn plans tell too: none of these is refused, and their slices are exact
+TOLD_BY_DRAWN = WRONG_PLANS | {'opening first', 'back in order', 'back not inverted', 'undone in list order', '16 above two a pair'}
 
 
 def moves_of(pairs, wrong=None):
-    single = [(switch, action) for closes, opens in pairs for switch, action in ((closes, CLOSE), (opens, OPEN))]
-    return [move for i in range(0, len(single), 2) for move in reversed(single[i:i + 2])] if wrong == 'opening first' else single
+    """One move for each id, in list order: what a pair closes, then what it opens."""
+    turned = -1 if wrong == 'opening first' else 1
+    return [(number, action) for pair in pairs for ids, action in list(zip(pair, (CLOSE, OPEN)))[::turned] for number in ids]
 
 
 def lists_of(moves, count, wrong=None):
     done = moves[count:] if wrong == 'back from the rest' else moves[:count]
     back = done if wrong == 'back in order' else done[::-1]
+    if wrong == 'undone in list order':
+        back = [move for run in runs(done)[::-1] for move in run]
     return moves[count:], back if wrong == 'back not inverted' else [(switch, 1 - action) for switch, action in back]
+
+
+def runs(moves):
+    """The closings of each pair, and its openings."""
+    return [list(run) for _, run in itertools.groupby(moves, lambda move: move[1])]
 
 
 def lines_of(moves):
@@ -160,15 +144,16 @@ def room_is_short(rooms, lists, wrong):
 def resumed(feeder, change, present, wanted, count, rooms, wrong=None):
     """The answer and both slices behind the call; a name of WRONG makes it wrong."""
     kept = ['.' * room for room in rooms]
-    if wrong == '16 before all' and count > 510:
+    if wrong == '16 before all' and count > plans.MAX_SWITCHES:
         return 'refused 16 0', kept
-    refused = refusal(feeder, change, present, wanted)
+    refused = refusal(feeder, change, present, wanted, wrong)
     if refused and not (wrong == '16 before 12' and refused[0] == 12):
         return 'refused %d %d' % refused, kept
-    moves = moves_of(pairs_of(feeder, present, wanted), wrong)
+    pairs = plans.plan(feeder, present, wanted, wrong if wrong in WRONG_PLANS else '')
+    moves = moves_of(pairs, wrong)
     bits = {'count of 8 bits': 8, 'count of 16 bits': 16, 'count of 32 bits': 32}.get(wrong, 64)
     count = 2 * count if wrong == 'counts pairs' else count % 2 ** bits
-    least = {'16 above the pairs': len(moves) // 2, '16 at the last': len(moves) - 1}.get(wrong, len(moves))
+    least = {'16 above the pairs': len(pairs), '16 above two a pair': 2 * len(pairs), '16 at the last': len(moves) - 1}.get(wrong, len(moves))
     lists = lists_of(moves, count, wrong)
     is_short = room_is_short(rooms, lists, wrong)
     if wrong == '13 before 16' and is_short:
@@ -193,16 +178,16 @@ def one(name, feeder, present, wanted, count, rooms, known, change=''):
         lists = [''.join(line + '\n' for line in lines.split()) for lines in known]
         slices = [lines + '.' * (room - len(lines)) for lines, room in zip(lists, rooms)]
         assert reckoned == ('%d' % lists[0].count('\n'), slices), (name, reckoned)
-    told_apart.update(wrong for wrong in WRONG if resumed(*question, wrong) != reckoned)
+    told_apart.update(wrong for wrong in WRONG | WRONG_PLANS if resumed(*question, wrong) != reckoned)
     cases.append((name, *question[:4], ('O', count, rooms)))
 
 
 def every(name, feeder, present, wanted, kind='E'):
     """Every count of a plan, and how many pairs it has."""
     assert refusal(feeder, '', present, wanted) is None, name
-    moves = 2 * len(pairs_of(feeder, present, wanted))
-    cases.append((name, feeder, '', present, wanted, (kind, moves)))
-    return moves // 2
+    pairs = plans.plan(feeder, present, wanted)
+    cases.append((name, feeder, '', present, wanted, (kind, len(moves_of(pairs)))))
+    return len(pairs)
 
 
 TRIANGLE = Feeder([1, 2, 3], [(1, 2, 1), (2, 3, 1), (1, 3, 1)], [(10, 1, 2), (11, 2, 3)])
@@ -212,13 +197,17 @@ TRIANGLE_LISTS = [('82000B01 82000A00', ''), ('82000A00', '82000B00'), ('', '820
 CHAIN = Feeder([1, 2, 3, 4], [(1, 2, 1), (2, 3, 1), (3, 4, 1), (1, 4, 1), (2, 4, 1)], [(100 + k, k, 2) for k in range(5)])
 CHAIN_LISTS = [('82006701 82006400 82006801 82006600', ''), ('82006400 82006801 82006600', '82006700'), ('82006801 82006600', '82006401 82006700'),
                ('82006600', '82006800 82006401 82006700'), ('', '82006601 82006800 82006401 82006700')]
+# document 02's triangle with a switch at each end of branch 2 and of branch 1; switch 13 is locked
+TWO_EACH = Feeder(TRIANGLE.buses, TRIANGLE.branches, [(12, 2, 3), (10, 1, 2), (11, 2, 3), (13, 1, 0)])
+TWO_EACH_LISTS = [('82000C01 82000B01 82000A00', ''), ('82000B01 82000A00', '82000C00'), ('82000A00', '82000B00 82000C00'), ('', '82000A01 82000B00 82000C00')]
 # counts of more bits than a count of moves needs, some of which have few low bits set
 LARGE = [255, 256, 257, 258, 65535, 65536, 65537, 65538, 2 ** 31, 2 ** 32 - 1, 2 ** 32, 2 ** 32 + 1, 2 ** 32 + 2, 2 ** 63, 2 ** 64 - 2, 2 ** 64 - 1]
 
 
 def slices():
     """Each slice exact, one byte longer, a line and a byte longer, one byte short, and empty, with each of the other's lengths, at every count."""
-    for name, feeder, present, wanted, lists in (('triangle', TRIANGLE, '01', '10', TRIANGLE_LISTS), ('chain', CHAIN, '00011', '10100', CHAIN_LISTS)):
+    for name, feeder, present, wanted, lists in (('triangle', TRIANGLE, '01', '10', TRIANGLE_LISTS), ('chain', CHAIN, '00011', '10100', CHAIN_LISTS),
+                                                   ('two-each', TWO_EACH, '1010', '0100', TWO_EACH_LISTS)):
         every(name, feeder, present, wanted)
         every(name + '-turned', feeder, wanted, present)
         for count, known in enumerate(lists):
@@ -230,6 +219,39 @@ def slices():
     # one line of two, in either slice
     one('triangle-0-room-for-one', TRIANGLE, '01', '10', 0, (9, 9), 'refused 13 0')
     one('triangle-2-room-for-one', TRIANGLE, '01', '10', 2, (9, 9), 'refused 13 0')
+
+
+def two_on_a_branch():
+    """Each switch is a move. Between the two closings, as between two openings, no branch becomes live or dead."""
+    assert [TWO_EACH.kind(state) for state in ('1010', '0010', '0000', '0100')] == ['a tree', 'a tree', 'one loop', 'a tree']
+    assert TWO_EACH.loop(TWO_EACH.live('0000')) == {0, 1, 2}
+    for name, present, wanted, lists in [
+            ('first-open', '1000', '0100', [('82000C01 82000A00', ''), ('82000A00', '82000C00'), ('', '82000A01 82000C00')]),
+            ('second-to-open', '0100', '0010', [('82000A01 82000B00', ''), ('82000B00', '82000A00'), ('', '82000B01 82000A00')]),
+            ('two-to-open', '0100', '1010', [('82000A01 82000C00 82000B00', ''), ('82000C00 82000B00', '82000A00'), ('82000B00', '82000C01 82000A00'),
+                                             ('', '82000B01 82000C01 82000A00')])]:
+        every('two-each-' + name, TWO_EACH, present, wanted)
+        for count, known in enumerate(lists):
+            one('two-each-%s-%d' % (name, count), TWO_EACH, present, wanted, count, (27, 28), known)
+        one('two-each-%s-%d' % (name, len(lists)), TWO_EACH, present, wanted, len(lists), (36, 36), 'refused 16 0')
+    for count in [4, 5, 6] + LARGE[:4] + LARGE[-2:]:
+        one('two-each-count-%d' % count, TWO_EACH, '1010', '0100', count, (36, 36), 'refused 16 0')
+    one('two-each-dead-in-both', TWO_EACH, '1010', '0010', 0, (9, 9), ('', ''))
+    one('two-each-dead-in-both-1', TWO_EACH, '1010', '0010', 1, (9, 9), 'refused 16 0')
+    # two pairs of four moves; ids fall, and the branch that closes first ranks by a switch that stays closed in the one, moves in the other
+    branches = CHAIN.branches[:3] + [(1, 4, 1), (1, 3, 1)]
+    row = Feeder(CHAIN.buses, branches, [(9, 3, 2), (8, 4, 2), (7, 3, 2), (6, 0, 2), (5, 2, 2), (4, 4, 2), (3, 0, 2), (2, 1, 0), (1, 2, 2)])
+    for name, present, moves in [('eight', '111001000', [(9, CLOSE), (7, CLOSE), (6, OPEN), (3, OPEN), (8, CLOSE), (4, CLOSE), (5, OPEN), (1, OPEN)]),
+                                 ('seven', '011001000', [(7, CLOSE), (6, OPEN), (3, OPEN), (8, CLOSE), (4, CLOSE), (5, OPEN), (1, OPEN)])]:
+        every('%s-moves' % name, row, present, '000110101')
+        for count in range(len(moves) + 1):
+            lists = lines_of(moves[count:]), lines_of([(number, 1 - action) for number, action in moves[:count][::-1]])
+            one('%s-moves-%d' % (name, count), row, present, '000110101', count, tuple(map(len, lists)), lists)
+        one('%s-moves-%d' % (name, len(moves) + 1), row, present, '000110101', len(moves) + 1, (9, 90), 'refused 16 0')
+    # branch 3 is dead in both, and its locked switches differ
+    spare = Feeder(TRIANGLE.buses, TRIANGLE.branches + [(1, 2, 1)], [(14, 3, 0)] + TWO_EACH.switches + [(15, 3, 1)])
+    every('two-each-locked-dead-in-both', spare, '1' + '1010' + '0', '0' + '0100' + '1')
+    one('two-each-locked-dead-in-both-2', spare, '1' + '1010' + '0', '0' + '0100' + '1', 2, (9, 18), TWO_EACH_LISTS[2])
 
 
 def counts():
@@ -264,6 +286,8 @@ def refusals():
     """Documents 01 and 02: the network, 10, 11, 12, 16, 13. Each with a count that would do, with one above the moves, and with no slice."""
     locked, other = (Feeder(TRIANGLE.buses, TRIANGLE.branches, [(10, 1, flags), (11, 2, others)]) for flags, others in ((0, 3), (2, 1)))
     both = Feeder(TRIANGLE.buses, TRIANGLE.branches, [(11, 2, 1), (10, 1, 0)])
+    # 10, which opens last, is listed before 11, which closes
+    later = Feeder(TRIANGLE.buses, TRIANGLE.branches, [(10, 1, 0), (12, 2, 3), (11, 2, 1), (13, 1, 2)])
     for name, feeder, present, wanted, known in [
             ('present-short', TRIANGLE, '0', '10', '10 0'), ('present-long', TRIANGLE, '010', '10', '10 0'), ('present-byte-02', TRIANGLE, '02', '10', '10 0'),
             ('wanted-empty', TRIANGLE, '01', '', '10 1'), ('wanted-byte-02', TRIANGLE, '01', '20', '10 1'), ('wanted-of-513', TRIANGLE, '01', '0' * 513, '10 1'),
@@ -271,7 +295,9 @@ def refusals():
             ('present-loop', TRIANGLE, '00', '10', '11 0'), ('present-parted', TRIANGLE, '11', '10', '11 0'), ('wanted-loop', TRIANGLE, '01', '00', '11 1'),
             ('wanted-parted', TRIANGLE, '01', '11', '11 1'), ('both-not-radial', TRIANGLE, '00', '11', '11 0'), ('same-loop', TRIANGLE, '00', '00', '11 0'),
             ('locked-opening', locked, '01', '10', '12 10'), ('locked-closing', other, '01', '10', '12 11'), ('both-locked', both, '10', '01', '12 11'),
-            ('locked-present-loop', locked, '00', '10', '11 0'), ('locked-wanted-parted', locked, '01', '11', '11 1')]:
+            ('locked-present-loop', locked, '00', '10', '11 0'), ('locked-wanted-parted', locked, '01', '11', '11 1'),
+            ('two-each-13-to-open', TWO_EACH, '1010', '0101', '12 13'), ('two-each-13-to-close', TWO_EACH, '0101', '1010', '12 13'),
+            ('two-each-two-locked', later, '0110', '1000', '12 10'), ('two-each-short', TWO_EACH, '101', '0100', '10 0'), ('two-each-loop', TWO_EACH, '1010', '0000', '11 1')]:
         for count, rooms in (0, (18, 0)), (1, (9, 9)), (2, (0, 18)), (3, (0, 27)), (65536, (18, 18)), (2 ** 64 - 1, (0, 0)), (0, (0, 0)):
             one('%s-%d-%d-%d' % (name, count, *rooms), feeder, present, wanted, count, rooms, 'refused ' + known)
     # locked switches that need not move decide nothing
@@ -316,17 +342,17 @@ def supplies():
 
 
 def longest():
-    """255 pairs on 256 buses: two trees that share no branch, listed in any order. Its lists are reckoned."""
+    """255 pairs on 256 buses: two trees that share no branch, listed in any order, two of the branches with two switches. Its lists are reckoned."""
     draw = Draw(3)
     branches = [(i, i + 1, 1) for i in range(255)] + [(draw.below(i), i, 1) for i in range(1, 256)]
-    positions = draw.shuffled(range(510))
+    positions = draw.shuffled(list(range(510)) + [17, 300])
     feeder = Feeder(list(range(256)), branches, [(1000 + i, k, 2) for i, k in enumerate(positions)])
     states = [''.join('01'[(k < 255) == second] for k in positions) for second in (False, True)]
-    assert every('255-pairs', feeder, *states, 'L') == 255
-    for count in (1, 255, 256, 509):
-        one('255-pairs-%d' % count, feeder, *states, count, (9 * (510 - count), 9 * count + 1), None)
-    for count, rooms, known in [(0, (4589, 0), '13 0'), (510, (0, 4589), '13 0'), (255, (2294, 2295), '13 0'), (255, (2295, 2294), '13 0'), (511, (9, 9), '16 0'),
-                                (65536, (4590, 0), '16 0'), (65536 + 510, (0, 4590), '16 0'), (2 ** 32 + 510, (0, 4590), '16 0'), (2 ** 64 - 1, (0, 0), '16 0')]:
+    assert every('255-pairs', feeder, *states, 'L') == 255 and cases[-1][-1] == ('L', 512)
+    for count in (1, 255, 256, 511):
+        one('255-pairs-%d' % count, feeder, *states, count, (9 * (512 - count), 9 * count + 1), None)
+    for count, rooms, known in [(0, (4607, 0), '13 0'), (512, (0, 4607), '13 0'), (255, (2312, 2295), '13 0'), (255, (2313, 2294), '13 0'), (513, (9, 9), '16 0'),
+                                (65536, (4608, 0), '16 0'), (65536 + 512, (0, 4608), '16 0'), (2 ** 32 + 512, (0, 4608), '16 0'), (2 ** 64 - 1, (0, 0), '16 0')]:
         one('255-pairs-%d-%d-%d' % (count, *rooms), feeder, *states, count, rooms, 'refused ' + known)
 
 
@@ -345,16 +371,25 @@ def drawn(name, draw, shape, most):
     first = {k for k, at in enumerate(order) if at < n - 1}
     kept = draw.shuffled(first)[most:]
     second = feeder.joined(kept + draw.shuffled(k for k in range(len(branches)) if k not in first) + draw.shuffled(first))
-    idle = [k for k in range(len(branches)) if k not in first | second]
-    for k in idle:
+    for k in [k for k in range(len(branches)) if k not in first | second]:
         branches[k] = branches[k][:2] + (draw.chance(60),)
-    positions = draw.shuffled(k for k in range(len(branches)) if k in first ^ second or draw.chance(60) or k in idle and branches[k][2])
-    states = [''.join('01'[draw.below(2) if not branches[k][2] else k not in live] for k in positions) for live in (first, second)]
-    feeder.supply = draw.choice(buses) if draw.chance(25) else None
-    for number, k in zip(draw.ids(len(positions)), positions):
-        is_tie = k not in first if feeder.supply is not None else draw.below(2)
-        feeder.switches.append((number, k, is_tie + 2 * (k in first ^ second or draw.chance(60))))
-    return every(name, feeder, *(states if draw.below(2) else states[::-1]))
+    states = plans.drawn_switches(draw, feeder, first, second, draw.ids(2 * len(branches)), False)
+    if draw.chance(25):
+        feeder.supply = draw.choice(buses)
+        feeder.switches = [(number, k, flags & 2 | int(byte)) for (number, k, flags), byte in zip(feeder.switches, states[0])]
+    states = states if draw.below(2) else states[::-1]
+    pairs = every(name, feeder, *states)
+    count_told(feeder, *states)
+    return pairs
+
+
+def count_told(feeder, present, wanted):
+    """Which wrong answers this plan tells from the right one, at some count."""
+    moves = cases[-1][-1][1]
+    questions = [(feeder, '', present, wanted, count, (LINE_LENGTH * (moves - count), LINE_LENGTH * count)) for count in range(moves, -1, -1)]
+    right = [resumed(*question) for question in questions]
+    for wrong in TOLD_BY_DRAWN:
+        told_by_drawn[wrong] = told_by_drawn.get(wrong, 0) + any(resumed(*question, wrong) != answer for question, answer in zip(questions, right))
 
 
 def said_in(shown):
@@ -405,31 +440,48 @@ def joined_up(remaining, back):
     return [(switch, 1 - action) for switch, action in reversed(back)] + remaining
 
 
+@functools.cache
+def to_move(feeder, present, wanted):
+    return sorted(feeder.switches[i][0] for i in plans.to_move(feeder, present, wanted))
+
+
 def judge(feeder, present, wanted, count, remaining, back):
-    """How many states an answer leads through. Where the last move done closes there is one loop, else a tree."""
+    """How many states an answer leads through. Between the last closing of a pair and its first opening there is one loop, else a tree."""
     done = joined_up([], back)
-    aim, start = feeder.live(wanted), feeder.live(present)
     assert len(done) == count, 'goes back by another number of moves than were done'
-    assert len(done) + len(remaining) == len(aim ^ start), 'has another number of moves than branches to close and to open'
     moves, states = done + remaining, [present]
+    assert sorted(number for number, _ in moves) == to_move(feeder, present, wanted), 'moves other switches than those that differ on the branches to close and to open'
+    judge_order(feeder, present, wanted, runs(moves))
     for move in moves:
         states.append(carried(feeder, states[-1], move))
     returning = states[count:count + 1]
     for move in back:
         returning.append(carried(feeder, returning[-1], move))
     for at, state in [*enumerate(states), *zip(range(count, -1, -1), returning)]:
-        assert feeder.kind(state) == ('one loop' if closes_last(moves[:at]) else 'a tree'), 'is %s with %d moves done' % (feeder.kind(state), at)
+        assert feeder.kind(state) == ('one loop' if is_between(moves, at) else 'a tree'), 'is %s with %d moves done' % (feeder.kind(state), at)
+    aim, start = feeder.live(wanted), feeder.live(present)
     assert feeder.live(states[-1]) == aim, 'ends at other branches than the wanted ones'
     assert all(byte == (aimed if k in start ^ aim else found) for (_, k, _), byte, found, aimed in zip(feeder.switches, states[-1], present, wanted))
     assert returning[-1] == present, 'does not go back to the present state'
     judge_late(feeder, states, count, remaining, back)
-    if closes_last(done):
+    if is_between(moves, count):
         judge_loop(feeder, states[count - 1], states[count], states[count + 1], done[-1], remaining[0])
     return len(states) + len(returning)
 
 
-def closes_last(done):
-    return bool(done) and done[-1][1] == CLOSE
+def judge_order(feeder, present, wanted, parts):
+    """Closings and openings by turns, each of one branch and in list order; the closed branches by their first listed switches."""
+    assert [part[0][1] for part in parts] == [CLOSE, OPEN] * (len(parts) // 2), 'does not close and open by turns'
+    for part in parts:
+        places = [feeder.places[number] for number, _ in part]
+        assert places == sorted(places) and len({feeder.switches[i][1] for i in places}) == 1, 'moves out of order, or switches of two branches'
+    ranks = [feeder.on(feeder.branch_of(part[0][0]))[0] for part in parts[::2]]
+    assert ranks == sorted(set(ranks)), 'closes by another order than that of the first listed switches'
+
+
+def is_between(moves, count):
+    """Whether the last move done closes and the next opens."""
+    return 0 < count < len(moves) and moves[count - 1][1] == CLOSE and moves[count][1] == OPEN
 
 
 def judge_late(feeder, states, count, remaining, back):
@@ -464,7 +516,7 @@ def judge_the_judge(feeder, present, wanted, count, remaining, back):
         damaged += [(count, [(other, action)] + rest, back) for other, _, _ in feeder.switches]
     if back:
         damaged += [(count, remaining, back[1:]), (count, remaining, back[:-1]), (count, remaining, back + back[-1:])]
-        damaged += [(count, remaining, lists_of(moves, count, 'back not inverted')[1])]
+        damaged += [(count, remaining, lists_of(moves, count, wrong)[1]) for wrong in ('back not inverted', 'undone in list order')]
         damaged += [(count, remaining, back[1:2] + back[:1] + back[2:])]
     damaged = [lists for lists in damaged if lists != (count, remaining, back)]
     for lists in damaged:
@@ -473,14 +525,15 @@ def judge_the_judge(feeder, present, wanted, count, remaining, back):
 
 
 def judge_the_loops(feeder, present, moves):
-    """How many loops it refuses: at each closing of a plan, those that another switch would have closed or would open."""
+    """How many loops it refuses: at each last closing of a pair, those that a switch of another branch would have closed or would open."""
     states, refused = [present], 0
     for move in moves:
         states.append(carried(feeder, states[-1], move))
-    for at in [at for at, (_, action) in enumerate(moves) if action == CLOSE]:
+    for at in [at for at in range(len(moves)) if is_between(moves, at + 1)]:
+        right = [feeder.branch_of(number) for number, _ in moves[at:at + 2]]
         for number, _, _ in feeder.switches:
             for closing, opening in ((number, CLOSE), moves[at + 1]), (moves[at], (number, OPEN)):
-                if [closing, opening] != moves[at:at + 2]:
+                if [feeder.branch_of(closing[0]), feeder.branch_of(opening[0])] != right:
                     assert is_refused(judge_loop, feeder, *states[at:at + 3], closing, opening)
                     refused += 1
     return refused
@@ -540,21 +593,22 @@ def write(shown):
             calls = 'O %016X %04X %04X' % (number, *rooms[0]) if kind == 'O' else '%s %X' % (kind, number)
             out.write(('%s %s\n%s\n%s\n' % (CHANGES[change], present, wanted, calls)).encode())
             before = text
-        assert out.tell() <= 393216, 'the program has no room for the cases'
+        assert out.tell() <= ROOM_FOR_CASES, 'the program has no room for the cases'
     with open(os.path.join(ROOT, 'stdout'), 'w') as out:
         out.write(shown)
 
 
 def main():
-    for make in (slices, counts, empty_plans, refusals, network_refusals, supplies, longest):
+    for make in (slices, two_on_a_branch, counts, empty_plans, refusals, network_refusals, supplies, longest):
         make()
-    assert told_apart == WRONG, WRONG - told_apart
+    assert told_apart == WRONG | WRONG_PLANS, (WRONG | WRONG_PLANS) - told_apart
     draw, lengths = Draw(4), []
     for i in range(265):
         shape = list(SHAPES)[i % len(SHAPES)]
-        lengths.append(drawn('drawn-%s-%d' % (shape, i), draw, shape, i % 22 if i < 88 else 1 + draw.below(9)))
-    assert sum(length > 0 for length in lengths) >= 250
-    assert set(lengths) >= set(range(21)), set(range(21)) - set(lengths)
+        lengths.append(drawn('drawn-%s-%d' % (shape, i), draw, shape, i % 22 if i < 44 else 1 + draw.below(7)))
+    assert sum(length > 0 for length in lengths) >= 220
+    assert set(lengths) >= set(range(9)) and len(set(lengths)) >= 18, sorted(set(lengths))
+    assert min(told_by_drawn.values()) >= FEWEST_TOLD, told_by_drawn
     texts = [case[1].text() for case in cases]
     cases.sort(key=lambda case: texts.index(case[1].text()))
     names = [case[0] for case in cases]
@@ -562,8 +616,12 @@ def main():
     shown = ''.join(shown_of(*case) for case in cases)
     calls, answers, states, damaged = judge_all(shown)
     write(shown)
-    print('%d cases, %d of them every count of a plan and %d drawn; %d calls, %d answered and judged at their count, %d states on the way of their lists; '
-          '%d damaged answers refused' % (len(cases), sum(case[-1][0] != 'O' for case in cases), len(lengths), calls, answers, states, damaged))
+    several = sum(max(map(len, runs(moves_of(plans.plan(*case[1:2], *case[3:5]))))) > 1 for case in cases if case[-1][0] != 'O' and case[-1][1])
+    print('%d cases, %d of them every count of a plan and %d drawn, %d with several closings or openings in a pair; %d calls, %d answered and judged at their count, %d states on '
+          'the way of their lists; %d damaged answers refused; each of %d wrong answers fails on %d drawn plans or more' % (
+              len(cases), sum(case[-1][0] != 'O' for case in cases), len(lengths), several, calls, answers, states, damaged, len(told_by_drawn), min(told_by_drawn.values())))
 
 
-main()
+# tests/cases/call_cases.py takes the judge from here
+if __name__ == '__main__':
+    main()

@@ -21,9 +21,10 @@ CHANGES = {
     '': '-', 'iterations-1001': 'A', 'buses-257': 'B', 'branches-513': 'C', 'switches-65535': 'D', 'base-no-number': 'E', 'bus-1-again': 'F',
     'load-out-of-range': 'G', 'load-no-number': 'H', 'end-not-listed': 'I', 'r-below-zero': 'J', 'r-no-number-and-end-not-listed': 'K', 'switch-10-again': 'L',
     'second-switch-on-a-branch': 'M', 'position-3-of-3': 'N', 'eleventh-tie': 'O', 'third-bus-and-first-branch': 'P', 'refused-if-listed': 'Q',
-    'fewer-listed': 'R', 'more-listed': 'S', 'ends-of-ranges': 'T', 'supply-3': 'U', 'has-a-supply': 'V', 'has-no-supply': 'W',
+    'fewer-listed': 'R', 'more-listed': 'S', 'ends-of-ranges': 'T', 'supply-3': 'U', 'has-a-supply': 'V', 'has-no-supply': 'W', 'third-switch-on-a-branch': 'X',
 }
 ROOM_BEHIND = 80
+ROOM_FOR_CASES = 278528
 cases = []
 
 
@@ -90,7 +91,7 @@ def refused_records():
     faults = [
         ('iterations-1001', 3, 1), ('buses-257', 4, 1), ('branches-513', 4, 1), ('switches-65535', 4, 1), ('base-no-number', 5, 1), ('bus-1-again', 7, 3),
         ('load-out-of-range', 5, 4), ('load-no-number', 5, 4), ('end-not-listed', 6, 6), ('r-below-zero', 5, 6), ('r-no-number-and-end-not-listed', 5, 6),
-        ('switch-10-again', 7, 9), ('second-switch-on-a-branch', 8, 9), ('position-3-of-3', 6, 9), ('third-bus-and-first-branch', 7, 4),
+        ('switch-10-again', 7, 9), ('third-switch-on-a-branch', 8, 10), ('position-3-of-3', 6, 9), ('third-bus-and-first-branch', 7, 4),
     ]
     for change, number, place in faults:
         changed(TRIANGLE, (number, place), change)
@@ -122,6 +123,7 @@ def other_records():
     rows[0], rows[1] = head(3, 3, 2, 0x3F50624DD2F1A9FC, 0, 1000), bus(1, MINUS_ZERO)
     rows[4], rows[7] = branch(3, 1, 1, 0), switch(65535, 0, 0)
     changed(TRIANGLE, rows, 'ends-of-ranges')
+    changed(TRIANGLE, TRIANGLE[:8] + [switch(11, 1, 3)], 'second-switch-on-a-branch')
 
 
 def supplies():
@@ -147,6 +149,9 @@ def supplies():
     # a fault of an earlier record comes first
     changed(fed[1], (7, 9), 'switch-10-again', 'supply-and-switch-10-again')
     changed(fed[1], (3, 1), 'iterations-1001', 'supply-and-iterations-1001')
+    changed(fed[1], (8, 10), 'third-switch-on-a-branch', 'supply-and-third-switch-on-a-branch')
+    # branch 1 gets the tie, and branch 2 is live without one
+    changed(fed[1], TRIANGLE[:8] + [switch(11, 1, 3), supply(1)], 'second-switch-on-a-branch', 'supply-and-second-switch-on-a-branch')
     changed(fed[3], (6, 5), 'fewer-listed', 'supply-no-longer-listed-nor-a-branch-end')
     changed(fed[3], fed[3], 'refused-if-listed', 'supply-and-refused-if-listed')
     tied = [head(2, 11, 11, ONE, 1), bus(1), bus(2)] + [branch(1, 2)] * 11 + [switch(1 + i, i, 3) for i in range(10)] + [switch(11, 10, 2), supply(2)]
@@ -162,7 +167,7 @@ def main():
     os.makedirs(ROOT, exist_ok=True)
     with open(os.path.join(ROOT, 'stdin'), 'wb') as out:
         out.write(b''.join(question for _, question, _ in cases))
-        assert out.tell() <= 212992, 'the program has no room for the cases'
+        assert out.tell() <= ROOM_FOR_CASES, 'the program has no room for the cases'
     with open(os.path.join(ROOT, 'stdout'), 'w') as out:
         out.write(''.join(printed for _, _, printed in cases))
     print('%d cases' % len(cases))

@@ -1,5 +1,5 @@
-"""python/lugwefa.py over the library: the triangle, forms, refusals, states by id, records, the bytes that no call may touch, and every text of the list that
-`replay` has (tests/answers.md). usage: calls.py LIST EXAMPLE"""
+"""python/lugwefa.py over the library: the triangle, forms, plans with up to two switches on a branch, refusals, states by id, records, the bytes that no call may touch, and every
+text of the list that `replay` has (tests/answers.md). usage: calls.py LIST EXAMPLE"""
 
 import ctypes
 import io
@@ -8,6 +8,7 @@ import random
 import runpy
 import struct
 import sys
+from collections import Counter
 from contextlib import redirect_stdout
 
 import lugwefa
@@ -19,7 +20,9 @@ BRANCHES = '03000100023FD000000000000001\n03000200033FDC00000000000001\n03000100
 TRIANGLE = HEAD + BUSES + BRANCHES + '04000A000102\n04000B000203\n'
 TURNED = TRIANGLE.replace('0300010002', '0300020001')
 LOCKED = HEAD + BUSES + BRANCHES + '04000A000100\n04000B000203\n'
-PRINTED = '810140100000000000003FF00000000000004052C00000000000000201\n840000FFFF\n82000A00\n82000B01\n83000B000A\n'
+# the triangle with a switch at each end of two branches: 12 and 11 on branch 2, 10 and 13, which is locked, on branch 1
+FOUR_SWITCHES = HEAD.replace('0002', '0004') + BUSES + BRANCHES + '04000C000203\n04000A000102\n04000B000203\n04000D000100\n'
+PRINTED = '810140100000000000003FF00000000000004052C00000000000000201\n840000FFFF\n82000A00\n82000B01\n8601000B01000A\n'
 BASE = {10: CLOSED, 11: OPEN}
 BEST = {10: OPEN, 11: CLOSED}
 ALL_CLOSED = {10: CLOSED, 11: CLOSED}
@@ -56,8 +59,8 @@ def triangle():
     expect([lugwefa.radiality(TRIANGLE, s) for s in (BASE, BEST, ALL_CLOSED, ALL_OPEN)], [True, True, False, False], 'radiality')
     expect([lugwefa.form(TRIANGLE, s) for s in (BASE, BEST, ALL_CLOSED, ALL_OPEN)], [TREE, TREE, Form(0, 2), Form(1, None)], 'form')
     expect([lugwefa.loss(TRIANGLE, s) for s in (BASE, BEST, ALL_CLOSED)], [4.0, 1.0, 5.6875], 'loss')
-    expect(lugwefa.plan(TRIANGLE, BASE, BEST), [Pair(close=11, open=10)], 'the plan')
-    expect(lugwefa.plan(TRIANGLE, BEST, BASE), [Pair(close=10, open=11)], 'the way back')
+    expect(lugwefa.plan(TRIANGLE, BASE, BEST), [Pair(close=(11,), open=(10,))], 'the plan')
+    expect(lugwefa.plan(TRIANGLE, BEST, BASE), [Pair(close=(10,), open=(11,))], 'the way back')
     expect(lugwefa.plan(TRIANGLE, BASE, BASE), [], 'no plan is needed')
     expect(lugwefa.operations(TRIANGLE, BASE, BEST), [Operation(10, OPEN), Operation(11, CLOSED)], 'the operations')
     expect(lugwefa.operations(TRIANGLE, BASE, ALL_OPEN), [Operation(10, OPEN)], 'one operation')
@@ -166,6 +169,45 @@ def forms():
         expect((len(printed), printed[0][:4]), (2, '8101' if right == (0, None) else '8100'), f'{what}, printed')
 
 
+def path(branches, live, start, end):
+    """The branches between two buses of a tree, from the first bus on."""
+    onward = [(start, [])]
+    while onward:
+        bus, way = onward.pop()
+        if bus == end:
+            return way
+        onward += ((sum(branches[k][:2]) - bus, [*way, k]) for k in live if bus in branches[k][:2] and k not in way[-1:])
+
+
+def planned(text, present, wanted):
+    """What `plan` answers by documents 01 and 02: the number and place of 11 or 12, or the pairs. A branch ranks by its first listed switch, moved or not."""
+    for place, state in enumerate((present, wanted)):
+        if reckoned(text, state) != (0, None):
+            return 11, place
+    _, _, branches, switches, *_ = in_records(text)
+    now, before, goal, pairs = live(text, present), set(live(text, present)), set(live(text, wanted)), []
+    for switch in switches:
+        if (switch.branch in before) != (switch.branch in goal) and present[switch.id] != wanted[switch.id] and not switch.can_operate:
+            return 12, switch.id
+    open_on = lambda state, k: tuple(switch.id for switch in switches if switch.branch == k and state[switch.id] == OPEN)
+    for k in dict.fromkeys(switch.branch for switch in switches):
+        if k in goal and k not in before:
+            opened = next(each for each in path(branches, now, *branches[k][:2]) if each not in goal)
+            pairs.append(Pair(open_on(present, k), open_on(wanted, opened)))
+            now = [each for each in now if each != opened] + [k]
+    return pairs
+
+
+def moves_of(pair):
+    """Carried out: the closed ones, then the opened ones, in their order."""
+    return [Move(switch, CLOSED) for switch in pair.close] + [Move(switch, OPEN) for switch in pair.open]
+
+
+def undoing(pair):
+    """The opened ones are closed, then the closed ones opened, the last first."""
+    return [Move(switch, CLOSED) for switch in reversed(pair.open)] + [Move(switch, OPEN) for switch in reversed(pair.close)]
+
+
 def carried_out(state, moves):
     """A state after the moves; each must change its switch."""
     state = dict(state)
@@ -176,17 +218,31 @@ def carried_out(state, moves):
     return state
 
 
+def every_pair(text, present, pairs, what):
+    """The plan by whole pairs: radial at each stopping point, and undoing a pair goes back to the point before it."""
+    state = dict(present)
+    for pair in pairs:
+        after = carried_out(state, moves_of(pair))
+        expect((lugwefa.radiality(text, after), carried_out(after, undoing(pair))), (True, state), f'{what}, by whole pairs')
+        state = after
+
+
 def every_cut(text, present, wanted, what):
-    """A plan cut off at every count, against the pairs that `plan` answers."""
-    moves = [move for closes, opens in lugwefa.plan(text, present, wanted) for move in (Move(closes, CLOSED), Move(opens, OPEN))]
+    """A plan, and cut off at every count of single moves. From the last closing of a pair to its first opening there is one loop: all buses connected, and as many live branches as buses."""
+    pairs, buses = lugwefa.plan(text, present, wanted), len(in_records(text)[1])
+    expect(pairs, planned(text, present, wanted), what)
+    every_pair(text, present, pairs, what)
+    moves = [move for pair in pairs for move in moves_of(pair)]
+    expect(lugwefa.resume(text, present, wanted, len(moves)).back, [move for pair in reversed(pairs) for move in undoing(pair)], f'{what}, undone by its lines')
     for count in range(len(moves) + 1):
         right = Resumed(moves[count:], [Move(switch, other(stands)) for switch, stands in reversed(moves[:count])])
         cut, state = lugwefa.resume(text, present, wanted, count), carried_out(present, moves[:count])
         expect(cut, right, f'{what}, cut off at {count}')
         expect(live(text, carried_out(state, cut.remaining)), live(text, wanted), f'{what}, finished from {count}')
         expect(carried_out(state, cut.back), dict(present), f'{what}, gone back from {count}')
-        radial, form = count == 0 or moves[count - 1].stands == OPEN, lugwefa.form(text, state)
-        expect((lugwefa.radiality(text, state), form == TREE, form.islands), (radial, radial, 0), f'{what}, at {count}')
+        loop, form = [stands for _, stands in moves[max(count - 1, 0):count + 1]] == [CLOSED, OPEN] and count > 0, lugwefa.form(text, state)
+        expect((lugwefa.radiality(text, state), form == TREE, form.islands), (not loop, not loop, 0), f'{what}, at {count}')
+        expect(len(live(text, state)), max(buses - 1 + loop, 0), f'{what}, the live branches at {count}')
     for count in (len(moves) + 1, 65536, 65536 + len(moves), 2 ** 32, 2 ** 64 - 1, 2 ** 64, 2 ** 64 + len(moves), 10 ** 30):
         expect(refusal(lugwefa.resume, text, present, wanted, count), (16, 0), f'{what}, cut off behind its end')
 
@@ -210,6 +266,92 @@ def resumed():
             expect(lugwefa.resume(TRIANGLE, BASE, BEST, count), error, 'no count')
         except (ValueError, TypeError) as raised:
             expect(type(raised), error, 'no count')
+
+
+def both_ends():
+    """A switch at each end: document 02's example, and what decides between the switches of a branch."""
+    state = lambda *stands: dict(zip((12, 10, 11, 13), stands))
+    began, ended = state(OPEN, CLOSED, OPEN, CLOSED), state(CLOSED, OPEN, CLOSED, CLOSED)
+    done = [Move(12, CLOSED), Move(11, CLOSED), Move(10, OPEN)]
+    expect(lugwefa.plan(FOUR_SWITCHES, began, ended), [Pair((12, 11), (10,))], 'both ends closed, one opened')
+    expect(lugwefa.plan(FOUR_SWITCHES, ended, began), [Pair((10,), (12, 11))], 'the other way')
+    for count, right in enumerate((TREE, TREE, Form(0, 2), TREE)):
+        expect(lugwefa.form(FOUR_SWITCHES, carried_out(began, done[:count])), right, f'both ends, {count} moves done')
+        expect(lugwefa.resume(FOUR_SWITCHES, began, ended, count).remaining, done[count:], f'both ends, {count} moves done')
+    expect(lugwefa.resume(FOUR_SWITCHES, began, ended, 3).back, [Move(10, CLOSED), Move(11, OPEN), Move(12, OPEN)], 'both ends, gone back')
+    expect(refusal(lugwefa.plan, FOUR_SWITCHES, began, {**ended, 13: OPEN}), (12, 13), 'the locked switch of two would move')
+    expect(refusal(lugwefa.resume, FOUR_SWITCHES, began, {**ended, 13: OPEN}, 99), (12, 13), 'the locked switch of two, before the count')
+    expect(lugwefa.plan(FOUR_SWITCHES, {**began, 12: CLOSED}, ended), [Pair((11,), (10,))], 'of two switches the closed one stays')
+    expect(lugwefa.plan(FOUR_SWITCHES, {**began, 12: CLOSED}, began), [], 'a switch that moves on a branch that stays dead')
+    operable = FOUR_SWITCHES.replace('04000D000100', '04000D000102')
+    expect(lugwefa.plan(operable, began, {**ended, 13: OPEN}), [Pair((12, 11), (10, 13))], 'both ends closed, both opened')
+    locked = FOUR_SWITCHES.replace('04000C000203', '04000C000201').replace('04000A000102', '04000A000100')
+    swapped = locked.replace('04000C000201\n04000A000100', '04000A000100\n04000C000201')
+    expect([refusal(lugwefa.plan, text, began, ended) for text in (locked, swapped)], [(12, 12), (12, 10)], 'the first locked one in list order')
+    for method, rounds in (('00', 1), ('01', 100), ('02', 3)):
+        text = FOUR_SWITCHES.replace('000064\n', f'{method}0064\n', 1)
+        expect(lugwefa.solve(text), lugwefa.Solution(began, True, 4.0, 4.0, 0.0, rounds, True), f'both ends by method {method}')
+        expect(lugwefa.answer_text(text), f'810140100000000000004010000000000000{0:016X}{rounds:04X}01\n840000FFFF\n', f'both ends by method {method}')
+    # branches 0 and 1 from bus 1 to 2, 2 and 3 from 2 to 3: branch 1 comes first by switch 9, which stays, and the one that moves is listed last
+    double = lugwefa.write_text(lugwefa.records((1.0, 0, 0), RECORDS[1], [(1, 2, 1.0, 1)] * 2 + [(2, 3, 1.0, 1)] * 2,
+                                                [(9, 1, 0, 1), (8, 3, 1, 1), (7, 0, 0, 1), (6, 2, 0, 1), (5, 1, 1, 1)]))
+    expect(lugwefa.plan(double, lugwefa.base_state(double), {9: CLOSED, 8: CLOSED, 7: OPEN, 6: OPEN, 5: CLOSED}), [Pair((5,), (7,)), Pair((8,), (6,))], 'rank by the first listed switch')
+    for one, two in ((began, ended), (ended, began), (began, {**ended, 13: OPEN})):
+        every_cut(operable, one, two, 'both ends')
+
+
+def drawn_feeder(draw):
+    """A tree and branches more, at any positions, each with none, one or two switches, in some feeders two on each, listed in any order. Of those beside the tree some are out of service."""
+    buses, all_two, locked = draw.randint(1, 8), draw.random() < 0.3, draw.choice((0, 0.1))
+    ends = [(draw.randrange(k), k, True, draw.choice((0, 1, 2))) for k in range(1, buses)]
+    ends += [(draw.randrange(buses), draw.randrange(buses), draw.random() < 0.9, draw.choice((1, 2))) for _ in range(draw.randint(0, 7))]
+    draw.shuffle(ends)
+    on = [k for k, each in enumerate(ends) for _ in range(2 if all_two else each[3])]
+    draw.shuffle(on)
+    switches = [Switch(switch, k, draw.random() < 0.4, draw.random() >= locked) for switch, k in zip(draw.sample(range(65536), len(on)), on)]
+    method = draw.choice((0, 1, 2)) if sum(switch.normally_open for switch in switches) <= 10 else draw.choice((0, 1))
+    branches = [(999 - start, 999 - end, draw.choice((0.125, 1.0)), status) for start, end, status, _ in ends]
+    return lugwefa.write_text(lugwefa.records((1.0, method, 8), [(999 - k, 1.0) for k in range(buses)], branches, switches))
+
+
+def drawn_state(draw, text):
+    """A state whose live branches are a tree, but for a few, where the text has one: those without a switch are live, of the others those that join two pieces. On a dead one one switch is
+    open or both."""
+    _, buses, branches, switches, *_ = in_records(text)
+    state = {switch.id: draw.choice((OPEN, OPEN, CLOSED)) for switch in switches}
+    on = [[switch.id for switch in switches if switch.branch == k] for k in range(len(branches))]
+    neighbours = {bus.id: set() for bus in buses}
+    for k in sorted(draw.sample(range(len(branches)), len(branches)), key=lambda k: len(on[k]) > 0):
+        start, end, _, status = branches[k]
+        if status and end not in flood(neighbours, start):
+            state.update(dict.fromkeys(on[k], CLOSED))
+            neighbours[start].add(end)
+            neighbours[end].add(start)
+        elif status and all(state[switch] == CLOSED for switch in on[k]):
+            state.update((switch, OPEN) for switch in on[k][:1])
+    if switches and draw.random() < 0.08:
+        switch = draw.choice(switches).id
+        state[switch] = other(state[switch])
+    return state
+
+
+def drawn_plans():
+    """Plans between drawn states, and what is printed for drawn feeders. Pairs of two, three and four moves are met, and both refusals."""
+    draw, met = random.Random(6), Counter()
+    for number in range(300):
+        text, what = drawn_feeder(draw), f'drawn feeder {number}'
+        one, two = drawn_state(draw, text), drawn_state(draw, text)
+        is_formed(text, one, what)
+        for present, wanted in ((one, two), (two, one)):
+            right = planned(text, present, wanted)
+            if isinstance(right, tuple):
+                met[f'refusal {right[0]}'] += 1
+                expect((refusal(lugwefa.plan, text, present, wanted), refusal(lugwefa.resume, text, present, wanted, 10 ** 6)), (right, right), what)
+            else:
+                met.update(f'{len(pair.close + pair.open)} moves' for pair in right)
+                every_cut(text, present, wanted, what)
+        expect(lugwefa.answer_text(text), printed_by_calls(text), what)
+    expect([kind for kind in ('2 moves', '3 moves', '4 moves', 'refusal 11', 'refusal 12') if met[kind] < 20], [], 'kinds that are hardly met')
 
 
 def in_bytes(text):
@@ -260,7 +402,7 @@ def supplies():
             expect([lugwefa.radiality(fed, state) for state in (BASE, ALL_CLOSED)], [True, False], what)
             expect([lugwefa.form(fed, state) for state in (BASE, ALL_CLOSED, ALL_OPEN)], [TREE, Form(0, 2), Form(1, None)], what)
             expect([refusal(lugwefa.loss, fed, state) for state in (ALL_CLOSED, ALL_OPEN, b'\0\0\0')], [(11, 0), (11, 0), (10, 0)], what)
-            expect(lugwefa.plan(fed, BASE, BEST), [Pair(close=11, open=10)], what)
+            expect(lugwefa.plan(fed, BASE, BEST), [Pair(close=(11,), open=(10,))], what)
             expect(lugwefa.operations(fed, ALL_CLOSED, BEST), [Operation(10, OPEN)], what)
             expect((lugwefa.base_state(fed), lugwefa.switch_ids(fed)), (BASE, [10, 11]), what)
             found = lugwefa.Solution(BEST, True, 4.0, 1.0, 75.0, 2, True) if supply == 1 else lugwefa.Solution(BASE, True, *losses, 0.0, 1, True)
@@ -321,7 +463,9 @@ def refusals():
         (5, 3): HEAD + '0200010000000000000000\n0200027FF0000000000000\n0200034000000000000000\n' + BRANCHES + '04000A000102\n04000B000203\n',
         (6, 8): bad + '04000A000302\n04000B000203\n',
         (7, 9): bad + '04000A000102\n04000A000203\n',
-        (8, 9): bad + '04000A000102\n04000B000103\n',
+        (8, 10): bad.replace('0002', '0003', 1) + '04000A000102\n04000B000103\n04000C000102\n',
+        (8, 12): FOUR_SWITCHES.replace('0004', '0005', 1) + '04000E000202\n',
+        (7, 12): FOUR_SWITCHES.replace('0004', '0005', 1) + '04000C000202\n',
         (9, 24): '010001000B000B3FF0000000000000020000\n' + BUSES[:23] + '03000100013FD000000000000000\n' * 11
                  + ''.join(f'04{k + 1:04X}{k:04X}03\n' for k in range(11)),
         (14, 10): TRIANGLE + '050009\n',
@@ -341,7 +485,8 @@ def refusals():
     expect(refusal(lugwefa.plan, LOCKED, ALL_CLOSED, BEST), (11, 0), 'a present state that is not radial')
     expect(refusal(lugwefa.plan, LOCKED, BASE, ALL_OPEN), (11, 1), 'a wanted state that is not radial')
     expect(refusal(lugwefa.plan, LOCKED, BASE, BEST), (12, 10), 'a locked switch')
-    expect(str(Refused(12, 10)), "refused 12 at switch 10: a differing live branch's switch is locked", 'words')
+    expect(str(Refused(8, 10)), 'refused 8 at line 10: third switch on a branch', 'words')
+    expect(str(Refused(12, 10)), 'refused 12 at switch 10: a switch that the plan would move is locked', 'words')
     expect(str(Refused(5, 3)), 'refused 5 at line 3: float outside its range, or not finite', 'words')
     expect(str(Refused(11, 1)), "refused 11 at the wanted state: a plan's state isn't radial, or with a supply that of a loss", 'words')
     expect(str(Refused(14, 10)), 'refused 14 at line 10: supply bus not listed', 'words')
@@ -353,7 +498,8 @@ def tails():
     """Guard bytes around the lent slice: what is behind the answer stays, and a refusal writes nothing."""
     library, text = lugwefa._library(), TRIANGLE.encode()
     base, best = b'\0\1', b'\1\0'
-    lent = (('feeder_plan', (text, base, best), b'83000B000A\n'), ('feeder_operations', (text, base, best), b'82000A00\n82000B01\n'),
+    lent = (('feeder_plan', (text, base, best), b'8601000B01000A\n'), ('feeder_plan', (FOUR_SWITCHES.encode(), b'\1\0\1\0', b'\0\1\0\0'), b'8602000C000B01000A\n'),
+            ('feeder_operations', (text, base, best), b'82000A00\n82000B01\n'),
             ('feeder_answer_text', (text,), PRINTED.encode()), ('feeder_base_state', (text,), base), ('feeder_solve', (text,), best),
             ('feeder_write_text', (in_bytes(TRIANGLE),), text))
     for name, slices, written in lent:
@@ -370,18 +516,21 @@ def tails():
 
 def two_tails():
     """The same around the two slices of a plan that was cut off, at each count with room and without."""
-    text, moves, undone = TRIANGLE.encode(), (b'82000B01\n', b'82000A00\n'), (b'82000A01\n', b'82000B00\n')
-    for count in range(4):
-        written = b''.join(moves[count:]), b''.join(undone[2 - count:]) if count <= 2 else b''
-        for spare in ((8, 8), (0, 0), (-1, 8), (8, -1), (-1, -1)):
+    for text, present, wanted, moves, undone in (
+            (TRIANGLE, b'\0\1', b'\1\0', (b'82000B01\n', b'82000A00\n'), (b'82000A01\n', b'82000B00\n')),
+            (FOUR_SWITCHES, b'\1\0\1\0', b'\0\1\0\0', (b'82000C01\n', b'82000B01\n', b'82000A00\n'), (b'82000A01\n', b'82000B00\n', b'82000C00\n'))):
+        words = [word for each in (text.encode(), present, wanted) for word in (each, len(each))]
+        length = len(moves)
+        for count, spare in itertools.product(range(length + 2), ((8, 8), (0, 0), (-1, 8), (8, -1), (-1, -1))):
+            written = b''.join(moves[count:]), b''.join(undone[length - count:]) if count <= length else b''
             rooms = [max(len(each) + more, 0) for each, more in zip(written, spare)]
-            number = 16 if count > 2 else 13 if any(room < len(each) for room, each in zip(rooms, written)) else 0
+            number = 16 if count > length else 13 if any(room < len(each) for room, each in zip(rooms, written)) else 0
             buffers = [ctypes.create_string_buffer(b'\xAA' * 64, 64) for _ in written]
             middles = [ctypes.c_char_p(ctypes.addressof(buffer) + 16) for buffer in buffers]
-            answer = lugwefa._library().feeder_resume(text, len(text), b'\0\1', 2, b'\1\0', 2, count, middles[0], rooms[0], middles[1], rooms[1])
+            answer = lugwefa._library().feeder_resume(*words, count, middles[0], rooms[0], middles[1], rooms[1])
             rights = [b'\xAA' * 16 + (b'' if number else each) for each in written]
             expect([buffer.raw for buffer in buffers], [right + b'\xAA' * (64 - len(right)) for right in rights], f'two slices at {count} with room for {rooms}')
-            expect((answer.number, answer.place, answer.value), (number, 0, 0 if number else 2 - count), f'the answer at {count} with room for {rooms}')
+            expect((answer.number, answer.place, answer.value), (number, 0, 0 if number else length - count), f'the answer at {count} with room for {rooms}')
 
 
 def bits(x):
@@ -392,6 +541,22 @@ def entries(path):
     with open(path, 'rb') as file:
         while head := file.read(9):
             yield file.read(int(head[:4], 16)), file.read(int(head[4:8], 16)).decode()
+
+
+def id_list(ids):
+    return f'{len(ids):02X}' + ''.join(f'{switch:04X}' for switch in ids)
+
+
+def printed_by_calls(text):
+    """What is printed for an accepted text, made again from what the calls answer."""
+    base, found = lugwefa.base_state(text), lugwefa.solve(text)
+    lines = [f'81{found.radial:02X}{bits(found.base_loss)}{bits(found.best_loss)}{bits(found.reduction)}{found.iterations:04X}{found.converged:02X}']
+    form = lugwefa.form(text, found.state)
+    lines += [f'84{form.islands:04X}{65535 if form.branch is None else form.branch:04X}']
+    lines += [f'82{switch:04X}{stands == CLOSED:02X}' for switch, stands in lugwefa.operations(text, base, found.state)]
+    if lugwefa.radiality(text, base):
+        lines += [f'86{id_list(pair.close)}{id_list(pair.open)}' for pair in lugwefa.plan(text, base, found.state)]
+    return '\n'.join(lines) + '\n'
 
 
 def every_text(path):
@@ -406,18 +571,13 @@ def every_text(path):
         expect(lugwefa.answer_text(text), printed, what)
         written += 1
         expect(lugwefa.write_text(lugwefa.records(*in_records(text.decode()))), text.decode(), what)
+        expect(printed_by_calls(text), printed, what)
         base, found = lugwefa.base_state(text), lugwefa.solve(text)
-        lines = [f'81{found.radial:02X}{bits(found.base_loss)}{bits(found.best_loss)}{bits(found.reduction)}{found.iterations:04X}{found.converged:02X}']
-        form = lugwefa.form(text, found.state)
-        lines += [f'84{form.islands:04X}{65535 if form.branch is None else form.branch:04X}']
-        lines += [f'82{switch:04X}{stands == CLOSED:02X}' for switch, stands in lugwefa.operations(text, base, found.state)]
         if lugwefa.radiality(text, base):
-            lines += [f'83{pair.close:04X}{pair.open:04X}' for pair in lugwefa.plan(text, base, found.state)]
             every_cut(text.decode(), base, found.state, what)
         else:
             expect(refusal(lugwefa.plan, text, base, found.state), (11, 0), what)
             expect(refusal(lugwefa.resume, text, base, found.state, 0), (11, 0), what)
-        expect('\n'.join(lines) + '\n', printed, what)
         for state in (base, found.state, *(dict.fromkeys(base, stands) for stands in (CLOSED, OPEN))):
             is_formed(text.decode(), state, what)
         losses = [lugwefa.loss(text, state) for state in (base, found.state)]
@@ -439,6 +599,8 @@ triangle()
 forms()
 states_by_id()
 resumed()
+both_ends()
+drawn_plans()
 written_texts()
 supplies()
 values_without_room()

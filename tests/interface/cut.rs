@@ -58,14 +58,15 @@ impl Plan {
         Ok(Cut { remaining, back })
     }
 
-    /// The lines that a call wrote, carried out on the state at the cut: finishing reaches the wanted live branches, going back the bytes of the present state. The state at the cut is
-    /// radial at a pair's end; behind a closing every bus is joined, and there is one loop.
+    /// The lines that a call wrote, carried out on the state at the cut: finishing reaches the wanted live branches, going back the bytes of the present state. Between the last
+    /// closing of a pair and its first opening every bus is joined, and there is one loop; at every other count the state is radial.
     pub fn leads(&self, count: usize, remaining: &[u8], back: &[u8]) -> bool {
         let state = &self.states[count];
         let finished = self.carried_out(state, remaining, self.moves.len() - count);
         let gone_back = self.carried_out(state, back, count);
         let live = |state: &[u8]| self.network.live(state);
-        let closing = self.moves[..count].last().filter(|one| one.byte == CLOSED);
+        let opens = self.moves.get(count).is_some_and(|next| next.byte == OPEN);
+        let closing = self.moves[..count].last().filter(|one| one.byte == CLOSED && opens);
         let stands = closing.map_or_else(|| radial(&self.network, &live(state)), |one| self.has_one_loop(state, one.switch));
         stands && finished.is_some_and(|state| live(&state) == live(&self.wanted)) && gone_back.is_some_and(|state| state == self.present)
     }

@@ -24,6 +24,19 @@ MISLED = """\
    then open switch 5 'mill switch' on cable 303 'park feeder 3'
 Every bus stays connected all the way, and after each step there is no loop: a run may stop there.
 """
+# The same with both ends of the yard cable open: the drying tower, 0.9 MW, stays where it is. The sums are by hand.
+WITHOUT_YARD = """\
+0.0280 MW are lost as the switches normally stand, 0.0233 MW after the plan: 16.9 percent less
+1. close switch 7 'mill lane tie' on cable 402 'mill lane cable',
+   then open switch 5 'mill switch' on cable 303 'park feeder 3'
+Every bus stays connected all the way, and after each step there is no loop: a run may stop there.
+"""
+# A pair that closes two switches and opens two.
+FOUR_MOVES = """\
+close switch 6 'yard tie',
+   close switch 9 'yard isolator',
+   then open switch 4 'tower switch',
+   open switch 10 'tower isolator'"""
 # the database's text, by hand from docs/INTERFACE.md
 TEXT = """\
 01000A000C00084024000000000000000064
@@ -83,7 +96,7 @@ REFUSED = [
     ("UPDATE buses SET pd = 9e999 WHERE id = 23", TOWER.format(23, 'inf') + ': pd is not from -1,000,000 to 1,000,000 (refusal 5 at line 8)'),
     ("UPDATE switches SET branch = 999 WHERE id = 5", MILL.format(5, 999, 0, 1) + ': branch is the id of no branch (refusal 6 at line 28)'),
     ("UPDATE switches SET id = 4 WHERE id = 5", MILL.format(4, 303, 0, 1) + ': a row before it has the same id (refusal 7 at line 28)'),
-    ("UPDATE switches SET branch = 203 WHERE id = 5", MILL.format(5, 203, 0, 1) + ': a row before it is on the same branch (refusal 8 at line 28)'),
+    ("UPDATE switches SET branch = 203 WHERE id IN (3, 5)", MILL.format(5, 203, 0, 1) + ': two rows before it are on the same branch (refusal 8 at line 28)'),
     ("UPDATE branches SET status = 2 WHERE id = 202", FARM.format(202, 21, 22, 0.05, 2) + ': status is neither 0 nor 1 (refusal 3 at line 16)'),
     ("UPDATE branches SET r = -0.05 WHERE id = 202", FARM.format(202, 21, 22, -0.05, 1) + ': r is not from 0 to 1,000 (refusal 5 at line 16)'),
     ("UPDATE head SET method = 3", HEAD.format(10, 3, 100) + ': method is none of 0, 1 and 2, or max_iterations is over 1,000 (refusal 3 at line 1)'),
@@ -154,6 +167,10 @@ PLANNED = [
     # with it they may be drawn either way; without it the cables that are drawn towards the intake mislead
     (TURNED, PLAN),
     (NO_SUPPLY + TURNED, MISLED),
+    # a switch at each end: the second one of a cable stays closed
+    ("INSERT INTO switches VALUES (NULL, 9, 'yard isolator', 401, 0, 1), (NULL, 10, 'tower isolator', 203, 0, 1)", PLAN),
+    # a tie at each end is not closed by the search: the plan does without the yard cable
+    ("INSERT INTO switches VALUES (NULL, 9, 'yard isolator', 401, 1, 1)", WITHOUT_YARD),
     (NO_SUPPLY + "DELETE FROM buses; DELETE FROM branches; DELETE FROM switches",
      '0.0000 MW are lost as the switches normally stand, 0.0000 MW after the plan: 0.0 percent less\nNo switch has to move.\n'),
 ]
@@ -262,6 +279,8 @@ expect(run(*damaged("UPDATE branches SET name = 'hölzern' WHERE id = 401"), PYT
        'a name with a letter that the output has not')
 texts()
 edited_meanwhile()
+named = {6: "switch 6 'yard tie'", 9: "switch 9 'yard isolator'", 4: "switch 4 'tower switch'", 10: "switch 10 'tower isolator'"}
+expect(plan.in_order(plan.lugwefa.Pair((6, 9), (4, 10)), named), FOUR_MOVES, 'a pair of four moves')
 with open(os.path.join(example, 'README.md'), encoding='utf-8') as paper:
     expect(''.join(f'    {line}\n' for line in PLAN.splitlines()) in paper.read(), True, 'the plan as README has it')
 print(f'interface: estate: {checks} checks, {wrong} wrong ({len(PLANNED)} databases planned, {len(REFUSED)} refused)')

@@ -13,7 +13,7 @@ const SWITCHES: [(u16, u16, u8); 2] = [(10, 1, 2), (11, 2, 3)];
 
 /// Room for every text, and for every answer.
 const FRAMES_LENGTH: usize = 27436;
-const TEXT_LENGTH: usize = 7483;
+const TEXT_LENGTH: usize = 8511;
 
 /// The head says: base 1 MVA, branch exchange, at most 100 rounds.
 fn records() -> Vec<u8> {

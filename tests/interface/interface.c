@@ -1,5 +1,5 @@
-/* The calls of include/feeder.h from C: good and refused input, the largest feeder, null pointers, and the bytes of a lent slice that no
- * call may touch. Runs on a thread with a stack of FEEDER_STACK bytes. */
+/* The calls of include/feeder.h from C: good and refused input, up to two switches on a branch, the largest feeders, null pointers, and the bytes of a lent slice that
+ * no call may touch. Forms and plans are reckoned here from the lines of a text. Runs on a thread with a stack of FEEDER_STACK bytes. */
 #include "feeder.h"
 #include <pthread.h>
 #include <stdio.h>
@@ -18,6 +18,11 @@
 #define LOCKED HEAD RECORDS "04000A000100\n04000B000203\n"
 #define NO_TIES HEAD RECORDS "04000A000102\n04000B000202\n"
 #define NO_BUSES "010000000000003FF0000000000000000064\n"
+/* the triangle with another number of switches, a u16 in digits; and with a switch at each end of branches 1 and 2: 12 and 11 on branch 2, 10 and 13, which is locked, on branch 1 */
+#define HEAD_FOR(switches, method_and_iterations) "0100030003" switches ONE method_and_iterations "\n"
+#define FOUR_SWITCHES "04000C000203\n04000A000102\n04000B000203\n04000D000100\n"
+#define BOTH_ENDS HEAD_FOR("0004", "000064") RECORDS FOUR_SWITCHES
+#define THREE_ON_A_BRANCH HEAD_FOR("0003", "000064") RECORDS "04000A000102\n04000B000103\n04000C000102\n"
 /* document 02's last line, and the triangle with branch 0 turned */
 #define SUPPLY_1 "050001\n"
 #define SUPPLY_3 "050003\n"
@@ -74,6 +79,13 @@ static unsigned digits_at(const char *at, int count) {
     for (int k = 0; k < count; k++)
         number = number * 16 + (unsigned)(strchr("0123456789ABCDEF", at[k]) - "0123456789ABCDEF");
     return number;
+}
+
+/* The upper bits of a multiplied seed. */
+static unsigned draw(unsigned bound) {
+    static uint64_t seed = 1;
+    seed = seed * 6364136223846793005u + 1442695040888963407u;
+    return (unsigned)((seed >> 33) % bound);
 }
 
 static void radialities(void) {
@@ -272,11 +284,11 @@ static void plan(const char *text, const char *present, size_t present_length, c
 }
 
 static void plans(void) {
-    plan(TRIANGLE, "\0\1", 2, "\1\0", 2, ROOM, 0, 0, 1, "83000B000A\n", "one pair, the rest of the slice kept");
-    plan(TRIANGLE, "\0\1", 2, "\1\0", 2, 11, 0, 0, 1, "83000B000A\n", "one pair, an exactly full slice");
-    plan(TRIANGLE, "\1\0", 2, "\0\1", 2, 12, 0, 0, 1, "83000A000B\n", "the way back");
+    plan(TRIANGLE, "\0\1", 2, "\1\0", 2, ROOM, 0, 0, 1, "8601000B01000A\n", "one pair, the rest of the slice kept");
+    plan(TRIANGLE, "\0\1", 2, "\1\0", 2, 15, 0, 0, 1, "8601000B01000A\n", "one pair, an exactly full slice");
+    plan(TRIANGLE, "\1\0", 2, "\0\1", 2, 16, 0, 0, 1, "8601000A01000B\n", "the way back");
     plan(TRIANGLE, "\0\1", 2, "\0\1", 2, 0, 0, 0, 0, "", "equal states, no room needed");
-    plan(TRIANGLE, "\0\1", 2, "\1\0", 2, 10, 13, 0, 0, "", "one byte short");
+    plan(TRIANGLE, "\0\1", 2, "\1\0", 2, 14, 13, 0, 0, "", "one byte short");
     plan(TRIANGLE, "\0\1", 2, "\1\0", 2, 0, 13, 0, 0, "", "no room");
     plan(LOCKED, "\0\1", 2, "\1\0", 2, 0, 12, 10, 0, "", "switch 10 locked, before the room");
     plan(LOCKED, "\0\0", 2, "\1\0", 2, ROOM, 11, 0, 0, "", "the present state is not radial");
@@ -314,7 +326,7 @@ static void resume(const char *text, const char *present, size_t present_length,
 }
 
 /* Counts that are above every plan's moves, however many of their bits are looked at. */
-static const uint64_t too_many[] = {511, 512, 65535, 65536, 65538, (uint64_t)1 << 32, ((uint64_t)1 << 32) + 2, (uint64_t)1 << 63, UINT64_MAX};
+static const uint64_t too_many[] = {513, 514, 65535, 65536, 65538, (uint64_t)1 << 32, ((uint64_t)1 << 32) + 2, (uint64_t)1 << 63, UINT64_MAX};
 enum { TOO_MANY = sizeof too_many / sizeof too_many[0] };
 
 static void resumed_plans(void) {
@@ -352,49 +364,97 @@ static void resumed_plans(void) {
     expect(memcmp(one_behind_the_other, "82000B00\n82000A00\n", 18) == 0, "two slices that touch");
 }
 
+/* A pair of a plan, out of its 86 line: the ids that it closes, and those that it opens. */
+struct ids {
+    unsigned count, id[FEEDER_MAX_SWITCHES_ON_BRANCH];
+};
+struct pair {
+    struct ids closed, opened;
+};
+static struct pair pairs[FEEDER_MAX_BUSES - 1];
+
 /* A single move: the id of a switch, and 1 where it is closed, 0 where it is opened, as in an 82 line. */
 struct move {
     unsigned id, closes;
 };
-enum { MOVES = 2 * (FEEDER_MAX_BUSES - 1) };
-static struct move moves[MOVES];
-static unsigned switch_ids[FEEDER_MAX_SWITCHES];
+static struct move moves[FEEDER_MAX_SWITCHES];
 
-/* From the lines of feeder_plan, which other checks are about: of each pair the closing, then the opening. How many they are. */
-static size_t lay_moves(const char *text, const char *present, const char *wanted, size_t switches) {
-    static char lines[FEEDER_PLAN_LENGTH];
-    struct feeder_answer answer = feeder_plan((const uint8_t *)text, strlen(text), (const uint8_t *)present, switches,
-                                              (const uint8_t *)wanted, switches, (uint8_t *)lines, sizeof lines);
-    expect(answer.number == 0, "there is a plan");
-    for (size_t k = 0; k < answer.value; k++) {
-        struct move closing = {digits_at(lines + k * FEEDER_PAIR_LENGTH + 2, 4), 1};
-        struct move opening = {digits_at(lines + k * FEEDER_PAIR_LENGTH + 6, 4), 0};
-        moves[2 * k] = closing;
-        moves[2 * k + 1] = opening;
-    }
-    return 2 * answer.value;
-}
+/* The switches of an accepted text, in its order. */
+static struct listed {
+    unsigned id, branch, operable;
+} listed[FEEDER_MAX_SWITCHES];
 
-static size_t lay_switch_ids(const char *text) {
+static size_t lay_switches(const char *text) {
     size_t count = 0;
     for (; *text != '\0'; text = strchr(text, '\n') + 1)
-        if (strncmp(text, "04", 2) == 0)
-            switch_ids[count++] = digits_at(text + 2, 4);
+        if (strncmp(text, "04", 2) == 0) {
+            struct listed one = {digits_at(text + 2, 4), digits_at(text + 6, 4), digits_at(text + 10, 2) >> 1};
+            listed[count++] = one;
+        }
     return count;
+}
+
+/* The ids that stand behind their count, and what is behind them; NULL where they are none or too many. */
+static const char *read_ids(const char *at, struct ids *ids) {
+    ids->count = digits_at(at, 2);
+    if (ids->count == 0 || ids->count > FEEDER_MAX_SWITCHES_ON_BRANCH)
+        return NULL;
+    at += 2;
+    for (unsigned k = 0; k < ids->count; k++, at += FEEDER_ID_LENGTH)
+        ids->id[k] = digits_at(at, FEEDER_ID_LENGTH);
+    return at;
+}
+
+/* The next line; NULL where this is no 86 line. */
+static const char *read_pair(const char *line, struct pair *pair) {
+    const char *at = strncmp(line, "86", 2) == 0 ? read_ids(line + 2, &pair->closed) : NULL;
+    if (at != NULL)
+        at = read_ids(at, &pair->opened);
+    return at != NULL && *at == '\n' ? at + 1 : NULL;
+}
+
+static size_t lay_moves_of(const struct ids *ids, unsigned closes, size_t count) {
+    for (unsigned k = 0; k < ids->count; k++) {
+        struct move one = {ids->id[k], closes};
+        moves[count++] = one;
+    }
+    return count;
+}
+
+/* The pairs from the lines of feeder_plan, which other checks are about, and the moves: of each pair the closings, then the openings, in list order. How many they are. */
+static size_t lay_moves(const char *text, const char *present, const char *wanted, size_t switches, size_t pair_count, const char *what) {
+    static char lines[FEEDER_PLAN_LENGTH + 1];
+    const char *at = lines;
+    size_t count = 0;
+    memset(lines, 0, sizeof lines);
+    expect_answer(feeder_plan((const uint8_t *)text, strlen(text), (const uint8_t *)present, switches, (const uint8_t *)wanted, switches,
+                              (uint8_t *)lines, FEEDER_PLAN_LENGTH),
+                  0, 0, pair_count, what);
+    for (size_t k = 0; k < pair_count && at != NULL; k++) {
+        at = read_pair(at, &pairs[k]);
+        if (at != NULL && count + pairs[k].closed.count + pairs[k].opened.count <= FEEDER_MAX_SWITCHES)
+            count = lay_moves_of(&pairs[k].opened, 0, lay_moves_of(&pairs[k].closed, 1, count));
+    }
+    expect(at != NULL && *at == '\0', what);
+    return at != NULL ? count : 0;
 }
 
 static char *lay_line(char *at, unsigned id, unsigned closes) { return at + sprintf(at, "82%04X%02X\n", id, closes); }
 
-/* Carries out one 82 line: the switch stands the other way before it. A state's byte is the opposite of the line's. */
-static int carry_out(const uint8_t *line, char *state, size_t switches) {
-    unsigned id = digits_at((const char *)line + 2, 4), closes = digits_at((const char *)line + 6, 2);
+/* Moves one switch, which stands the other way before: 0 where it does not, or is not listed. A state's byte is the opposite of an 82 line's. */
+static int move_switch(char *state, size_t switches, unsigned id, unsigned closes) {
     size_t k = 0;
-    while (k < switches && switch_ids[k] != id)
+    while (k < switches && listed[k].id != id)
         k++;
     if (k == switches || (unsigned)state[k] != closes)
         return 0;
     state[k] = !closes;
     return 1;
+}
+
+/* Carries out one 82 line. */
+static int carry_out(const uint8_t *line, char *state, size_t switches) {
+    return move_switch(state, switches, digits_at((const char *)line + 2, 4), digits_at((const char *)line + 6, 2));
 }
 
 static int carry_out_all(const uint8_t *lines, size_t count, char *state, size_t switches) {
@@ -404,24 +464,69 @@ static int carry_out_all(const uint8_t *lines, size_t count, char *state, size_t
     return 1;
 }
 
-/* A whole list, from a radial state: behind a closing there is a loop and no island, behind an opening the state is radial. */
-static void is_by_pairs(const char *text, const char *from, const uint8_t *lines, size_t count, size_t switches, const char *what) {
+/* The switches of a line's list, from the first to the last or from the last to the first. */
+static int move_all(char *state, size_t switches, const struct ids *ids, unsigned closes, int backward) {
+    for (unsigned k = 0; k < ids->count; k++)
+        if (!move_switch(state, switches, ids->id[backward ? ids->count - 1 - k : k], closes))
+            return 0;
+    return 1;
+}
+
+/* How a state on the way stands: every bus is connected, and there is one loop or none. All buses connected, there is one with as many live branches as buses. */
+static void stands(const char *text, const char *state, size_t switches, int loop, const char *what) {
+    size_t count = 0;
+    expect_answer(radiality(text, state, switches), 0, 0, !loop, what);
+    expect(form(text, state, switches).value / 65536 == 0, what);
+    lay_branches(text, state);
+    for (size_t k = 0; k < branch_count; k++)
+        count += live[k];
+    expect(count + 1 == bus_count + loop, what);
+    if (bus_count <= FEW)
+        is_formed(text, state, switches, what);
+}
+
+/* A whole list of moves, from a radial state: a loop from the last of a pair's closings to the first of its openings, at every other count a tree. */
+static void is_by_moves(const char *text, const char *from, const uint8_t *lines, size_t count, size_t switches, const char *what) {
     static char state[FEEDER_MAX_SWITCHES];
     memcpy(state, from, switches);
     for (size_t k = 0; k < count; k++) {
+        const uint8_t *action = lines + k * FEEDER_MOVE_LENGTH + 7, *next = action + FEEDER_MOVE_LENGTH; /* 1 closes, 0 opens */
         expect(carry_out(lines + k * FEEDER_MOVE_LENGTH, state, switches), what);
-        expect_answer(radiality(text, state, switches), 0, 0, lines[k * FEEDER_MOVE_LENGTH + 7] == '0', what); /* the action byte: 00 opens */
-        expect(form(text, state, switches).value <= FEEDER_TREE, what);
+        expect(k + 1 < count || *action == '0', what);
+        stands(text, state, switches, k + 1 < count && *action == '1' && *next == '0', what);
     }
 }
 
-/* A plan cut off at every count, each slice exactly full and one byte short. Finishing from there reaches the wanted state, and going back the present one; every switch here is on a
- * branch in service, so all bytes are reached. */
-static void cut_plan(const char *text, const char *present, const char *wanted, size_t pairs, const char *what) {
+/* The plan by whole lines and back, as the header says: each stopping point is radial, and undoing a line reaches the bytes from before it. */
+static void is_by_lines(const char *text, const char *present, size_t pair_count, size_t switches, const char *what) {
+    static char points[FEEDER_MAX_BUSES][FEEDER_MAX_SWITCHES], state[FEEDER_MAX_SWITCHES];
+    memcpy(state, present, switches);
+    for (size_t k = 0; k < pair_count; k++) {
+        memcpy(points[k], state, switches);
+        expect(move_all(state, switches, &pairs[k].closed, 1, 0) && move_all(state, switches, &pairs[k].opened, 0, 0), what);
+        stands(text, state, switches, 0, what);
+    }
+    for (size_t k = pair_count; k > 0; k--) {
+        expect(move_all(state, switches, &pairs[k - 1].opened, 1, 1) && move_all(state, switches, &pairs[k - 1].closed, 0, 1), what);
+        expect(memcmp(state, points[k - 1], switches) == 0, what);
+    }
+}
+
+/* Whether two states have the same live branches. */
+static int lives_alike(const char *text, const char *a, const char *b) {
+    static uint8_t first[FEEDER_MAX_BRANCHES];
+    lay_branches(text, a);
+    memcpy(first, live, branch_count);
+    lay_branches(text, b);
+    return memcmp(first, live, branch_count) == 0;
+}
+
+/* A plan cut off at every count, each slice exactly full and one byte short. Finishing from there reaches the wanted live branches, and going back the bytes of the present state. */
+static void cut_plan(const char *text, const char *present, const char *wanted, size_t pair_count, const char *what) {
     static char cut[FEEDER_MAX_SWITCHES], state[FEEDER_MAX_SWITCHES];
     static char left[FEEDER_MOVES_LENGTH + 1], undone[FEEDER_MOVES_LENGTH + 1];
-    size_t n = lay_switch_ids(text), length = lay_moves(text, present, wanted, n);
-    expect(length == 2 * pairs, what);
+    size_t n = lay_switches(text), length = lay_moves(text, present, wanted, n, pair_count, what);
+    is_by_lines(text, present, pair_count, n, what);
     memcpy(cut, present, n);
     for (size_t count = 0; count <= length; count++) {
         size_t room = (length - count) * FEEDER_MOVE_LENGTH, back_room = count * FEEDER_MOVE_LENGTH;
@@ -439,13 +544,13 @@ static void cut_plan(const char *text, const char *present, const char *wanted, 
         resume(text, present, n, wanted, n, count, FEEDER_MOVES_LENGTH, FEEDER_MOVES_LENGTH, 0, 0, length - count, left, undone, what);
         resume(text, present, n, wanted, n, count, room, back_room, 0, 0, length - count, left, undone, what);
         memcpy(state, cut, n);
-        expect(carry_out_all(remaining.bytes + MARGIN, length - count, state, n) && memcmp(state, wanted, n) == 0, what);
+        expect(carry_out_all(remaining.bytes + MARGIN, length - count, state, n) && lives_alike(text, state, wanted), what);
         memcpy(state, cut, n);
         expect(carry_out_all(back.bytes + MARGIN, count, state, n) && memcmp(state, present, n) == 0, what);
         if (count == 0)
-            is_by_pairs(text, present, remaining.bytes + MARGIN, length, n, what);
+            is_by_moves(text, present, remaining.bytes + MARGIN, length, n, what);
         if (count == length)
-            is_by_pairs(text, wanted, back.bytes + MARGIN, length, n, what);
+            is_by_moves(text, cut, back.bytes + MARGIN, length, n, what);
         else
             expect(carry_out(remaining.bytes + MARGIN, cut, n), what);
     }
@@ -455,7 +560,7 @@ static void cut_plan(const char *text, const char *present, const char *wanted, 
 }
 
 #define TREE_LINE "840000FFFF\n"
-#define PRINTED "810140100000000000003FF00000000000004052C00000000000000201\n" TREE_LINE "82000A00\n82000B01\n83000B000A\n"
+#define PRINTED "810140100000000000003FF00000000000004052C00000000000000201\n" TREE_LINE "82000A00\n82000B01\n8601000B01000A\n"
 #define BASE_KEPT "8101401000000000000040100000000000000000000000000000"
 
 /* A text's answer into the middle of guarded bytes. */
@@ -490,6 +595,285 @@ static void texts(void) {
     answer_text(TRIANGLE "04", ROOM, FEEDER_BAD_CHARACTERS, 10, "", "an unended line too many");
 }
 
+/* The switches on a branch that are open in a state, behind their number, in list order. */
+static char *lay_open(char *at, const char *state, size_t switches, unsigned branch) {
+    unsigned count = 0;
+    for (size_t i = 0; i < switches; i++)
+        count += listed[i].branch == branch && state[i] == 1;
+    at += sprintf(at, "%02X", count);
+    for (size_t i = 0; i < switches; i++)
+        if (listed[i].branch == branch && state[i] == 1)
+            at += sprintf(at, "%04X", listed[i].id);
+    return at;
+}
+
+/* On the path between the ends of a branch that isn't live, in a tree of live ones: the first that is not wanted, from its from bus. The path is followed back from the to bus. */
+static unsigned first_unwanted(unsigned branch, const uint8_t *goal) {
+    static unsigned came_by[FEEDER_MAX_BUSES];
+    unsigned at = ends[branch][1], found = FEEDER_MAX_BRANCHES;
+    int more = 1;
+    memset(reached, 0, sizeof reached);
+    reached[ends[branch][0]] = 1;
+    while (more) {
+        more = 0;
+        for (unsigned k = 0; k < branch_count; k++)
+            if (live[k] && reached[ends[k][0]] != reached[ends[k][1]]) {
+                came_by[ends[k][reached[ends[k][0]] ? 1 : 0]] = k;
+                reached[ends[k][0]] = reached[ends[k][1]] = more = 1;
+            }
+    }
+    while (at != ends[branch][0]) {
+        unsigned k = came_by[at];
+        if (!goal[k])
+            found = k;
+        at = ends[k][ends[k][0] == at ? 1 : 0];
+    }
+    return found;
+}
+
+static int is_first_on_branch(size_t i) {
+    size_t first = 0;
+    while (listed[first].branch != listed[i].branch)
+        first++;
+    return first == i;
+}
+
+static struct feeder_answer refusal(unsigned number, unsigned place) {
+    struct feeder_answer answer = {(uint8_t)number, (uint16_t)place, 0};
+    return answer;
+}
+
+/* What feeder_plan answers for two states of an accepted text, with room, and its lines. A branch ranks by its first listed switch, moved or not. */
+static struct feeder_answer reckoned_plan(const char *text, const char *present, const char *wanted, char *lines) {
+    static uint8_t before[FEEDER_MAX_BRANCHES], goal[FEEDER_MAX_BRANCHES];
+    struct feeder_answer answer = refusal(0, 0);
+    size_t switches = lay_switches(text);
+    *lines = '\0';
+    if (reckoned_form(text, present) != FEEDER_TREE)
+        return refusal(FEEDER_NOT_RADIAL, 0);
+    if (reckoned_form(text, wanted) != FEEDER_TREE)
+        return refusal(FEEDER_NOT_RADIAL, 1);
+    lay_branches(text, wanted);
+    memcpy(goal, live, sizeof goal);
+    lay_branches(text, present);
+    memcpy(before, live, sizeof before);
+    for (size_t i = 0; i < switches; i++)
+        if (!listed[i].operable && present[i] != wanted[i] && before[listed[i].branch] != goal[listed[i].branch])
+            return refusal(FEEDER_LOCKED, listed[i].id);
+    for (size_t i = 0; i < switches; i++) {
+        unsigned k = listed[i].branch, opened;
+        if (!is_first_on_branch(i) || before[k] || !goal[k])
+            continue;
+        opened = first_unwanted(k, goal);
+        live[k] = 1;
+        live[opened] = 0;
+        lines = lay_open(lines + sprintf(lines, "86"), present, switches, k);
+        lines = lay_open(lines, wanted, switches, opened);
+        lines += sprintf(lines, "\n");
+        answer.value++;
+    }
+    return answer;
+}
+
+/* How many pairs were met that move so many switches, and how many refusals. */
+static unsigned met_pairs[2 * FEEDER_MAX_SWITCHES_ON_BRANCH + 1], met_refusals[FEEDER_TOO_MANY_MOVES + 1];
+
+/* The plan that is reckoned, in slices that are exactly full, longer and one byte short, and cut off at every count; or its refusal, before the count and the room. */
+static void is_planned(const char *text, const char *present, const char *wanted, const char *what) {
+    static char lines[FEEDER_PLAN_LENGTH + 1];
+    struct feeder_answer right = reckoned_plan(text, present, wanted, lines);
+    size_t n = lay_switches(text), length = strlen(lines);
+    met_refusals[right.number]++;
+    if (right.number != 0) {
+        plan(text, present, n, wanted, n, 0, right.number, right.place, 0, "", what);
+        plan(text, present, n, wanted, n, FEEDER_PLAN_LENGTH, right.number, right.place, 0, "", what);
+        resume(text, present, n, wanted, n, UINT64_MAX, 0, 0, right.number, right.place, 0, "", "", what);
+        return;
+    }
+    plan(text, present, n, wanted, n, length, 0, 0, right.value, lines, what);
+    plan(text, present, n, wanted, n, length + 1, 0, 0, right.value, lines, what);
+    plan(text, present, n, wanted, n, FEEDER_PLAN_LENGTH, 0, 0, right.value, lines, what);
+    if (length > 0)
+        plan(text, present, n, wanted, n, length - 1, FEEDER_NO_ROOM, 0, 0, "", what);
+    cut_plan(text, present, wanted, right.value, what);
+    for (size_t k = 0; k < right.value; k++)
+        met_pairs[pairs[k].closed.count + pairs[k].opened.count]++;
+}
+
+/* The same where the lines are known by hand. */
+static void has_plan(const char *text, const char *present, const char *wanted, const char *written, const char *what) {
+    size_t n = lay_switches(text), count = 0;
+    for (const char *at = written; *at != '\0'; at++)
+        count += *at == '\n';
+    plan(text, present, n, wanted, n, strlen(written), 0, 0, count, written, what);
+    is_planned(text, present, wanted, what);
+}
+
+static void has_no_plan(const char *text, const char *present, const char *wanted, unsigned number, unsigned place, const char *what) {
+    size_t n = lay_switches(text);
+    plan(text, present, n, wanted, n, FEEDER_PLAN_LENGTH, number, place, 0, "", what);
+    is_planned(text, present, wanted, what);
+}
+
+/* Buses 1, 2 and 3 in a row, the branches between them double: 0 and 1 from 1 to 2, 2 and 3 from 2 to 3. */
+#define DOUBLE_ROW "01000300040005" ONE "000064\n" BUS_LINES "03000100023FD000000000000001\n03000100023FD000000000000001\n03000200033FD000000000000001\n03000200033FD000000000000001\n"
+/* The triangle, and branch 3 beside its branch 1, with two switches. */
+#define BRANCH_BESIDE "01000300040004" ONE "000064\n" RECORDS "03000200033FDC00000000000001\n"
+
+/* A switch at each end: document 02's example, and what decides between the switches of a branch. */
+static void both_ends(void) {
+    has_plan(BOTH_ENDS, "\1\0\1\0", "\0\1\0\0", "8602000C000B01000A\n", "both ends closed, one opened");
+    resume(BOTH_ENDS, "\1\0\1\0", 4, "\0\1\0\0", 4, 0, 27, 0, 0, 0, 3, "82000C01\n82000B01\n82000A00\n", "", "both ends, no move done");
+    resume(BOTH_ENDS, "\1\0\1\0", 4, "\0\1\0\0", 4, 1, 18, 9, 0, 0, 2, "82000B01\n82000A00\n", "82000C00\n", "both ends, one closed");
+    resume(BOTH_ENDS, "\1\0\1\0", 4, "\0\1\0\0", 4, 2, 9, 18, 0, 0, 1, "82000A00\n", "82000B00\n82000C00\n", "both ends, both closed");
+    resume(BOTH_ENDS, "\1\0\1\0", 4, "\0\1\0\0", 4, 3, 0, 27, 0, 0, 0, "", "82000A01\n82000B00\n82000C00\n", "both ends, all moves done");
+    resume(BOTH_ENDS, "\1\0\1\0", 4, "\0\1\0\0", 4, 4, ROOM, ROOM, FEEDER_TOO_MANY_MOVES, 0, 0, "", "", "both ends, a move too many");
+    has_form(BOTH_ENDS, "\1\0\1\0", 4, 0, NO_BRANCH, "both ends, as it began");
+    has_form(BOTH_ENDS, "\0\0\1\0", 4, 0, NO_BRANCH, "both ends, one closed: a tree");
+    has_form(BOTH_ENDS, "\0\0\0\0", 4, 0, 2, "both ends, both closed: the loop of three branches");
+    has_form(BOTH_ENDS, "\0\1\0\0", 4, 0, NO_BRANCH, "both ends, as wanted");
+    has_form(BOTH_ENDS, "\0\0\0\1", 4, 0, NO_BRANCH, "one open switch of two is enough");
+    has_plan(BOTH_ENDS, "\0\1\0\0", "\1\0\1\0", "8601000A02000C000B\n", "the other way: one closed, both ends opened");
+    has_plan(BOTH_ENDS, "\0\0\1\0", "\0\1\0\0", "8601000B01000A\n", "of two switches the closed one stays");
+    has_plan(BOTH_ENDS, "\0\0\1\0", "\1\0\1\0", "", "a switch that moves on a branch that stays dead");
+    has_no_plan(BOTH_ENDS, "\1\0\1\0", "\0\1\0\1", FEEDER_LOCKED, 13, "the locked switch of two would move");
+    has_no_plan(BOTH_ENDS, "\0\0\0\0", "\0\1\0\0", FEEDER_NOT_RADIAL, 0, "both ends, the present state is a loop");
+    resume(BOTH_ENDS, "\1\0\1\0", 4, "\0\1\0\1", 4, UINT64_MAX, 0, 0, FEEDER_LOCKED, 13, 0, "", "", "the locked switch of two, before the count and the room");
+    has_plan(HEAD_FOR("0004", "000064") RECORDS "04000C000203\n04000A000102\n04000B000203\n04000D000102\n", "\1\0\1\0", "\0\1\0\1", "8602000C000B02000A000D\n", "four moves, the longest line");
+
+    has_no_plan(HEAD_FOR("0004", "000064") RECORDS "04000D000100\n04000C000201\n04000A000100\n04000B000203\n", "\0\1\0\1", "\0\0\1\0", FEEDER_LOCKED, 12, "a locked switch that stays, then two that move");
+    has_no_plan(HEAD_FOR("0004", "000064") RECORDS "04000A000100\n04000C000201\n04000D000102\n04000B000203\n", "\0\1\0\1", "\1\0\0\0", FEEDER_LOCKED, 10, "the first locked one in list order, which the plan opens last");
+    has_plan(BRANCH_BESIDE "04000A000102\n04000C000300\n04000B000202\n04000D000300\n", "\0\1\1\0", "\1\0\0\1", "8601000B01000A\n", "locked switches that move on a branch that stays dead");
+
+    has_plan(DOUBLE_ROW "040001000102\n040002000303\n040003000103\n040004000002\n040005000202\n", "\0\1\1\0\0", "\0\0\0\1\1", "8601000301" "0004\n8601000201" "0005\n",
+             "a branch ranks by its first listed switch, which stays");
+    has_plan(DOUBLE_ROW "040009000103\n040002000303\n040003000103\n040004000202\n040005000002\n", "\1\1\1\0\0", "\0\0\0\1\1", "860200090003010005\n8601000201" "0004\n",
+             "a branch with two switches that move is closed once");
+    answer_text(BOTH_ENDS, ANSWER_AND_FORM, 0, 0, BASE_KEPT "000101\n" TREE_LINE, "both ends by exchange: the base, one round, converged");
+    answer_text(HEAD_FOR("0004", "010064") RECORDS FOUR_SWITCHES, ANSWER_AND_FORM, 0, 0, BASE_KEPT "006401\n" TREE_LINE, "both ends by tabu: the base, 100 rounds");
+    answer_text(HEAD_FOR("0004", "020064") RECORDS FOUR_SWITCHES, ANSWER_AND_FORM, 0, 0, BASE_KEPT "000301\n" TREE_LINE, "both ends by exhaustion: the base, three radial states");
+}
+
+/* A drawn feeder: a tree over a few buses and branches more between any two of them, some out of service, at any positions. On a branch are none, one or two switches, in some
+ * feeders two on each, listed in any order, ties and sections, in every second feeder some of them locked. A branch beside the tree that has no switch is out of service, but for a few. */
+enum { DRAWN = 600, DRAWN_BRANCHES = 2 * FEW, DRAWN_SWITCHES = 2 * DRAWN_BRANCHES };
+static char drawn_text[37 + FEW * 23 + DRAWN_BRANCHES * 29 + DRAWN_SWITCHES * 13 + 1];
+
+static void shuffle(unsigned *numbers, unsigned count) {
+    for (unsigned k = count; k > 1; k--) {
+        unsigned other = draw(k), kept = numbers[k - 1];
+        numbers[k - 1] = numbers[other];
+        numbers[other] = kept;
+    }
+}
+
+static void draw_feeder(unsigned method) {
+    struct branch branches[DRAWN_BRANCHES];
+    unsigned buses = 1 + draw(FEW), count = buses - 1 + draw(FEW), order[DRAWN_BRANCHES], on[DRAWN_SWITCHES], switches = 0, ties = 0, locks = draw(2), all_two = draw(3) == 0;
+    char *at = drawn_text;
+    for (unsigned k = 0; k < count; k++)
+        order[k] = k;
+    shuffle(order, count);
+    for (unsigned k = 0; k < count; k++) {
+        unsigned is_of_tree = k + 1 < buses, there = all_two ? 2 : is_of_tree ? draw(3) : 1 + draw(2), dead = draw(8) == 0;
+        struct branch one = {is_of_tree ? draw(k + 1) : draw(buses), is_of_tree ? k + 1 : draw(buses), !(dead && !is_of_tree)};
+        if (!is_of_tree && draw(16) == 0)
+            there = one.status = draw(8) == 0;
+        if (draw(2) == 0) {
+            unsigned from = one.from;
+            one.from = one.to;
+            one.to = from;
+        }
+        branches[order[k]] = one;
+        for (; there > 0; there--)
+            on[switches++] = order[k];
+    }
+    shuffle(on, switches);
+    at += sprintf(at, "01%04X%04X%04X" ONE "%02X0008\n", buses, count, switches, method);
+    for (unsigned bus = 0; bus < buses; bus++)
+        at += sprintf(at, "02%04X" ONE "\n", 999 - bus);
+    for (unsigned k = 0; k < count; k++)
+        at += sprintf(at, "03%04X%04X%s%02X\n", 999 - branches[k].from, 999 - branches[k].to, draw(2) == 0 ? ONE : "3FC0000000000000", branches[k].status);
+    for (unsigned i = 0; i < switches; i++) {
+        unsigned tie = draw(2) && ties < FEEDER_MAX_TIES, locked = locks && draw(8) == 0;
+        ties += tie;
+        at += sprintf(at, "04%04X%04X%02X\n", (i * 40503 + 77) % 65536, on[i], (locked ? 0 : 2) + tie);
+    }
+}
+
+/* A drawn state of it: the branches without a switch are live, of the others those that join two pieces; on a dead one one switch is open or both. So it is radial, where a state of
+ * the feeder is; but a few have a byte otherwise. */
+static void draw_state(char *state) {
+    unsigned order[DRAWN_BRANCHES], piece[FEW];
+    size_t switches = lay_switches(drawn_text);
+    memset(state, 0, switches);
+    lay_branches(drawn_text, state);
+    for (unsigned bus = 0; bus < bus_count; bus++)
+        piece[bus] = bus;
+    for (unsigned k = 0; k < branch_count; k++)
+        order[k] = k;
+    shuffle(order, (unsigned)branch_count);
+    for (size_t i = 0; i < switches; i++)
+        state[i] = draw(3) > 0;
+    for (unsigned k = 0; k < 2 * branch_count; k++) {
+        unsigned branch = order[k % branch_count], from = piece[ends[branch][0]], to = piece[ends[branch][1]], there = 0, open = 0;
+        for (size_t i = 0; i < switches; i++)
+            if (listed[i].branch == branch) {
+                there++;
+                open += state[i] == 1;
+                if (from != to && k >= branch_count && live[branch])
+                    state[i] = 0;
+            }
+        if (!live[branch] || (there == 0) != (k < branch_count))
+            continue;
+        for (size_t i = 0; from == to && open == 0 && i < switches; i++)
+            if (listed[i].branch == branch)
+                open = state[i] = 1;
+        for (unsigned bus = 0; bus < bus_count; bus++)
+            piece[bus] = piece[bus] == from ? to : piece[bus];
+    }
+    if (switches > 0 && draw(12) == 0)
+        state[draw((unsigned)switches)] ^= 1;
+}
+
+/* What is printed for the text: the search's line and its best state's form, what feeder_operations lists, and the plan that is reckoned from a radial base. */
+static void is_printed(const char *text, const char *what) {
+    static char base[DRAWN_SWITCHES], best[DRAWN_SWITCHES], printed[FEEDER_TEXT_LENGTH + 1], lines[FEEDER_PLAN_LENGTH + 1];
+    size_t n = lay_switches(text);
+    uint64_t formed;
+    char *at = printed;
+    struct feeder_solved solved = feeder_solve((const uint8_t *)text, strlen(text), (uint8_t *)best, sizeof best);
+    expect_answer(feeder_base_state((const uint8_t *)text, strlen(text), (uint8_t *)base, sizeof base), 0, 0, n, what);
+    formed = reckoned_form(text, best);
+    expect(solved.number == 0 && solved.radial == (formed == FEEDER_TREE), what);
+    at += sprintf(at, "81%02X%016llX%016llX%016llX%04X%02X\n84%08llX\n", solved.radial, (unsigned long long)bits(solved.base_loss), (unsigned long long)bits(solved.best_loss),
+                  (unsigned long long)bits(solved.reduction), solved.iterations, solved.converged, (unsigned long long)formed);
+    at += FEEDER_OPERATION_LENGTH * feeder_operations((const uint8_t *)text, strlen(text), (const uint8_t *)base, n, (const uint8_t *)best, n, (uint8_t *)at, FEEDER_OPERATIONS_LENGTH).value;
+    *at = '\0';
+    if (reckoned_form(text, base) == FEEDER_TREE) {
+        expect(reckoned_plan(text, base, best, lines).number == 0, what);
+        sprintf(at, "%s", lines);
+    }
+    answer_text(text, strlen(printed), 0, 0, printed, what);
+    answer_text(text, strlen(printed) - 1, FEEDER_NO_ROOM, 0, "", what);
+}
+
+static void drawn_plans(void) {
+    static char first[DRAWN_SWITCHES], second[DRAWN_SWITCHES];
+    for (unsigned number = 0; number < DRAWN; number++) {
+        draw_feeder(number % 3);
+        draw_state(first);
+        draw_state(second);
+        is_planned(drawn_text, first, second, "a drawn plan");
+        is_planned(drawn_text, second, first, "a drawn plan, the other way");
+        is_formed(drawn_text, first, lay_switches(drawn_text), "a drawn state");
+        is_printed(drawn_text, "a drawn feeder");
+    }
+    for (unsigned count = 2; count <= 2 * FEEDER_MAX_SWITCHES_ON_BRANCH; count++)
+        expect(met_pairs[count] > 50, "pairs of two, three and four moves are met");
+    expect(met_refusals[0] > 400 && met_refusals[FEEDER_NOT_RADIAL] > 50 && met_refusals[FEEDER_LOCKED] > 50, "plans and their refusals are met");
+}
+
 /* A base into the middle of guarded bytes. */
 static void base_state(const char *text, size_t room, unsigned number, unsigned place, const char *state, size_t length, const char *what) {
     lay_slice(state, length);
@@ -505,7 +889,9 @@ static void bases(void) {
     base_state(NO_BUSES, 0, 0, 0, "", 0, "the base of no switches, no room needed");
     base_state("", 0, FEEDER_BAD_LINE, 1, "", 0, "a base, an empty text, before the room");
     base_state(HEAD RECORDS "04000A000302\n", ROOM, FEEDER_NOT_LISTED, 8, "", 0, "a base, a switch on no branch");
-    base_state(HEAD RECORDS "04000A000102\n04000B000103\n", ROOM, FEEDER_SECOND_SWITCH, 9, "", 0, "a base, a second switch on a branch");
+    base_state(HEAD RECORDS "04000A000102\n04000B000103\n", ROOM, 0, 0, "\0\1", 2, "a base, two switches on a branch");
+    base_state(BOTH_ENDS, 4, 0, 0, "\1\0\1\0", 4, "a base, two switches on two branches");
+    base_state(THREE_ON_A_BRANCH, ROOM, FEEDER_THIRD_SWITCH, 10, "", 0, "a base, a third switch on a branch");
 }
 
 static void expect_solved(struct feeder_solved a, struct feeder_solved b, const char *what) {
@@ -667,14 +1053,14 @@ static void written_texts(void) {
 #define HEAD_WITH(counts, base) "01" counts base "000064\n"
 #define OWN_LOOP "03000100013FD000000000000001\n"
 
-/* Eleven branches from a bus to itself, each with a tie. */
-static const char *eleven_ties(unsigned method) {
+/* Branches from a bus to itself, and eleven ties, tie k on branch k modulo the branches. */
+static const char *eleven_ties(unsigned method, unsigned branches) {
     static char text[1024];
-    char *at = text + sprintf(text, "010001000B000B" ONE "%02X0000\n" BUS_1, method);
-    for (int k = 0; k < 11; k++)
+    char *at = text + sprintf(text, "010001%04X000B" ONE "%02X0000\n" BUS_1, branches, method);
+    for (unsigned k = 0; k < branches; k++)
         at += sprintf(at, OWN_LOOP);
-    for (int k = 0; k < 11; k++)
-        at += sprintf(at, "04%04X%04X03\n", k, k);
+    for (unsigned k = 0; k < 11; k++)
+        at += sprintf(at, "04%04X%04X03\n", k, k % branches);
     return text;
 }
 
@@ -702,9 +1088,16 @@ static void refused_records(void) {
     is_refused(HEAD RECORDS "04000A000302\n", FEEDER_NOT_LISTED, 8, "a switch on no branch");
     is_refused(HEAD BUS_1 BUS_1, FEEDER_ID_TWICE, 3, "a bus id twice");
     is_refused(HEAD RECORDS "04000A000102\n04000A000203\n", FEEDER_ID_TWICE, 9, "a switch id twice");
-    is_refused(HEAD RECORDS "04000A000102\n04000B000103\n", FEEDER_SECOND_SWITCH, 9, "a second switch on a branch");
-    is_refused(eleven_ties(2), FEEDER_TOO_MANY_TIES, 24, "an eleventh tie by exhaustion");
-    comes_back(eleven_ties(1), "eleven ties by tabu");
+    is_refused(THREE_ON_A_BRANCH, FEEDER_THIRD_SWITCH, 10, "a third switch on a branch");
+    is_refused(HEAD_FOR("0005", "000064") RECORDS FOUR_SWITCHES "04000E000202\n", FEEDER_THIRD_SWITCH, 12, "a fifth switch, the third on branch 2");
+    is_refused(HEAD_FOR("0003", "000064") RECORDS "04000A000102\n04000B000103\n04000A000102\n", FEEDER_ID_TWICE, 10, "a third switch on a branch, its id twice");
+    comes_back(HEAD RECORDS "04000A000102\n04000B000103\n", "two switches on a branch");
+    comes_back(BOTH_ENDS, "two switches on two branches");
+    is_refused(eleven_ties(2, 11), FEEDER_TOO_MANY_TIES, 24, "an eleventh tie by exhaustion");
+    is_refused(eleven_ties(2, 6), FEEDER_TOO_MANY_TIES, 19, "an eleventh tie by exhaustion, two on a branch");
+    is_refused(eleven_ties(2, 5), FEEDER_THIRD_SWITCH, 18, "an eleventh tie by exhaustion, a third switch on its branch");
+    comes_back(eleven_ties(1, 11), "eleven ties by tabu");
+    comes_back(eleven_ties(1, 6), "eleven ties by tabu, two on a branch");
 }
 
 /* How many bytes each of the triangle's records has. */
@@ -768,7 +1161,7 @@ static void fed(const char *text, double base, double exchanged, const char *wha
     has_form(text, "\0\1", 2, 0, NO_BRANCH, what);
     has_form(text, "\0\0", 2, 0, 2, what);
     has_form(text, "\1\1", 2, 1, NO_BRANCH, what);
-    plan(text, "\0\1", 2, "\1\0", 2, 11, 0, 0, 1, "83000B000A\n", what);
+    plan(text, "\0\1", 2, "\1\0", 2, 15, 0, 0, 1, "8601000B01000A\n", what);
     plan(text, "\0\1", 2, "\1\1", 2, ROOM, FEEDER_NOT_RADIAL, 1, 0, "", what);
     resume(text, "\0\1", 2, "\1\1", 2, 0, ROOM, ROOM, FEEDER_NOT_RADIAL, 1, 0, "", "", what);
     cut_plan(text, "\0\1", "\1\0", 1, what);
@@ -892,7 +1285,6 @@ static void close_alone(char *state, int from, int to) {
 /* The forms of the largest feeder: what is known by hand, and drawn states from few closed switches to many. */
 static void largest_forms(void) {
     static char state[BRANCHES];
-    uint64_t drawn = 1;
     close_alone(state, 0, 0);
     has_form(largest, state, BRANCHES, ROW, NO_BRANCH, "all open: 255 islands");
     close_alone(state, 0, BRANCHES);
@@ -911,10 +1303,8 @@ static void largest_forms(void) {
         state[k] = 0;
     has_form(largest, state, BRANCHES, ROW / 2, 2 * ROW, "every second branch of the row, and the last two beside the first");
     for (int percent = 1; percent < 100; percent += 2) {
-        for (int k = 0; k < BRANCHES; k++) {
-            drawn = drawn * 6364136223846793005u + 1442695040888963407u;
-            state[k] = drawn >> 33 >= (uint64_t)percent * 2147483648u / 100;
-        }
+        for (int k = 0; k < BRANCHES; k++)
+            state[k] = draw(100) >= (unsigned)percent;
         is_formed(largest, state, BRANCHES, "a drawn state of the largest feeder");
     }
     expect_answer(form(largest, state, BRANCHES - 1), FEEDER_BAD_STATE, 0, 0, "form, the largest state one byte short");
@@ -958,13 +1348,14 @@ static void largest_feeder(unsigned supply) {
     expect_answer(loss(largest, row, BRANCHES), 0, 0, bits(255.0), "the row's loss");
     expect_answer(loss(largest, beside, BRANCHES), 0, 0, 0, "what lies beside loses nothing");
     for (int k = 0; k < ROW; k++)
-        at += sprintf(at, "83%04X%04X\n", FIRST_ID + ROW + k, FIRST_ID + k);
-    plan(largest, row, BRANCHES, beside, BRANCHES, FEEDER_PLAN_LENGTH, 0, 0, ROW, written, "the longest plan, an exactly full slice");
-    plan(largest, row, BRANCHES, beside, BRANCHES, FEEDER_PLAN_LENGTH - 1, 13, 0, 0, "", "the longest plan, one byte short");
+        at += sprintf(at, "8601%04X01%04X\n", FIRST_ID + ROW + k, FIRST_ID + k);
+    plan(largest, row, BRANCHES, beside, BRANCHES, FEEDER_PLAN_LENGTH, 0, 0, ROW, written, "255 pairs, room for every plan");
+    plan(largest, row, BRANCHES, beside, BRANCHES, strlen(written), 0, 0, ROW, written, "255 pairs, an exactly full slice");
+    plan(largest, row, BRANCHES, beside, BRANCHES, strlen(written) - 1, 13, 0, 0, "", "255 pairs, one byte short");
 
-    cut_plan(largest, row, beside, ROW, "the longest plan, cut off");
+    cut_plan(largest, row, beside, ROW, "255 pairs, cut off");
     if (supply == 0)
-        cut_plan(largest, beside, row, ROW, "the longest plan the other way, cut off");
+        cut_plan(largest, beside, row, ROW, "255 pairs the other way, cut off");
     cut_plan(largest, mixed, beside, ROW / 3, "a plan of 85 pairs, cut off");
 
     base_state(largest, FEEDER_MAX_SWITCHES, 0, 0, row, BRANCHES, "the largest base, an exactly full slice");
@@ -979,12 +1370,57 @@ static void largest_feeder(unsigned supply) {
 
     best.reduction = (255.0 - 254.0) / 255.0 * 100.0;
     at = head_of_answer(written, best.base_loss, best.best_loss, best.reduction, best.iterations, best.converged);
-    sprintf(at, "82%04X00\n82%04X01\n83%04X%04X\n", FIRST_ID + 254, FIRST_ID + 509, FIRST_ID + 509, FIRST_ID + 254);
+    sprintf(at, "82%04X00\n82%04X01\n8601%04X01%04X\n", FIRST_ID + 254, FIRST_ID + 509, FIRST_ID + 509, FIRST_ID + 254);
     answer_text(largest, FEEDER_TEXT_LENGTH, 0, 0, written, "the largest feeder's answer by exchange: the last tie that improves");
     row[254] = 1;
     row[509] = 0;
     solve(largest, FEEDER_MAX_SWITCHES, best, row, BRANCHES, "the largest feeder's best state, an exactly full slice");
     solve(largest, FEEDER_MAX_SWITCHES - 1, not_solved(FEEDER_NO_ROOM, 0), "", 0, "the largest feeder's best state, one byte short");
+}
+
+/* The longest plan: as many pairs as any, and every switch is moved. The largest feeder's first 510 branches with a switch each, and two more at the ends of the row's first branch
+ * and of the last one beside it. */
+static void longest_plan(void) {
+    static char row[FEEDER_MAX_SWITCHES], beside[FEEDER_MAX_SWITCHES], written[FEEDER_PLAN_LENGTH + 1];
+    char *at = largest + sprintf(largest, "01%04X%04X%04X" ONE "000000\n", BUSES, 2 * ROW, FEEDER_MAX_SWITCHES);
+    for (int bus = 1; bus <= BUSES; bus++)
+        at += sprintf(at, "02%04X" ZERO "\n", bus);
+    for (int k = 0; k < 2 * ROW; k++)
+        at += sprintf(at, "03%04X%04X" ONE "01\n", 1 + k % ROW, 2 + k % ROW);
+    for (int k = 0; k < FEEDER_MAX_SWITCHES; k++) {
+        int branch = k < 2 * ROW ? k : k == 2 * ROW ? 0 : 2 * ROW - 1;
+        at += sprintf(at, "04%04X%04X%02X\n", FIRST_ID + k, branch, branch < ROW ? 2 : 3);
+        row[k] = branch >= ROW;
+        beside[k] = !row[k];
+    }
+    at = written;
+    for (int k = 0; k < ROW; k++) {
+        at += sprintf(at, k < ROW - 1 ? "8601%04X" : "8602%04X%04X", FIRST_ID + ROW + k, FIRST_ID + FEEDER_MAX_SWITCHES - 1);
+        at += sprintf(at, k > 0 ? "01%04X\n" : "02%04X%04X\n", FIRST_ID + k, FIRST_ID + FEEDER_MAX_SWITCHES - 2);
+    }
+    expect(strlen(written) == FEEDER_PLAN_LENGTH, "the longest plan has as many bytes as the header says");
+    has_plan(largest, row, beside, written, "the longest plan");
+}
+
+/* Two switches on each of 256 branches: 129 buses in a row, and a branch beside each of the row's. Each pair has four moves, and all 512 switches are moved. */
+static void most_moves(void) {
+    enum { PAIRS = FEEDER_MAX_SWITCHES / 4 };
+    static char row[FEEDER_MAX_SWITCHES], beside[FEEDER_MAX_SWITCHES], written[FEEDER_PLAN_LENGTH + 1];
+    char *at = largest + sprintf(largest, "01%04X%04X%04X" ONE "000000\n", PAIRS + 1, 2 * PAIRS, FEEDER_MAX_SWITCHES);
+    for (int bus = 0; bus <= PAIRS; bus++)
+        at += sprintf(at, "02%04X" ZERO "\n", bus);
+    for (int k = 0; k < 2 * PAIRS; k++)
+        at += sprintf(at, "03%04X%04X" ONE "01\n", k % PAIRS, k % PAIRS + 1);
+    for (int k = 0; k < FEEDER_MAX_SWITCHES; k++) {
+        int branch = k < 2 * PAIRS ? k : FEEDER_MAX_SWITCHES - 1 - k;
+        at += sprintf(at, "04%04X%04X%02X\n", FIRST_ID + k, branch, branch < PAIRS ? 2 : 3);
+        row[k] = branch >= PAIRS;
+        beside[k] = !row[k];
+    }
+    at = written;
+    for (int k = 0; k < PAIRS; k++)
+        at += sprintf(at, "8602%04X%04X02%04X%04X\n", FIRST_ID + PAIRS + k, FIRST_ID + 3 * PAIRS - 1 - k, FIRST_ID + k, FIRST_ID + 4 * PAIRS - 1 - k);
+    has_plan(largest, row, beside, written, "two switches on each of 256 branches");
 }
 
 static void other_largest_feeders(void) {
@@ -1028,6 +1464,8 @@ static void *run(void *unused) {
     cut_plan(TRIANGLE, "\0\1", "\1\0", 1, "the triangle's plan, cut off");
     cut_plan(TRIANGLE, "\1\0", "\0\1", 1, "the triangle's plan the other way, cut off");
     cut_plan(TRIANGLE, "\1\0", "\1\0", 0, "no plan, cut off");
+    both_ends();
+    drawn_plans();
     texts();
     bases();
     searches();
@@ -1042,6 +1480,8 @@ static void *run(void *unused) {
     largest_feeder(0);
     largest_feeder(1);
     other_largest_feeders();
+    longest_plan();
+    most_moves();
     own_loops();
     return NULL;
 }
@@ -1052,8 +1492,10 @@ int main(void) {
     expect(sizeof(struct feeder_answer) == 16, "the answer has 16 bytes");
     expect(sizeof(struct feeder_solved) == 32, "a search's answer has 32 bytes");
     expect(FEEDER_FRAMES_LENGTH == 27436, "room for every text");
-    expect(FEEDER_TEXT_LENGTH == 7483, "room for every answer");
-    expect(FEEDER_MOVES_LENGTH == 4590, "room for every move");
+    expect(FEEDER_PAIR_LENGTH == 23, "the longest 86 line");
+    expect(FEEDER_PLAN_LENGTH == 3833, "room for every plan");
+    expect(FEEDER_TEXT_LENGTH == 8511, "room for every answer");
+    expect(FEEDER_MOVES_LENGTH == 4608, "room for every move");
     expect(FEEDER_LONGEST_RECORDS == 13077, "the records of the longest text");
     if (pthread_attr_init(&attributes) != 0 || pthread_attr_setstacksize(&attributes, FEEDER_STACK) != 0
         || pthread_create(&thread, &attributes, run, NULL) != 0 || pthread_join(thread, NULL) != 0) {

@@ -1,5 +1,5 @@
-//! The calls of include/feeder.h from Rust, on seeded feeders of every shape, without a supply and with one, damaged texts and records, and states that are
-//! radial, not radial and faulty: each answer and each byte of a lent slice against tests/oracle's independent reckoning of documents 01 and 02.
+//! The calls of include/feeder.h from Rust, on seeded feeders of every shape, with up to two switches on a branch, without a supply and with one, damaged texts and
+//! records, and states that are radial, not radial and faulty: each answer and each byte of a lent slice against tests/oracle's independent reckoning of documents 01 and 02.
 
 #![allow(dead_code)]
 
@@ -7,16 +7,20 @@
 mod cases;
 #[path = "../oracle/src/damage.rs"]
 mod damage;
+#[path = "../oracle/src/ends.rs"]
+mod ends;
 #[path = "../oracle/src/feeder.rs"]
 mod feeder;
 #[path = "../timing/feeders.rs"]
 mod feeders;
+mod both_ends;
 mod cut;
 #[path = "../oracle/src/forms.rs"]
 mod forms;
 mod library;
 #[path = "../oracle/src/limits.rs"]
 mod limits;
+mod pairs;
 #[path = "../oracle/src/random.rs"]
 mod random;
 #[path = "../oracle/src/reckoning/mod.rs"]
@@ -54,9 +58,10 @@ const MARGIN: usize = 16;
 const MAX_BUSES: usize = 256;
 const MAX_SWITCHES: usize = 512;
 const FRAMES_LENGTH: usize = 27436;
-const PAIR_LENGTH: usize = 11;
-const MOVES_LENGTH: usize = 2 * (MAX_BUSES - 1) * OPERATION_LENGTH;
-const TEXT_LENGTH: usize = ANSWER_LENGTH + FORM_LENGTH + MAX_SWITCHES * OPERATION_LENGTH + (MAX_BUSES - 1) * PAIR_LENGTH;
+/// A pair has 7 bytes, and 4 for each switch that it moves.
+const PLAN_LENGTH: usize = (MAX_BUSES - 1) * 7 + MAX_SWITCHES * 4;
+const MOVES_LENGTH: usize = MAX_SWITCHES * OPERATION_LENGTH;
+const TEXT_LENGTH: usize = ANSWER_LENGTH + FORM_LENGTH + MAX_SWITCHES * OPERATION_LENGTH + PLAN_LENGTH;
 
 /// The calls, and the refusals that each can answer.
 const OF_A_TEXT: [u8; 12] = [1, 2, 3, 4, 5, 6, 7, 8, 9, 14, 15, 13];
@@ -87,12 +92,18 @@ struct Checks {
     count: usize,
     refused: BTreeMap<(&'static str, u8), usize>,
     formed: BTreeMap<(&'static str, &'static str), usize>,
+    /// Accepted texts that have two switches on a branch.
+    of_two: usize,
+    /// Pairs of plans, by how many switches they move.
+    pairs: BTreeMap<usize, usize>,
 }
 
 impl Checks {
-    /// Whether each refusal that can come was met, and each form.
+    /// Whether each refusal that can come was met, each form, and pairs of each number of moves.
     fn all_met(&self) -> bool {
-        let mut all_met = true;
+        let pairs = [2, 3, 4].map(|moves| self.pairs.get(&moves).copied().unwrap_or(0));
+        println!("interface: Rust: {} texts have two switches on a branch; pairs of 2, 3, 4 moves: {pairs:?}", self.of_two);
+        let mut all_met = self.of_two > 0 && pairs.iter().all(|&count| count > 0);
         for call in ["form", "answer"] {
             let counts = FORMS.map(|kind| self.formed.get(&(call, kind)).copied().unwrap_or(0));
             println!("interface: Rust: {call}: {FORMS:?}: {counts:?}");
@@ -110,7 +121,8 @@ impl Checks {
 
 fn main() -> ExitCode {
     let mut checks = Checks::default();
-    let good = timed_feeders(&mut checks)
+    let good = both_ends::worked(&mut checks)
+        && timed_feeders(&mut checks)
         && forms::named().iter().all(|named| named_form(&mut checks, named))
         && (0..CASES).all(|number| any_case(&mut checks, number))
         && (0..FED_CASES).all(|number| any_fed_case(&mut checks, number))
@@ -119,7 +131,7 @@ fn main() -> ExitCode {
         && (0..RECORDS_CASES).all(|number| any_records(&mut checks, number));
     let all_met = checks.all_met();
     if !all_met {
-        println!("interface: Rust: a refusal or a form was never met");
+        println!("interface: Rust: a refusal, a form or a kind of pair was never met");
     }
     println!("interface: Rust: {} answers, {}", checks.count, if good { "0 wrong" } else { "1 wrong" });
     if good && all_met { ExitCode::SUCCESS } else { ExitCode::FAILURE }
@@ -138,7 +150,7 @@ fn timed_feeders(checks: &mut Checks) -> bool {
         let text = feeder.text();
         let network = reader::read(&text).expect("acceptable");
         let (a, b) = (&timed.first[..], &timed.second[..]);
-        let room = PAIR_LENGTH * plan(&network, a, b, usize::MAX).expect("two radial states").len();
+        let room = lines(&network, &plan(&network, a, b, usize::MAX).expect("two radial states")).len();
         let list = operations(&network, a, b).len();
         let switches = network.switches.len();
         let first = |count: usize, byte: u8| (0..switches).map(|k| if k < count { byte } else { 1 - byte }).collect::<Vec<u8>>();
@@ -153,9 +165,14 @@ fn timed_feeders(checks: &mut Checks) -> bool {
 
 fn any_case(checks: &mut Checks, number: usize) -> bool {
     let random = &mut Random::new(1, "interface", number);
-    let feeder = (shapes::SHAPES[random.below(shapes::SHAPES.len())].make)(random);
+    let feeder = any_feeder(random);
     let text = if random.percent(10) { damage::damaged(random) } else { feeder.text() };
     answers_on(checks, random, feeder, text)
+}
+
+fn any_feeder(random: &mut Random) -> Feeder {
+    let feeder = (shapes::SHAPES[random.below(shapes::SHAPES.len())].make)(random);
+    ends::mostly_two(random, feeder)
 }
 
 /// The same with the 05 line.
@@ -171,6 +188,7 @@ fn any_fed_case(checks: &mut Checks, number: usize) -> bool {
 fn answers_on(checks: &mut Checks, random: &mut Random, feeder: Feeder, text: Vec<u8>) -> bool {
     let without = Feeder { supply: None, ..feeder };
     let network = reader::read(&text).or(reader::read(&without.text())).expect("shapes are acceptable");
+    checks.of_two += network.has_two_on_branch() as usize;
     let state = states::any_state(random, &network);
     let (present, wanted, room) = states::any_plan(random, &network);
     let list = states::near(random, operations(&network, &state, &wanted).len());
@@ -220,7 +238,7 @@ struct Answers {
     printed: Vec<u8>,
 }
 
-/// The values of the 81 line, the best state's form, and what is printed: the 81, 84 and 82 lines and, from a radial base, the 83 lines.
+/// The values of the 81 line, the best state's form, and what is printed: the 81, 84 and 82 lines and, from a radial base, the 86 lines.
 fn answers(network: &Network) -> Answers {
     let (base, searches) = (network.base(), Searches::new(network, None));
     let answer = searches.solve();
@@ -270,7 +288,7 @@ fn every_byte(checks: &mut Checks) -> bool {
 fn any_records(checks: &mut Checks, number: usize) -> bool {
     let random = &mut Random::new(1, "records", number);
     let shape = shapes::SHAPES[random.below(shapes::SHAPES.len())].make;
-    let feeder = if number % 2 == 0 { shape(random) } else { supplied::feeder(random, shape) };
+    let feeder = if number % 2 == 0 { any_feeder(random) } else { supplied::feeder(random, shape) };
     let good = records::of_feeder(&feeder);
     match random.below(3) {
         0 => records::text_of(&good) == feeder.text() && write_answers(checks, &good),
@@ -339,14 +357,23 @@ fn on_state<V>(text: &[u8], state: &[u8], answer: impl Fn(&Network) -> Result<V,
 
 fn plan_answer(checks: &mut Checks, text: &[u8], present: &[u8], wanted: &[u8], room: usize) -> bool {
     let expected = reader::read(text).and_then(|network| {
-        let pairs = plan(&network, present, wanted, room / PAIR_LENGTH)?;
-        Ok((pairs.len() as u64, lines(&network, &pairs).into_bytes()))
+        let pairs = plan(&network, present, wanted, usize::MAX)?;
+        let written = lines(&network, &pairs).into_bytes();
+        Ok((pairs.len() as u64, lead(checks, &network, present, wanted, written)))
     });
-    lent(checks, "plan", text, room, expected, numbers, |out| library::plan(text, present, wanted, out))
+    lent(checks, "plan", text, room, in_room(room, expected), numbers, |out| library::plan(text, present, wanted, out))
+}
+
+/// The lines that are expected, of which it is known that carried out and undone by their lists they lead where they should.
+fn lead(checks: &mut Checks, network: &Network, present: &[u8], wanted: &[u8], written: Vec<u8>) -> Vec<u8> {
+    let pairs = pairs::read(&written).expect("86 lines");
+    assert!(pairs::lead(network, present, wanted, &pairs), "the reckoning's plan leads elsewhere");
+    pairs.iter().for_each(|pair| *checks.pairs.entry(pair.moves()).or_default() += 1);
+    written
 }
 
 /// At counts of the plan and above it, in slices that are exactly full; at each seventh also with room for all moves, with one byte less in either slice, and the form of the
-/// state there: a tree, or the loop that a closing makes.
+/// state there: a tree, or the loop that the closings of a pair make.
 fn cut_everywhere(checks: &mut Checks, text: &[u8], present: &[u8], wanted: &[u8], step: usize) -> bool {
     let plan = cut::Plan::of(text, present, wanted);
     let length = plan.as_ref().map_or(0, |plan| plan.moves.len());

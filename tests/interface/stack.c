@@ -198,7 +198,7 @@ static int is_enough_for_all(size_t size, void (*ask)(void), const struct entry 
 
 /* 256 buses, 512 branches and 512 switches; three buses with a plan. */
 static int is_largest(const struct entry *e) { return strncmp(e->text, "01010002000200", 14) == 0 && strncmp(e->printed, "81", 2) == 0; }
-static int is_small(const struct entry *e) { return strncmp(e->text, "010003", 6) == 0 && memmem(e->printed, e->printed_length, "\n83", 3) != NULL; }
+static int is_small(const struct entry *e) { return strncmp(e->text, "010003", 6) == 0 && memmem(e->printed, e->printed_length, "\n86", 3) != NULL; }
 static int is_fed(const struct entry *e) { return e->text_length > 7 && strncmp(e->text + e->text_length - 7, "05", 2) == 0; }
 
 static size_t measure(const struct call *c, const struct entry *entries, size_t count) {

@@ -1,5 +1,5 @@
-//! The feeders that are timed: document 01's triangle, one of 33 buses, and chains up to the largest feeder there may be. Each has two radial states,
-//! the first of them its base, but for the one with every branch live.
+//! The feeders that are timed: document 01's triangle, one of 33 buses, chains up to the largest feeder there may be, and one with two switches on a branch. Each has two
+//! radial states, but for the one with every branch live; the first has the live branches of the base.
 
 use crate::feeder::{triangle, Feeder, OPERABLE, TIE};
 
@@ -11,7 +11,7 @@ pub struct Timed {
 }
 
 pub fn all() -> Vec<Timed> {
-    vec![small(), middle(), chains("64 buses", 64), chains("128 buses", 128), full(), colliding()]
+    vec![small(), middle(), chains("64 buses", 64), chains("128 buses", 128), full(), colliding(), doubled()]
 }
 
 /// The largest feeder with every branch live: the most that labels are merged and branches looked at. The Rust, which tells neither branch nor islands, stops at
@@ -24,7 +24,7 @@ pub fn all_live() -> Timed {
 
 /// Those whose plans are cut off.
 pub fn cut() -> Vec<Timed> {
-    vec![small(), middle(), full()]
+    vec![small(), middle(), full(), doubled()]
 }
 
 /// Where a supply is named, and how many times as long as the same call without it a loss call may then take: the base's radiality is tested, and one walk more
@@ -42,8 +42,8 @@ pub fn supplied() -> Vec<(&'static str, Timed, f64)> {
     ]
 }
 
-/// The same feeders for each search. The largest one is searched by the exchange for one round, since the Rust takes seconds for each, and
-/// the exhaustive search wants at most ten ties.
+/// The same feeders for each search. The largest ones are searched for a round or two, since the Rust takes a second for each: by the exchange, which takes a loss for each
+/// tie, and by tabu where switches lie beside open ones, for each of which it takes a loss. The exhaustive search wants at most ten ties.
 pub fn searched() -> Vec<(&'static str, Timed)> {
     let with = |mut timed: Timed, method: u8, iterations: u16| {
         timed.feeder.method = method;
@@ -54,16 +54,19 @@ pub fn searched() -> Vec<(&'static str, Timed)> {
         ("exchange", with(small(), 0, 100)),
         ("exchange", with(middle(), 0, 100)),
         ("exchange, 1 round", with(full(), 0, 1)),
+        ("exchange, 2 rounds", with(doubled(), 0, 2)),
         ("tabu, 100 rounds", with(small(), 1, 100)),
         ("tabu, 100 rounds", with(middle(), 1, 100)),
         ("tabu, 100 rounds", with(full(), 1, 100)),
+        ("tabu, 2 rounds", with(doubled(), 1, 2)),
         ("exhaustive, 1 tie", with(small(), 2, 100)),
         ("exhaustive, 5 ties", with(middle(), 2, 100)),
         ("exhaustive, 10 ties", with(with_ten_ties(full()), 2, 100)),
+        ("exhaustive, 10 ties", with(with_ten_ties(doubled()), 2, 100)),
     ]
 }
 
-/// Searches that the Rust takes minutes for: the exchange until a round finds nothing, and tabu rounds with every tie out of service.
+/// Searches that the Rust takes minutes for: the exchange until a round finds nothing, and tabu rounds with every tie out of service, or with a switch beside every tie.
 pub fn long() -> Vec<(&'static str, Timed)> {
     let mut exchange = full();
     exchange.feeder.iterations = 1000;
@@ -74,10 +77,14 @@ pub fn long() -> Vec<(&'static str, Timed)> {
         let branch = tabu.feeder.switches[i].branch;
         tabu.feeder.branches[usize::from(branch)].status = 0;
     }
+    let mut beside = doubled();
+    beside.feeder.method = 1;
+    beside.feeder.iterations = 1000;
     vec![
         ("exchange, to its end, 257 ties", exchange),
         ("exchange, 256 rounds, 257 ties: the longest", many_rounds()),
         ("tabu, 1,000 rounds, 257 ties out of service", tabu),
+        ("tabu, 1,000 rounds, 128 ties", beside),
     ]
 }
 
@@ -157,6 +164,28 @@ fn chains_and(name: &'static str, buses: u16, more: &[(u16, u16)]) -> Timed {
     Timed { name, feeder, first, second }
 }
 
+/// Two switches on each of 256 branches, the most there may be. 127 branches without a switch join the buses to 129 pieces; 128 sections make one chain of these, 128 ties another, so that
+/// from one to the other all 512 switches move. Beside each tie, far behind it in the list, is a section: in the base it is closed, in the two states both are open.
+fn doubled() -> Timed {
+    let piece = |p: u16| if p < 127 { (2 * p + 1, 2 * p + 2) } else { (p + 128, p + 128) };
+    let stride = |i: u16| piece(i * 64 % 129);
+    let mut ends: Vec<(u16, u16)> = (0..127).map(piece).collect();
+    let fixed = ends.len();
+    ends.extend((0..128).map(|p| (piece(p).1, piece(p + 1).0)));
+    let sections = ends.len();
+    ends.extend((0..128).map(|i| (stride(i).1, stride(i + 1).0)));
+    let mut feeder = unswitched(256, &ends, 100.0);
+    for branch in fixed..ends.len() {
+        feeder.switch(1000 + branch as u16, branch, OPERABLE | tie_from(sections, branch));
+    }
+    for branch in fixed..ends.len() {
+        feeder.switch(2000 + branch as u16, branch, OPERABLE);
+    }
+    let first = state(&feeder, |branch| branch < sections);
+    let second = state(&feeder, |branch| branch < fixed || sections <= branch);
+    Timed { name: "256 buses, two switches on 256 branches", feeder, first, second }
+}
+
 /// The largest feeder with ids that all share a bucket of the code's rows (crates/ids), the switches two buckets: the worst that ids can be.
 fn colliding() -> Timed {
     let bucket = |id: u32| id * 40503 % 65536 / 256;
@@ -172,16 +201,32 @@ fn colliding() -> Timed {
     timed
 }
 
-/// A switch on each branch, the ties normally open; loads and resistances that are no round numbers.
+/// A switch on each branch, the ties normally open.
 fn feeder_of(buses: u16, ends: &[(u16, u16)], sections: usize, base_mva: f64) -> Feeder {
+    let mut feeder = unswitched(buses, ends, base_mva);
+    for branch in 0..ends.len() {
+        feeder.switch(1000 + branch as u16, branch, OPERABLE | tie_from(sections, branch));
+    }
+    feeder
+}
+
+/// Ties lie behind so many branches.
+fn tie_from(sections: usize, branch: usize) -> u8 {
+    if branch < sections {
+        0
+    } else {
+        TIE
+    }
+}
+
+/// Buses and branches, with loads and resistances that are no round numbers.
+fn unswitched(buses: u16, ends: &[(u16, u16)], base_mva: f64) -> Feeder {
     let mut feeder = Feeder { base_mva, method: 0, iterations: 100, ..Feeder::default() };
     for bus in 1..=buses {
         feeder.bus(bus, if bus == 1 { 0.0 } else { 0.05 + f64::from(bus * 37 % 101) / 300.0 });
     }
     for (branch, &(from, to)) in ends.iter().enumerate() {
         feeder.branch(from, to, 0.001 + (branch * 53 % 97) as f64 / 7000.0);
-        let tie = if branch < sections { 0 } else { TIE };
-        feeder.switch(1000 + branch as u16, branch, OPERABLE | tie);
     }
     feeder
 }

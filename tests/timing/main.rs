@@ -36,7 +36,7 @@ const WRITING: u8 = 5;
 const TREE: u64 = 65_535;
 
 /// Bytes that are enough for the moves of every plan, and for its pairs.
-const MOVES_LENGTH: usize = 4590;
+const MOVES_LENGTH: usize = 4608;
 
 const SAMPLES: usize = 15;
 const SAMPLE: Duration = Duration::from_millis(40);
@@ -173,21 +173,23 @@ fn row_with_supply((place, timed, most): &(&str, Timed, f64)) -> Beside {
 }
 
 /// Two lines of the table, through the library for controllers, so that the reading of the text is in both: a plan, and the same plan cut off after half of its moves.
-/// As many remain as it has pairs. They are sampled in turn; the Rust has neither.
+/// The pairs and the moves are the reckoning's. They are sampled in turn; the Rust has neither.
 fn rows_of_a_cut(timed: &Timed) {
     let text = timed.feeder.text();
+    let network = reckoning::reader::read(&text).expect("the feeder is acceptable");
     let states = [&timed.first[..], &timed.second[..]];
-    let plan = |i: usize, out: &mut [u8]| library::plan(&text, states[i], states[1 - i], out).value;
-    let pairs = [0, 1].map(|i| plan(i, &mut [0; MOVES_LENGTH]));
+    let reckoned = [0, 1].map(|i| reckoning::plan::plan(&network, states[i], states[1 - i], usize::MAX).expect("there is a plan"));
+    let moves = [0, 1].map(|i| reckoned[i].iter().map(|pair| pair.moves() as u64).sum::<u64>());
     let plans = |times| {
         let mut out = [0; MOVES_LENGTH];
-        in_turn(times, |i| plan(i, &mut out))
+        in_turn(times, |i| library::plan(&text, states[i], states[1 - i], &mut out).value)
     };
     let cuts = |times| {
         let (mut remaining, mut back) = ([0; MOVES_LENGTH], [0; MOVES_LENGTH]);
-        in_turn(times, |i| library::resume(&text, states[i], states[1 - i], pairs[i], &mut remaining, &mut back).value)
+        in_turn(times, |i| library::resume(&text, states[i], states[1 - i], moves[i] / 2, &mut remaining, &mut back).value)
     };
-    assert_eq!(plans(2), cuts(2), "{}: half of the moves remain", timed.name);
+    assert_eq!(plans(2), in_turn(2, |i| reckoned[i].len() as u64), "{}: a line for each pair", timed.name);
+    assert_eq!(cuts(2), in_turn(2, |i| moves[i] - moves[i] / 2), "{}: half of the moves remain", timed.name);
     let (plan, resumed) = Sampled::new(plans).least(Some(Sampled::new(cuts)));
     println!("| plan, with the reading | {} | none | {} |  |", timed.name, shown(plan));
     println!("| resuming in its middle, with the reading | {} | none | {} |  |", timed.name, shown(resumed.expect("both are sampled")));

@@ -1,6 +1,6 @@
 -- What the calls below answer for a checked network with its base and its best state, and how their bytes stand one behind the other.
 use mathlib.Core.Path.{_≡_, refl, sym, ap, _∙_}
-use mathlib.Core.Bool.{Bool, true, false, cond}
+use mathlib.Core.Bool.{Bool, true, false}
 use mathlib.Core.List.{List, [], _++_}
 use Prim.Native.Nat.{ℕ, _+_, _-_, _*_, _≤_, _<_}
 use native.Mathlib.Omega.{arith}
@@ -17,19 +17,17 @@ use Rattle.states.specs.Live.{baseState, checkState}
 use Rattle.states.specs.Listed.{state-accepted, switches-listed, few-switches}
 use Rattle.slices.specs.Written.{written}
 use Rattle.slices.specs.WrittenLaws.{written-sets, take-written, sets-append, sets-part}
-use Rattle.printing.specs.Lengths.{resultLength, operationLength, pairLength, operationsLength, planLength}
+use Rattle.printing.specs.Lengths.{resultLength, operationLength, operationsLength, planLength}
 use Rattle.printing.specs.Calls.{Call, called}
 use Rattle.printing.specs.CallLaws.{call-refused, call-short, call-done, call-is}
 use Rattle.network.specs.Check.{checkRecords}
 use Rattle.feeders.specs.Supply.{checkNetwork}
 use Rattle.feeders.specs.SupplyLaws.{network-records}
 use Rattle.feeders.specs.Feeder.{radialIn}
-use Rattle.plan.specs.declared.planner.PlanAnswer.{PlanAnswer}
-use Rattle.plan.specs.declared.planner.PlanAnswer.the-variants as plans
 use Rattle.feeders.specs.StateCalls.{checkRadial}
 use Rattle.changes.specs.Change.{checkPlan}
-use Rattle.plan.specs.Plan.{plan, planText, planned, planAnswerOf}
-use Rattle.plan.specs.Length as PlanLength
+use Rattle.plan.specs.Plan.{plan, planText, planned, lengthBeside, plannedLength}
+use Rattle.plan.specs.Length.{plan-fits}
 use Rattle.operations.specs.declared.operations.OperationsAnswer.{OperationsAnswer}
 use Rattle.operations.specs.declared.operations.OperationsAnswer.the-variants as lists
 use Rattle.searches.specs.declared.answer.ReconfigResult.{ReconfigResult}
@@ -42,17 +40,13 @@ use Rattle.operations.specs.Operations.{operations, operationsText, operationsC
 use Rattle.operations.specs.OperationLines as Operations
 use Rattle.answers.specs.Printing.{resultLines, operationLines, planLines, moveLines, networkText}
 use Rattle.answers.specs.PrintingValues.{HasBits}
-use Rattle.answers.specs.PrintingLaws.{length-result-lines, operations-short, plan-short, base-bits, best-bits, reduction-bits}
+use Rattle.answers.specs.PrintingLaws.{length-result-lines, operations-short, base-bits, best-bits, reduction-bits}
 
 -- ---- accepted calls
 -- the bytes of the lines that are answered
 abbrev pub operationBytes : OperationsAnswer → ℕ
 operationBytes (lists.Operations count) = operationLength * count
 operationBytes (lists.Refused number place) = 0
-
-abbrev pub planBytes : PlanAnswer → ℕ
-planBytes (plans.Pairs count) = pairLength * count
-planBytes (plans.Refused number place) = 0
 
 module _ (n : PowerNetwork) (ok : checkNetwork (recordsOf n) ≡ accepted tt) (out : List ℕ) where
   abbrev N : Network
@@ -79,37 +73,35 @@ module _ (n : PowerNetwork) (ok : checkNetwork (recordsOf n) ≡ accepted tt) (o
   unfolding checkPlan _andThen_ checkRadial judge
   not-planned r = rw (ok, state-accepted N (baseState N) 0 .1 (base-good N), state-accepted N (best N .state) 1 .1 (best-good N), r)
 
-  pub plan-printed : planLength ≤ length out → (a : PlanAnswer) {after : List ℕ} {present wanted : List ℕ} → present ≡ baseState N → wanted ≡ best N .state
-      → record { answer = planAnswerOf a; out = after } ≡ planned N present wanted out → (planBytes a ≡ length (planLines N)) × (after ≡ written (planLines N) out)
-  plan-printed room a {after} p w e = go (radialIn N (baseState N)) refl (rw (p, w) at e)
+  plan-long : {c : Call ℕ} → planned N (baseState N) (best N .state) out ≡ c → plannedLength N (baseState N) (best N .state) out ≡ lengthBeside (c .answer) (plan N (baseState N) (best N .state))
+  unfolding plannedLength
+  plan-long e = ap (λ (x : Call ℕ). lengthBeside (x .answer) (plan N (baseState N) (best N .state))) e
+
+  -- from a radial base the plan's lines, else nothing, and how many bytes
+  plan-done : planLength ≤ length out → (plannedLength N (baseState N) (best N .state) out ≡ length (planLines N)) × (planned N (baseState N) (best N .state) out .out ≡ written (planLines N) out)
+  plan-done room = go (radialIn N (baseState N)) refl
     where
-      pairs : (b : PlanAnswer) → planAnswerOf b ≡ accepted (length (plan N (baseState N) (best N .state))) → planBytes b ≡ length (planText (plan N (baseState N) (best N .state)))
-      pairs (plans.Pairs count) q = ap (λ (k : ℕ). pairLength * k) (same-value q) ∙ sym (PlanLength.length-text (plan N (baseState N) (best N .state)))
-      pairs (plans.Refused number place) q = no-refusal q
-
-      none : (b : PlanAnswer) → planAnswerOf b ≡ refused 11 0 → planBytes b ≡ 0
-      none (plans.Pairs count) q = no-refusal (sym q)
-      none (plans.Refused number place) q = refl
-
-      lines : (b : Bool) → radialIn N (baseState N) ≡ b → planLines N ≡ cond b (planText (plan N (baseState N) (best N .state))) []
-      lines b r = unfold planLines in rw r
-
-      go : (b : Bool) → radialIn N (baseState N) ≡ b → record { answer = planAnswerOf a; out = after } ≡ planned N (baseState N) (best N .state) out
-          → (planBytes a ≡ length (planLines N)) × (after ≡ written (planLines N) out)
-      go true r q =
-          let short = plan-short N ok in
-          let same = lines true r in
+      go : (b : Bool) → radialIn N (baseState N) ≡ b
+          → (plannedLength N (baseState N) (best N .state) out ≡ length (planLines N)) × (planned N (baseState N) (best N .state) out .out ≡ written (planLines N) out)
+      go true r =
           let moves = plan N (baseState N) (best N .state) in
-          let fits : length (planText moves) ≤ planLength = rw same at short in
-          let made : record { answer = planAnswerOf a; out = after } ≡ called (checkPlan N (baseState N) (best N .state)) (length moves) (planText moves) out = unfold planned in q in
-          let c = call-is (length moves) (planText moves) out (solve-plan-accepted N ok r) (omega arith) made in
-          rw same (pairs a (ap (λ (x : Call ℕ). x .answer) c), ap (λ (x : Call ℕ). x .out) c)
-      go false r q =
-          let same = lines false r in
+          let passed = solve-plan-accepted N ok r in
+          let fits = plan-fits N (baseState N) (best N .state) passed in
+          let same : planLines N ≡ planText moves = unfold planLines in rw r in
+          let done : planned N (baseState N) (best N .state) out ≡ record { answer = accepted (length moves); out = written (planText moves) out } = unfold planned in call-is (length moves) (planText moves) out passed (omega arith) refl in
+          rw same (plan-long done, ap (λ (c : Call ℕ). c .out) done)
+      go false r =
           let moves = plan N (baseState N) (best N .state) in
-          let refusal : record { answer = refused 11 0; out = out } ≡ planned N (baseState N) (best N .state) out = unfold planned in call-refused (length moves) (planText moves) out (not-planned r) in
-          let c = q ∙ sym refusal in
-          rw same (none a (ap (λ (x : Call ℕ). x .answer) c), ap (λ (x : Call ℕ). x .out) c ∙ sym (written-sets [] out (omega arith)))
+          let same : planLines N ≡ [] = unfold planLines in rw r in
+          let done : planned N (baseState N) (best N .state) out ≡ record { answer = refused 11 0; out = out } = unfold planned in sym (call-refused (length moves) (planText moves) out (not-planned r)) in
+          rw same (plan-long done, ap (λ (c : Call ℕ). c .out) done ∙ sym (written-sets [] out (omega arith)))
+
+  pub plan-printed : planLength ≤ length out → {a : Answer ℕ} {after : List ℕ} {bytes : ℕ} {present wanted : List ℕ} → present ≡ baseState N → wanted ≡ best N .state
+      → (record { answer = a; out = after } ≡ planned N present wanted out) × (bytes ≡ plannedLength N present wanted out)
+      → (bytes ≡ length (planLines N)) × (after ≡ written (planLines N) out)
+  plan-printed room p w e =
+      let done = plan-done room in
+      ((rw (p, w) at (e .1)) ∙ done .0, ap (λ (c : Call ℕ). c .out) (rw (p, w) at (e .0)) ∙ done .1)
 
 -- ---- the search
 module _ (n : PowerNetwork) (ok : checkNetwork (recordsOf n) ≡ accepted tt) (space : List ℕ) (room : length space ≡ 512) where

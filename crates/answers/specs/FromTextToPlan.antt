@@ -45,11 +45,11 @@ module _ (N : Network) where
 
   -- what the bytes say that are printed for the feeder N
   pub record FromTextToPlan (bytes : List ℕ) : Type 0 where
-    -- from a radial base the 83 lines, in their order, are exactly the planner's pairs from the base to the best state
+    -- from a radial base the 86 lines, in their order, are exactly the planner's pairs from the base to the best state
     pub pairs : radialIn N base ≡ true → pairsIn bytes ≡ plan N base wanted
     -- and all of demand 3 holds of these: radial after every list of steps, no locked switch moved, and the rest of `SwitchingPlan`
     pub safe : radialIn N base ≡ true → SwitchingPlan N base wanted
-    -- from a base that is not radial there is no 83 line
+    -- from a base that is not radial there is no 86 line
     pub no-pairs : radialIn N base ≡ false → pairsIn bytes ≡ []
     -- radial means that the live branches connect all buses without a loop
     pub radial : (radialIn N base ≡ true) ↔ Tree (feeder N) (LiveIn N base)
@@ -64,7 +64,7 @@ module _ (N : Network) where
     -- so that a switch is named, and opened, exactly where it is closed in the base and open in the best state; and closed the other way round
     pub moved : (o : SwitchOperation) → List·Memᴰ o (operationsIn bytes)
         ↔ ((i : ℕ) × (i < size N) × (o .«switch_id» ≡ switch N i .id) × Done (o .action) (byte base i) (byte wanted i))
-    -- and nothing else stands there: the search's 81 line, its 84 line, then these 82 lines, then these 83 lines, each as the documents write it
+    -- and nothing else stands there: the search's 81 line, its 84 line, then these 82 lines, then these 86 lines, each as the documents write it
     pub whole : bytes ≡ resultLines (result N) ++ (operationsText (operationsIn bytes) ++ planText (pairsIn bytes))
 
 pub record MainStatement : Type 0 where

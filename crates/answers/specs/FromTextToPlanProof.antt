@@ -1,6 +1,6 @@
 -- The main statement, proved: what the call writes is what is printed for the text (`text-printed`), and that is the text of its records (`network-printed`); its lines are
 -- those of the result, of the operations and of the pairs (`network-lines`); each kind is read back as it was written, for the ids of a text's records have four digits
--- (`switch-short`).
+-- (`switch-short`) and a pair has at most two of a branch (`few-open`).
 use mathlib.Core.Path.{_≡_, refl, sym, ap, ap₂, subst, _∙_}
 use mathlib.Core.Logic.{_≢_}
 use mathlib.Core.Bool.{Bool, true, false, not, cond}
@@ -9,18 +9,20 @@ use Prim.Native.Nat.{ℕ, zero, suc, _≤_, _<_}
 use native.Mathlib.Omega.{arith}
 use lib.Dec.{eqb, lit<}
 use lib.Ieee.{binary64, toBits}
-use lib.ListN.{length, take, drop}
+use lib.ListN.{length, take, drop, length-map}
 use lib.Seq.{take-append-seam, drop-append-seam}
 use borrow.Author.Tests.{eq-eqb, not-true}
 use Rattle.numbers.specs.Choose.{those}
-use Rattle.numbers.specs.ChooseLaws.{in-those, of-those}
+use Rattle.numbers.specs.ChooseLaws.{in-those, of-those, those-long}
 use Rattle.numbers.specs.Tests.{clash}
 use Rattle.network.specs.Records.{Network, noSwitch}
 use Rattle.network.specs.Answers.{Answer, accepted, refused}
 use Rattle.network.specs.AnswerLaws.{no-refusal}
 use Rattle.network.specs.Inside.{Each}
+use Rattle.network.specs.InsideLaws.{check-inside}
 use Rattle.network.specs.EachLaws.{each-anywhere, each-if, each-made, map-kept}
 use Rattle.states.specs.Switches.{State, byte, size, switch, GoodState}
+use Rattle.states.specs.OpenCounts.{openAt, openCount, two-open}
 use Rattle.graph.specs.declared.form.Form.{Form}
 use Rattle.graph.specs.declared.form.FormFields.{FormFields}
 use Rattle.graph.specs.Form.{isTree, islandsField, branchField, fieldsOf}
@@ -29,18 +31,18 @@ use Rattle.lines.specs.Lines.{Line, cut}
 use Rattle.frames.specs.Text.{readText}
 use Rattle.frames.specs.Conditions.{judgementOf}
 use Rattle.frames.specs.Acceptable.{Short, SwitchRoom, Writable}
-use Rattle.frames.specs.LineLaws.{lineOf, cut-frame, cut-frames}
+use Rattle.frames.specs.LineLaws.{lineOf, cut-frame, cut-each, cut-frames}
 use Rattle.frames.specs.Proof.{claim, passed}
 use Rattle.printing.specs.declared.writer.SwitchAction.{SwitchAction}
 use Rattle.printing.specs.declared.writer.SwitchAction.the-variants.{Open, Close}
 use Rattle.printing.specs.declared.writer.SwitchOperation.{SwitchOperation}
-use Rattle.printing.specs.Printed.{answer, answerFields, answerText, formFrame, formFields, formText, operation, operationFields, operationText, pair, pairFields, pairText}
+use Rattle.printing.specs.Printed.{answer, answerFields, answerText, formFrame, formFields, formText, operation, operationFields, operationText, pairText}
 use Rattle.printing.specs.CallLaws.{call-answered}
 use Rattle.feeders.specs.Supply.{checkNetwork}
 use Rattle.feeders.specs.SupplyLaws.{network-records}
 use Rattle.feeders.specs.Feeder.{radialIn}
 use Rattle.feeders.specs.FeederLaws.{radial-in-tree, form-in-says, form-in-small}
-use Rattle.plan.specs.Plan.{pairs, Moves, movesOf, switchOn, plan, planText}
+use Rattle.plan.specs.Plan.{pairs, Moves, openSwitches, idOf, movesOf, plan, planText}
 use Rattle.states.specs.BaseLaws.{base-good}
 use Rattle.searches.specs.Results.{Result, resultBy}
 use Rattle.reconfiguration.specs.Solve.{result}
@@ -51,7 +53,7 @@ use Rattle.operations.specs.OperationLines.{by-position}
 use Rattle.answers.specs.declared.printer.TextAnswer.the-variants.{Printed}
 use Rattle.answers.specs.Printing.{resultText, resultLines, operationLines, planLines, moveLines, networkText, printedOf, printed, answeredText, textAnswerOf}
 use Rattle.answers.specs.ReadBack.{ofKind, readForm, formsIn, readOperation, operationsIn, readPair, pairsIn}
-use Rattle.answers.specs.ReadBackLaws.{own-kind, other-kind, answer-kind, form-kind, operation-kind, pair-kind, form-kept, operation-kept, pair-kept}
+use Rattle.answers.specs.ReadBackLaws.{own-kind, other-kind, answer-kind, form-kind, operation-kind, form-kept, operation-kept, pairLine, pair-kind, cut-pair, Named, pair-kept}
 use Rattle.answers.specs.Full.{always-printed}
 use Rattle.answers.specs.FromTextToPlan.{Done, base, wanted, FromTextToPlan, MainStatement}
 
@@ -86,29 +88,22 @@ formLine f = lineOf formFrame (formFields f)
 abbrev operationLine : SwitchOperation → Line
 operationLine o = lineOf operation (operationFields o)
 
-abbrev pairLine : Moves → Line
-pairLine m = lineOf pair (pairFields (m .closes) (m .opens))
-
--- two ids of four digits
-abbrev Named : Moves → Type 0
-Named m = Short (m .closes) × Short (m .opens)
-
--- the 81 line, the 84 line, the 82 lines and the 83 lines
+-- the 81 line, the 84 line, the 82 lines and the 86 lines
 linesText : Result → List SwitchOperation → List Moves → List ℕ
 linesText r os ms = resultLines r ++ (operationsText os ++ planText ms)
 
 module _ (r : Result) (os : List SwitchOperation) (ms : List Moves) where
-  abbrev lines83 : List Line
-  lines83 = map pairLine ms ++ []
+  abbrev lines86 : List Line
+  lines86 = map pairLine ms ++ []
 
   abbrev lines82 : List Line
-  lines82 = map operationLine os ++ lines83
+  lines82 = map operationLine os ++ lines86
 
   abbrev lines84 : List Line
   lines84 = map formLine (r .form ∷ []) ++ lines82
 
   lines-cut : cut (linesText r os ms) ≡ map answerLine (r ∷ []) ++ lines84
-  unfolding linesText resultLines resultText answerText formText operationsText operationText planText pairText cut
+  unfolding linesText resultLines resultText answerText formText operationsText operationText planText cut
   lines-cut =
       ap cut (append-assoc (resultText r) (formText (r .form)) (operationsText os ++ planText ms))
       ∙ cut-frame answer (resultFields r) (formText (r .form) ++ (operationsText os ++ planText ms))
@@ -116,17 +111,17 @@ module _ (r : Result) (os : List SwitchOperation) (ms : List Moves) where
       (cut-frame formFrame (formFields (r .form)) (operationsText os ++ planText ms)
       ∙ ap (λ (ls : List Line). formLine (r .form) ∷ ls)
       (cut-frames operation operationFields os (planText ms)
-      ∙ ap (λ (ls : List Line). map operationLine os ++ ls) (ap cut (sym (append-nil (planText ms))) ∙ cut-frames pair (λ (m : Moves). pairFields (m .closes) (m .opens)) ms [])))
+      ∙ ap (λ (ls : List Line). map operationLine os ++ ls) (ap cut (sym (append-nil (planText ms))) ∙ cut-each (λ (m : Moves). pairText (m .closes) (m .opens)) pairLine cut-pair ms [])))
 
   -- ---- read back
   pairs-back : Each Named ms → pairsIn (linesText r os ms) ≡ ms
   unfolding pairsIn ofKind
   pairs-back named =
-      ap (ofKind 0x83 readPair) lines-cut
-      ∙ other-kind 0x83 readPair answerLine (λ x e. omega (arith, answer-kind (resultFields x))) (r ∷ []) lines84
-      ∙ other-kind 0x83 readPair formLine (λ f e. omega (arith, form-kind (formFields f))) (r .form ∷ []) lines82
-      ∙ other-kind 0x83 readPair operationLine (λ o e. omega (arith, operation-kind (operationFields o))) os lines83
-      ∙ own-kind 0x83 readPair pairLine (λ m. pair-kind (pairFields (m .closes) (m .opens))) ms []
+      ap (ofKind 0x86 readPair) lines-cut
+      ∙ other-kind 0x86 readPair answerLine (λ x e. omega (arith, answer-kind (resultFields x))) (r ∷ []) lines84
+      ∙ other-kind 0x86 readPair formLine (λ f e. omega (arith, form-kind (formFields f))) (r .form ∷ []) lines82
+      ∙ other-kind 0x86 readPair operationLine (λ o e. omega (arith, operation-kind (operationFields o))) os lines86
+      ∙ own-kind 0x86 readPair pairLine pair-kind ms []
       ∙ append-nil _
       ∙ map-kept Named (λ m. readPair (pairLine m .chars)) pair-kept ms named
 
@@ -137,8 +132,8 @@ module _ (r : Result) (os : List SwitchOperation) (ms : List Moves) where
       ∙ other-kind 0x84 readForm answerLine (λ x e. omega (arith, answer-kind (resultFields x))) (r ∷ []) lines84
       ∙ own-kind 0x84 readForm formLine (λ f. form-kind (formFields f)) (r .form ∷ []) lines82
       ∙ ap (λ (l : List FormFields). readForm (formLine (r .form) .chars) ∷ l)
-      (other-kind 0x84 readForm operationLine (λ o e. omega (arith, operation-kind (operationFields o))) os lines83
-      ∙ other-kind 0x84 readForm pairLine (λ m e. omega (arith, pair-kind (pairFields (m .closes) (m .opens)))) ms [])
+      (other-kind 0x84 readForm operationLine (λ o e. omega (arith, operation-kind (operationFields o))) os lines86
+      ∙ other-kind 0x84 readForm pairLine (λ m e. omega (arith, pair-kind m)) ms [])
       ∙ ap (λ (x : FormFields). x ∷ []) (form-kept (r .form) short)
 
   operations-back : Each (λ o. Short (o .«switch_id»)) os → operationsIn (linesText r os ms) ≡ os
@@ -147,8 +142,8 @@ module _ (r : Result) (os : List SwitchOperation) (ms : List Moves) where
       ap (ofKind 0x82 readOperation) lines-cut
       ∙ other-kind 0x82 readOperation answerLine (λ x e. omega (arith, answer-kind (resultFields x))) (r ∷ []) lines84
       ∙ other-kind 0x82 readOperation formLine (λ f e. omega (arith, form-kind (formFields f))) (r .form ∷ []) lines82
-      ∙ own-kind 0x82 readOperation operationLine (λ o. operation-kind (operationFields o)) os lines83
-      ∙ ap (λ (l : List SwitchOperation). map (λ o. readOperation (operationLine o .chars)) os ++ l) (other-kind 0x82 readOperation pairLine (λ m e. omega (arith, pair-kind (pairFields (m .closes) (m .opens)))) ms [])
+      ∙ own-kind 0x82 readOperation operationLine (λ o. operation-kind (operationFields o)) os lines86
+      ∙ ap (λ (l : List SwitchOperation). map (λ o. readOperation (operationLine o .chars)) os ++ l) (other-kind 0x82 readOperation pairLine (λ m e. omega (arith, pair-kind m)) ms [])
       ∙ append-nil _
       ∙ map-kept (λ o. Short (o .«switch_id»)) (λ o. readOperation (operationLine o .chars)) operation-kept os named
 
@@ -211,12 +206,25 @@ module _ (N : Network) where
     switch-short : (i : ℕ) → Short (switch N i .id)
     switch-short i = each-anywhere SwitchRoom (N .switches) noSwitch (w .switch-room) (lit< tt, lit< tt) i .0
 
-    pairs-read : pairsIn (networkText N) ≡ pairsPrinted
-    unfolding plan switchOn
-    pairs-read =
-        ap pairsIn network-lines
-        ∙ pairs-back (result N) (operations N (base N) (wanted N)) pairsPrinted
-        (each-if Named (radialIn N (base N)) (plan N (base N) (wanted N)) (each-made Named (movesOf N) (λ q. (switch-short _, switch-short _)) (pairs N (base N) (wanted N))))
+    -- and their numbers two: "A branch may have two switches"
+    module _ (ok : checkNetwork N ≡ accepted tt) where
+      few-open : (s : State) (k : ℕ) → length (map (idOf N) (openSwitches N s k)) < 256
+      unfolding openSwitches openCount
+      few-open s k =
+          let two = two-open N (check-inside N .0 (network-records N ok)) s k in
+          omega (arith, length-map (openSwitches N s k) (idOf N), those-long (openAt N s k) (size N), two)
+
+      pairs-named : Each Named (plan N (base N) (wanted N))
+      unfolding plan
+      pairs-named =
+          each-made Named (movesOf N (base N) (wanted N))
+          (λ q. (each-made Short (idOf N) switch-short (openSwitches N (base N) (q .closed)), each-made Short (idOf N) switch-short (openSwitches N (wanted N) (q .opened)), few-open (base N) (q .closed), few-open (wanted N) (q .opened)))
+          (pairs N (base N) (wanted N))
+
+      pairs-read : pairsIn (networkText N) ≡ pairsPrinted
+      pairs-read =
+          ap pairsIn network-lines
+          ∙ pairs-back (result N) (operations N (base N) (wanted N)) pairsPrinted (each-if Named (radialIn N (base N)) (plan N (base N) (wanted N)) pairs-named)
 
     operations-named : Each (λ o. Short (o .«switch_id»)) (operations N (base N) (wanted N))
     unfolding operationTo
@@ -231,16 +239,16 @@ module _ (N : Network) where
 
     network-read : checkNetwork N ≡ accepted tt → FromTextToPlan N (networkText N)
     network-read ok = record {
-      pairs = λ r. pairs-read ∙ rw r;
+      pairs = λ r. pairs-read ok ∙ rw r;
       safe = solve-has-plan N ok;
-      no-pairs = λ r. pairs-read ∙ rw r;
+      no-pairs = λ r. pairs-read ok ∙ rw r;
       radial = radial-in-tree N (network-records N ok) (base N);
       form = unfold result resultBy in form-read ok;
       meaning = form-in-says N (network-records N ok) (wanted N);
       moves = operations-read;
       in-order = operations-read ∙ by-position N (base N) (wanted N);
       moved = λ o. rw (operations-read, by-position N (base N) (wanted N)) (moved-so N (base N) (wanted N) (base-good N) (best-good N) o, moved-if N (base N) (wanted N) (base-good N) (best-good N) o);
-      whole = network-lines ∙ rw (pairs-read, operations-read) (unfold linesText in refl);
+      whole = network-lines ∙ rw (pairs-read ok, operations-read) (unfold linesText in refl);
     }
 
 text-read : (text : List ℕ) (N : Network) → readText text ≡ accepted N → FromTextToPlan N (printed text)

@@ -16,7 +16,7 @@ use Rattle.lines.specs.Lines.{cut}
 use Rattle.frames.specs.Acceptable.{Acceptable}
 use Rattle.frames.specs.Conditions.{conditions, judgeLines}
 use Rattle.frames.specs.Proof.{claim}
-use Rattle.printing.specs.Lengths.{operationLength, pairLength, movesLength, printedLength}
+use Rattle.printing.specs.Lengths.{operationLength, planLength, movesLength, printedLength}
 use Rattle.printing.specs.CallLaws.{call-refused, in-full}
 use Rattle.graph.specs.Graph.{Tree}
 use Rattle.feeders.specs.Feeder.{feeder, LiveIn, formIn, radialIn}
@@ -35,7 +35,7 @@ use Rattle.states.specs.Switches.{State, GoodState}
 use Rattle.plan.specs.Plannable.{Free}
 use Rattle.states.specs.Listed.{state-accepted}
 use Rattle.plan.specs.Accepted.{plan-accepted}
-use Rattle.plan.specs.Length as PlanLength
+use Rattle.plan.specs.Length.{plan-fits}
 use Rattle.resumption.specs.Resume.{movesOfPlan, resumed, fullAnswer}
 use Rattle.resumption.specs.ResumeLaws.{resumed-with-room, moves-fit}
 use Rattle.searches.specs.Results.{resultBy, solvedBy}
@@ -100,11 +100,15 @@ module _ (N : Network) (inside : Inside N) (supplied : Supplied N) where
     -- `plan`, between radial states whose switches that must move are operable: a line for each pair
     pub planned-in-full : (out : List ℕ)
         → let moves = plan N present wanted in
-        pairLength * length moves ≤ length out → planned N present wanted out ≡ record { answer = accepted (length moves); out = planText moves ++ drop (pairLength * length moves) out }
+        length (planText moves) ≤ length out → planned N present wanted out ≡ record { answer = accepted (length moves); out = planText moves ++ drop (length (planText moves)) out }
     unfolding planned
-    planned-in-full out room =
-        let moves = plan N present wanted in
-        in-full (length moves) (planText moves) out planner-accepts (rw (PlanLength.length-text moves) room) ∙ rw (PlanLength.length-text moves)
+    planned-in-full out room = let moves = plan N present wanted in in-full (length moves) (planText moves) out planner-accepts room
+
+    -- and `planLength` bytes are room for every plan
+    pub always-planned : (out : List ℕ) → planLength ≤ length out
+        → let moves = plan N present wanted in
+        planned N present wanted out ≡ record { answer = accepted (length moves); out = planText moves ++ drop (length (planText moves)) out }
+    always-planned out room = planned-in-full out (omega (arith, plan-fits N present wanted planner-accepts))
 
     -- `resume`, between such states at every number of moves that the plan has: a line for each move that remains, and one for each that goes back
     pub resumed-in-full : (count : ℕ) (remaining back : List ℕ)

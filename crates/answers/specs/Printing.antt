@@ -1,4 +1,4 @@
--- What is printed for a text (document 01, section Triangle; the 84 line by document 02, point 5).
+-- What is printed for a text (document 01, section Triangle; the lines 84 and 86 by document 02, points 5 and 6).
 use mathlib.Core.Bool.{cond}
 use mathlib.Core.List.{List, [], _++_}
 use Prim.Native.Nat.{ℕ}
@@ -32,7 +32,7 @@ resultLines r = resultText r ++ formText (r .form)
 unfoldable pub operationLines : Network → List ℕ
 operationLines N = operationsText (operations N (baseState N) (best N .state))
 
--- the 83 lines, "only for a radial base"
+-- the 86 lines, "only for a radial base"
 unfoldable pub planLines : Network → List ℕ
 planLines N = cond (radialIn N (baseState N)) (planText (plan N (baseState N) (best N .state))) []
 

@@ -31,7 +31,7 @@ use Rattle.losses.specs.Loss.{lossIn}
 use Rattle.losses.specs.Accepted.{accepted-loss-within}
 use Rattle.losses.specs.PercentLaws.{percent-within}
 use Rattle.plan.specs.Plan.{plan, planText}
-use Rattle.plan.specs.Length as PlanLength
+use Rattle.plan.specs.Length.{plan-fits}
 use Rattle.searches.specs.Results.{Result, reduction, resultBy}
 use Rattle.reconfiguration.specs.Solve.{result, best}
 use Rattle.reconfiguration.specs.AnswersHavePlans.{solve-plan-accepted}
@@ -78,15 +78,13 @@ module _ (N : Network) (ok : checkRecords N ≡ accepted tt) where
       go false e = unfold ofBits isNan in tt
 
 module _ (N : Network) (tested : checkNetwork N ≡ accepted tt) where
-  -- a pair for each bus but one at most
+  -- a pair for each bus but one and a move for each switch, at most
   pub plan-short : length (planLines N) ≤ planLength
   unfolding planLines
   plan-short = go (radialIn N (baseState N)) refl
     where
       go : (b : Bool) → radialIn N (baseState N) ≡ b → length (cond b (planText (plan N (baseState N) (best N .state))) []) ≤ planLength
-      go true e =
-          let few = check-inside N .0 (network-records N tested) .counts in
-          omega (arith, few .0, PlanLength.length-text (plan N (baseState N) (best N .state)), PlanLength.plan-short N (baseState N) (best N .state) (solve-plan-accepted N tested e))
+      go true e = plan-fits N (baseState N) (best N .state) (solve-plan-accepted N tested e)
       go false e = omega arith
 
   pub network-short : length (networkText N) ≤ printedLength

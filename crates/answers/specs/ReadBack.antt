@@ -2,7 +2,7 @@
 -- A line with more characters, or without its line feed, is read all the same: `FromTextToPlan.whole` says that there is none.
 use mathlib.Core.Bool.{cond}
 use mathlib.Core.List.{List, [], _∷_}
-use Prim.Native.Nat.{ℕ}
+use Prim.Native.Nat.{ℕ, zero, suc, _+_, _*_}
 use lib.Dec.{eqb}
 use Rattle.lines.specs.Hex.{numberAt}
 use Rattle.lines.specs.Lines.{Line, cut}
@@ -40,10 +40,19 @@ readOperation chars = record { «switch_id» = numberAt 2 4 chars; action = read
 unfoldable pub operationsIn : List ℕ → List SwitchOperation
 operationsIn bytes = ofKind 0x82 readOperation (cut bytes)
 
--- ---- 83: "id closed, id opened", four digits each behind the kind byte
-unfoldable pub readPair : List ℕ → Moves
-readPair chars = record { closes = numberAt 2 4 chars; opens = numberAt 6 4 chars }
+-- ---- 86: "a count byte, the closed ids, a count byte, the opened ids, each id u16, in list order": two digits, four for each closed id, two, four for each opened id
+-- so many ids from `at` on
+unfoldable pub idsAt : ℕ → ℕ → List ℕ → List ℕ
+idsAt at zero chars = []
+idsAt at (suc count) chars = numberAt at 4 chars ∷ idsAt (at + 4) count chars
 
--- what the 83 lines say
+unfoldable pub readPair : List ℕ → Moves
+readPair chars =
+    let closed = numberAt 2 2 chars in
+    let behind = 4 + 4 * closed in
+    let opened = numberAt behind 2 chars in
+    record { closes = idsAt 4 closed chars; opens = idsAt (behind + 2) opened chars }
+
+-- what the 86 lines say
 unfoldable pub pairsIn : List ℕ → List Moves
-pairsIn bytes = ofKind 0x83 readPair (cut bytes)
+pairsIn bytes = ofKind 0x86 readPair (cut bytes)

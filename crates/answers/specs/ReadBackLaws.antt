@@ -1,15 +1,20 @@
 -- Laws of reading back: lines of other kinds give nothing, and what is read of a line of a kind is what was written into it.
 use mathlib.Core.Path.{_≡_, refl, sym, ap, ap₂, _∙_}
 use mathlib.Core.Logic.{_≢_}
-use mathlib.Core.List.{List, [], _∷_, _++_, map}
-use Prim.Native.Nat.{ℕ, _^_, _<_}
-use lib.Dec.{lit<}
-use lib.ListN.{take, drop}
-use lib.Seq.{drop-drop}
+use mathlib.Core.Bool.{true}
+use mathlib.Core.List.{List, [], _∷_, _++_, map, flatMap, append-assoc, append-nil}
+use Prim.Native.Nat.{ℕ, _+_, _*_, _^_, _<_, _≤_, min}
+use native.Mathlib.Omega.{arith}
+use lib.Dec.{lit<, lit≤}
+use lib.ListN.{length, take, drop, length-append}
+use lib.Seq.{drop-drop, take-at, drop-at}
 use borrow.Author.Tests.{eq-eqb, ne-eqb}
+use Rattle.numbers.specs.Every.{every, every-append}
+use Rattle.network.specs.Inside.{Each}
 use Rattle.lines.specs.Hex.{isDigit, value, digit, number, numberAt, digits, Fields, readFields, writeFields}
-use Rattle.lines.specs.HexLaws.{fields-kept}
-use Rattle.lines.specs.Lines.{Line}
+use Rattle.lines.specs.HexLaws.{length-digits, number-digits, fields-kept}
+use Rattle.lines.specs.CutLaws.{noFeed, cut-ended, digits-written-no-feed}
+use Rattle.lines.specs.Lines.{Line, cut}
 use Rattle.lines.specs.Frames.{layout}
 use Rattle.graph.specs.declared.form.Form.{Form}
 use Rattle.graph.specs.Form.{islandsField, branchField, fieldsOf}
@@ -18,9 +23,10 @@ use Rattle.frames.specs.LineLaws.{lineOf}
 use Rattle.printing.specs.declared.writer.SwitchAction.{SwitchAction}
 use Rattle.printing.specs.declared.writer.SwitchAction.the-variants.{Open, Close}
 use Rattle.printing.specs.declared.writer.SwitchOperation.{SwitchOperation}
-use Rattle.printing.specs.Printed.{answer, formFrame, formFields, operation, actionByte, operationFields, pair, pairFields}
+use Rattle.printing.specs.Printed.{answer, formFrame, formFields, operation, actionByte, operationFields, idsText, pairText}
+use Rattle.printing.specs.LineTexts.{length-lines}
 use Rattle.plan.specs.Plan.{Moves}
-use Rattle.answers.specs.ReadBack.{kindOf, ofKind, readForm, readAction, readOperation, readPair}
+use Rattle.answers.specs.ReadBack.{kindOf, ofKind, readForm, readAction, readOperation, idsAt, readPair}
 
 -- ---- lines of the kind and of other kinds
 module _ {A B : Type 0} (kind : ℕ) (read : List ℕ → A) (line : B → Line) where
@@ -35,7 +41,7 @@ module _ {A B : Type 0} (kind : ℕ) (read : List ℕ → A) (line : B → Line)
   other-kind h [] rest = refl
   other-kind h (b ∷ l) rest = rw (ne-eqb (kindOf (line b)) kind (h b)) (other-kind h l rest)
 
--- the kind byte of each of the four kinds
+-- the kind byte of each kind with fields of fixed widths; the fourth, of a pair, is `pair-kind` below
 pub answer-kind : (f : Fields (answer .widths)) → kindOf (lineOf answer f) ≡ 0x81
 unfolding lineOf writeFields digits digit number value isDigit
 answer-kind f = refl
@@ -47,10 +53,6 @@ form-kind f = refl
 pub operation-kind : (f : Fields (operation .widths)) → kindOf (lineOf operation f) ≡ 0x82
 unfolding lineOf writeFields digits digit number value isDigit
 operation-kind f = refl
-
-pub pair-kind : (f : Fields (pair .widths)) → kindOf (lineOf pair f) ≡ 0x83
-unfolding lineOf writeFields digits digit number value isDigit
-pair-kind f = refl
 
 -- ---- what is read is what was written
 -- the second field begins behind four digits
@@ -90,8 +92,75 @@ form-kept f short =
     let kept = two-numbers 0x84 (lit< tt) (islandsField f) (branchField f) short in
     ap₂ (λ (x y : ℕ). record { islands = x; branch = y }) (kept .0) (kept .1)
 
-pub pair-kept : (m : Moves) → Short (m .closes) × Short (m .opens) → readPair (lineOf pair (pairFields (m .closes) (m .opens)) .chars) ≡ m
-unfolding readPair lineOf
-pair-kept m short =
-    let kept = two-numbers 0x83 (lit< tt) (m .closes) (m .opens) short in
-    ap₂ (λ (x y : ℕ). record { closes = x; opens = y }) (kept .0) (kept .1)
+-- ---- 86: lists of ids
+-- the characters of a pair's line
+abbrev pub pairChars : Moves → List ℕ
+pairChars m = digits 2 0x86 ++ (idsText (m .closes) ++ idsText (m .opens))
+
+abbrev pub pairLine : Moves → Line
+pairLine m = record { chars = pairChars m; ended = true }
+
+pub pair-kind : (m : Moves) → kindOf (pairLine m) ≡ 0x86
+unfolding digits digit number value isDigit
+pair-kind m = refl
+
+ids-no-feed : (ids : List ℕ) → every noFeed (flatMap (digits 4) ids) ≡ true
+unfolding flatMap every
+ids-no-feed [] = refl
+ids-no-feed (x ∷ ids) = every-append noFeed (digits 4 x) _ (digits-written-no-feed 4 x) (ids-no-feed ids)
+
+list-no-feed : (ids : List ℕ) → every noFeed (idsText ids) ≡ true
+list-no-feed ids = every-append noFeed (digits 2 (length ids)) _ (digits-written-no-feed 2 (length ids)) (ids-no-feed ids)
+
+pub cut-pair : (m : Moves) (rest : List ℕ) → cut (pairText (m .closes) (m .opens) ++ rest) ≡ pairLine m ∷ cut rest
+unfolding pairText
+cut-pair m rest =
+    let same : pairText (m .closes) (m .opens) ++ rest ≡ pairChars m ++ (10 ∷ rest) = simp append-assoc in
+    ap cut same
+    ∙ cut-ended (pairChars m) rest
+    (every-append noFeed (digits 2 0x86) _ (digits-written-no-feed 2 0x86) (every-append noFeed (idsText (m .closes)) _ (list-no-feed (m .closes)) (list-no-feed (m .opens))))
+
+-- a number of w digits behind others
+number-behind : (front : List ℕ) {at : ℕ} → length front ≡ at → (w n : ℕ) → w ≤ 16 → n < 16 ^ w → (rest : List ℕ) → numberAt at w (front ++ (digits w n ++ rest)) ≡ n
+number-behind front {at} long w n few small rest =
+    let all : min w 16 ≡ w = omega arith in
+    rw (all, drop-at front (digits w n ++ rest) at long, take-at (digits w n) rest w (length-digits w n), number-digits w n small)
+
+-- ids behind others
+ids-behind : (front : List ℕ) {at : ℕ} → length front ≡ at → (ids : List ℕ) → Each Short ids → (rest : List ℕ) → idsAt at (length ids) (front ++ (flatMap (digits 4) ids ++ rest)) ≡ ids
+unfolding idsAt flatMap
+ids-behind front long [] short rest = refl
+ids-behind front {at} long (x ∷ ids) short rest =
+    let more = flatMap (digits 4) ids ++ rest in
+    let here : front ++ ((digits 4 x ++ flatMap (digits 4) ids) ++ rest) ≡ front ++ (digits 4 x ++ more) = ap (λ (cs : List ℕ). front ++ cs) (append-assoc (digits 4 x) (flatMap (digits 4) ids) rest) in
+    let behind : front ++ (digits 4 x ++ more) ≡ (front ++ digits 4 x) ++ more = sym (append-assoc front (digits 4 x) more) in
+    let next : length (front ++ digits 4 x) ≡ at + 4 = length-append front (digits 4 x) ∙ rw (long, length-digits) in
+    ap₂ (λ (y : ℕ) (ys : List ℕ). y ∷ ys)
+    (ap (numberAt at 4) here ∙ number-behind front long 4 x (lit≤ tt) (short .0) more)
+    (ap (idsAt (at + 4) (length ids)) (here ∙ behind) ∙ ids-behind (front ++ digits 4 x) next ids (short .1) rest)
+
+-- ids of four digits, and counts of two
+abbrev pub Named : Moves → Type 0
+Named m = Each Short (m .closes) × Each Short (m .opens) × (length (m .closes) < 256) × (length (m .opens) < 256)
+
+pub pair-kept : (m : Moves) → Named m → readPair (pairChars m) ≡ m
+unfolding readPair
+pair-kept m (ids, others, few, fewer) =
+    let kind = digits 2 0x86 in
+    let count = digits 2 (length (m .closes)) in
+    let closed = flatMap (digits 4) (m .closes) in
+    let number = digits 2 (length (m .opens)) in
+    let opened = flatMap (digits 4) (m .opens) in
+    let chars = pairChars m in
+    let n = length (m .closes) in
+    let one : chars ≡ kind ++ (count ++ (closed ++ (number ++ opened))) = simp append-assoc in
+    let two : chars ≡ (kind ++ count) ++ (closed ++ (number ++ opened)) = simp append-assoc in
+    let three : chars ≡ ((kind ++ count) ++ closed) ++ (number ++ opened) = simp append-assoc in
+    let four : chars ≡ (((kind ++ count) ++ closed) ++ number) ++ (opened ++ []) = simp (append-assoc, append-nil) in
+    let long : length ((kind ++ count) ++ closed) ≡ 4 + 4 * n = simp (length-append, length-digits, length-lines (digits 4) 4 (length-digits 4) (m .closes)) in
+    let all : length (((kind ++ count) ++ closed) ++ number) ≡ 4 + 4 * n + 2 = length-append ((kind ++ count) ++ closed) number ∙ rw (long, length-digits) in
+    let first : numberAt 2 2 chars ≡ n = ap (numberAt 2 2) one ∙ number-behind kind (length-digits 2 0x86) 2 n (lit≤ tt) few (closed ++ (number ++ opened)) in
+    let second : numberAt (4 + 4 * n) 2 chars ≡ length (m .opens) = ap (numberAt (4 + 4 * n) 2) three ∙ number-behind ((kind ++ count) ++ closed) long 2 (length (m .opens)) (lit≤ tt) fewer opened in
+    let closes : idsAt 4 n chars ≡ m .closes = ap (idsAt 4 n) two ∙ ids-behind (kind ++ count) (simp (length-append, length-digits)) (m .closes) ids (number ++ opened) in
+    let opens : idsAt (4 + 4 * n + 2) (length (m .opens)) chars ≡ m .opens = ap (idsAt (4 + 4 * n + 2) (length (m .opens))) four ∙ ids-behind (((kind ++ count) ++ closed) ++ number) all (m .opens) others [] in
+    rw (first, second, closes, opens)

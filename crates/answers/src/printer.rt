@@ -19,12 +19,10 @@ use network::topology::PowerNetwork;
 use numbers::wide16;
 use operations::operations::OperationsAnswer;
 use operations::operations::compute_switch_operations;
-use plan::planner::PlanAnswer;
-use plan::planner::plan;
+use plan::planner::plan_lines;
 use printing::lengths::ANSWER_LENGTH;
 use printing::lengths::MAX_LENGTH;
 use printing::lengths::OPERATION_LENGTH;
-use printing::lengths::PAIR_LENGTH;
 use printing::lengths::RESULT_LENGTH;
 use printing::writer::write_answer;
 use printing::writer::write_form;
@@ -76,7 +74,7 @@ fn write_operations(
     }
 }
 
-// The 83 lines from a radial base to the best state, and how many bytes they are. The planner refuses a base that is not radial: it has none.
+// The 86 lines from a radial base to the best state, and how many bytes they are. The planner refuses a base that is not radial: it has none.
 fn write_plan(
     out: &mut [u8],
     network: PowerNetwork,
@@ -87,10 +85,8 @@ fn write_plan(
     ensures { λ r. ⌜ (r ≡ length (planLines (recordsOf network))) × (now (out .exit) ≡ written (planLines (recordsOf network)) (now (out .entry))) ⌝ }
 {
     let n = wide16(network.switch_count);
-    match plan(network, &base[0..n], &best[0..n], out) {
-        PlanAnswer::Pairs(count) => PAIR_LENGTH * wide16(count),
-        PlanAnswer::Refused { .. } => 0,
-    }
+    let lines = plan_lines(network, &base[0..n], &best[0..n], out);
+    lines.length
 }
 
 // The lines behind the 81 line and the 84 line, and how many bytes are printed with these: each writer gets the output from behind the lines before.

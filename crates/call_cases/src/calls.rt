@@ -204,10 +204,10 @@ fn print_cases(input: &[u8]) {
 }
 
 // Room for all cases.
-fn buffer() -> [u8; 262144]
-    ensures { λ r. ⌜ 262144 ≡ length r ⌝ }
+fn buffer() -> [u8; 344064]
+    ensures { λ r. ⌜ 344064 ≡ length r ⌝ }
 {
-    [0; 262144]
+    [0; 344064]
 }
 
 pub(crate) fn print_input() {

@@ -26,8 +26,8 @@ onlyIn E F k = E k && not (F k)
 unfoldable pub differing : Network → State → State → ℕ → Bool
 differing N present wanted k = onlyIn (live N present) (live N wanted) k || onlyIn (live N wanted) (live N present) k
 
--- the switch at position i differs, on a branch that is live in one of the two states only, and is locked. With one switch on a branch the branch's switch
--- differs where the branch does: the first test says which switch would move
+-- "refusal 12 looks at every switch it would move": the switch at position i differs, on a branch that is live in one of the two states only (the plan moves exactly
+-- these, `plan.specs.Moving.each-moves-once`), and is locked. One that stays as it is causes no 12
 unfoldable pub lockedDifference : Network → State → State → ℕ → Bool
 lockedDifference N present wanted i = not (eqb (byte present i) (byte wanted i)) && (differing N present wanted (branchOf N i) && not (operable N i))
 

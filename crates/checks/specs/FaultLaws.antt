@@ -1,6 +1,6 @@
--- A record's conditions where rows of ids and flags stand for the lists that they look at.
+-- A record's conditions where rows of ids and counts stand for the lists that they look at.
 use mathlib.Core.Path.{_≡_, refl, ap, _∙_}
-use mathlib.Core.Bool.{Bool, true, false, cond, _&&_, _||_}
+use mathlib.Core.Bool.{Bool, true, false, cond, _||_}
 use mathlib.Core.List.{List, [], _∷_, map}
 use Prim.Native.Nat.{ℕ, zero, suc, _+_, _≤_, _<_}
 use native.Mathlib.Omega.{arith}
@@ -11,6 +11,7 @@ use borrow.Author.Tests.{lt-ltb, le-ltb, le-leb, leb-false, ltb-true, ltb-false}
 use Rattle.numbers.specs.UpTo.{table}
 use Rattle.numbers.specs.TableLaws.{table-more, map-snoc, map-table}
 use Rattle.numbers.specs.Choose.{indexOf, among}
+use Rattle.numbers.specs.Times.{times}
 use Rattle.network.specs.declared.bus.Bus.{Bus}
 use Rattle.network.specs.declared.branch.Branch.{Branch}
 use Rattle.network.specs.declared.switch.Switch.{Switch}
@@ -23,7 +24,7 @@ use Rattle.ids.specs.Ids.{bucketOf}
 use Rattle.ids.specs.PutIds.{Holding, one-held}
 use Rattle.network.specs.Limits.{Head, busId, switchId, on, ties}
 use Rattle.network.specs.Faults.{busRow, branchRow, switchRow, busFaults, branchFaults, switchFaults}
-use Rattle.checks.specs.Flags.{flags, flag-at, set-flag}
+use Rattle.checks.specs.Counts.{counts, count-at, set-count}
 
 -- an id stands before position i where its first position is below i
 among-front : (x : ℕ) (l : List ℕ) (i : ℕ) → i ≤ length l → ltb (indexOf x l) i ≡ among x (take i l)
@@ -56,32 +57,35 @@ pub branch-faults : (buses : List Bus) (b read : Branch) (from to : Bool) → re
 unfolding branchFaults
 branch-faults buses b read from to r e g = rw (e, g, r)
 
--- one record more
-pub flag-more : {A : Type 0} (key : A → ℕ) (f : ℕ → A) (i size : ℕ) (seen : List Bool) (x : ℕ) (read : A) → read ≡ f i → seen ≡ flags size (map key (table f i)) → (x ≡ key read) × (x < size)
-    → set seen x true ≡ flags size (map key (table f (i + 1)))
-flag-more key f i size seen x read r e h =
-    rw (table-more f i, map-snoc key (table f i) (f i), e, ← r, ← h .0) (set-flag size x (map key (table f i)) (h .1))
-
 -- ---- switches
--- where its branch position has no flag a switch is refused by row 6 already
-pub switch-judged : (h : Head) (before : List Switch) (s : Switch) (branches : ℕ) (algorithm : ReconfigAlgorithm) (twice second : Bool) (taken : List Bool) (y t place : ℕ)
+-- where its branch position has no count a switch is refused by row 6 already
+pub switch-judged : (h : Head) (before : List Switch) (s : Switch) (branches : ℕ) (algorithm : ReconfigAlgorithm) (twice : Bool) (onBranch : ℕ) (counted : List ℕ) (y t place : ℕ)
     → h .branches ≡ branches → h .algorithm ≡ algorithm → branches ≤ 512
-    → twice ≡ among (s .id) (map switchId before) → second ≡ (ltb y 512 && getD taken y false) → taken ≡ flags 512 (map on before) → y ≡ s .«branch_idx» → t ≡ ties before
-    → judge (switchRow s branches algorithm twice second t) place ≡ judge (switchFaults h before s) place
+    → twice ≡ among (s .id) (map switchId before) → onBranch ≡ cond (ltb y 512) (getD counted y 0) 0 → counted ≡ counts 512 (map on before) → y ≡ s .«branch_idx» → t ≡ ties before
+    → judge (switchRow s branches algorithm twice onBranch t) place ≡ judge (switchFaults h before s) place
 unfolding switchFaults judge
-switch-judged h before s branches algorithm twice second taken y t place b m small e d f i q =
+switch-judged h before s branches algorithm twice onBranch counted y t place b m small e d f i q =
     rw (b, m, e, d, f, i, q) (go (ltb (s .«branch_idx») 512) refl)
   where
-    row : Bool → List Fault
-    row taken = switchRow s branches algorithm (among (s .id) (map switchId before)) taken (ties before)
+    row : ℕ → List Fault
+    row n = switchRow s branches algorithm (among (s .id) (map switchId before)) n (ties before)
 
     go : (k : Bool) → ltb (s .«branch_idx») 512 ≡ k
-        → judge (row (ltb (s .«branch_idx») 512 && getD (flags 512 (map on before)) (s .«branch_idx») false)) place ≡ judge (row (among (s .«branch_idx») (map on before))) place
-    go true k = rw (k, flag-at 512 (s .«branch_idx») (map on before) (ltb-true (s .«branch_idx») 512 k))
+        → judge (row (cond (ltb (s .«branch_idx») 512) (getD (counts 512 (map on before)) (s .«branch_idx») 0) 0)) place ≡ judge (row (times (s .«branch_idx») (map on before))) place
+    go true k = rw (k, count-at 512 (s .«branch_idx») (map on before) (ltb-true (s .«branch_idx») 512 k))
     go false k = rw (le-leb branches (s .«branch_idx») (let l = ltb-false (s .«branch_idx») 512 k in omega arith))
 
--- a switch that passed is on a branch
-pub passed-below : (v : Verdict) (s : Switch) (branches : ℕ) (algorithm : ReconfigAlgorithm) (twice second : Bool) (t place : ℕ)
-    → v ≡ Accepted → answerOf v ≡ judge (switchRow s branches algorithm twice second t) place → s .«branch_idx» < branches
-passed-below v s branches algorithm twice second t place a e =
-    leb-false branches (s .«branch_idx») (judge-iff (switchRow s branches algorithm twice second t) place .0 (accepted-so a e) .0)
+-- a switch that passed is on a branch, and at most one before it is
+pub passed-so : (v : Verdict) (s : Switch) (branches : ℕ) (algorithm : ReconfigAlgorithm) (twice : Bool) (onBranch t place : ℕ)
+    → v ≡ Accepted → answerOf v ≡ judge (switchRow s branches algorithm twice onBranch t) place → (s .«branch_idx» < branches) × (onBranch < 2)
+passed-so v s branches algorithm twice onBranch t place a e =
+    let p = judge-iff (switchRow s branches algorithm twice onBranch t) place .0 (accepted-so a e) in
+    (leb-false branches (s .«branch_idx») (p .0), leb-false 2 onBranch (p .1 .1 .0))
+
+-- one switch more on its branch
+pub count-more : (f : ℕ → Switch) (i y n : ℕ) (counted : List ℕ) (read : Switch) → read ≡ f i → counted ≡ counts 512 (map on (table f i)) → (y ≡ on read) × (y < 512)
+    → n ≡ cond (ltb y 512) (getD counted y 0) 0 → set counted y (n + 1) ≡ counts 512 (map on (table f (i + 1)))
+count-more f i y n counted read r e h d =
+    let l = map on (table f i) in
+    let now : n ≡ times y l = d ∙ rw (lt-ltb y 512 (h .1), e, count-at 512 y l (h .1)) in
+    rw (table-more f i, map-snoc on (table f i) (f i), e, ← r, ← h .0) (set-count 512 y n l (h .1) now)

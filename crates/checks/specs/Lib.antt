@@ -1,4 +1,4 @@
-pub mod Flags
+pub mod Counts
 pub mod FaultLaws
 pub mod CheckLaws
 pub mod WholeCheck

@@ -1,6 +1,6 @@
 // Document 01: "Records handed over without text are checked as their lines would be", refusals 3 to 9.
 ghost use mathlib.Core.Path.{_≡_};
-ghost use mathlib.Core.Bool.{false, cond, _&&_};
+ghost use mathlib.Core.Bool.{cond};
 ghost use mathlib.Core.List.{[], map};
 ghost use Prim.Native.Nat.{ℕ, suc, _+_, _≤_, _<_};
 ghost use lib.Dec.{ltb};
@@ -11,7 +11,7 @@ ghost use Rattle.network.specs.Check.{headOf, checkRun, checkRecords};
 ghost use Rattle.network.specs.declared.bus.Bus.{Bus};
 ghost use Rattle.network.specs.Limits.{Head, busId};
 ghost use Rattle.network.specs.Faults.{busFaults, branchFaults, switchFaults};
-ghost use Rattle.checks.specs.Flags.{flags};
+ghost use Rattle.checks.specs.Counts.{counts};
 ghost use Rattle.ids.specs.Ids.{bucketOf};
 ghost use Rattle.ids.specs.PutIds.{Holding};
 ghost use Rattle.network.specs.Records.{noBranch, noSwitch, listed, recordsOf};
@@ -120,24 +120,25 @@ fn ties_with(ties: u16, normally_open: bool) -> u16
     ties
 }
 
-// A flag for each branch position: no switch is on it yet.
-fn no_switches() -> [bool; PowerNetwork::MAX_BRANCHES]
-    ensures { λ r. ⌜ r ≡ flags 512 [] ⌝ }
+// A count for each branch position: no switch is on it yet.
+fn no_switches() -> [u8; PowerNetwork::MAX_BRANCHES]
+    ensures { λ r. ⌜ r ≡ counts 512 [] ⌝ }
 {
-    [false; PowerNetwork::MAX_BRANCHES]
+    [0u8; PowerNetwork::MAX_BRANCHES]
 }
 
-// Whether a branch position has its flag. One from MAX_BRANCHES on has none.
-fn has_flag(flags: &[bool; PowerNetwork::MAX_BRANCHES], at: usize) -> bool
-    ensures { λ r. ⌜ r ≡ (ltb at 512 && getD (now (flags .entry)) at false) ⌝ }
+// How many switches are counted on a branch position. From MAX_BRANCHES on there is no count.
+fn switches_on(counted: &[u8; PowerNetwork::MAX_BRANCHES], at: usize) -> u8
+    ensures { λ r. ⌜ r ≡ cond (ltb at 512) (getD (now (counted .entry)) at 0) 0 ⌝ }
 {
     if at < PowerNetwork::MAX_BRANCHES {
-        return flags[at];
+        return counted[at];
     }
-    false
+    0
 }
 
-// The switches in list order, the first at this place, each id put into rows once its switch has passed. A branch position that is refused needs no flag.
+// The switches in list order, the first at this place, each id put into rows and each counted on its branch once it has passed. A branch position that is refused needs no count,
+// and none grows past MAX_SWITCHES_ON_BRANCH.
 fn check_switch_list(
     switches: [Switch; PowerNetwork::MAX_SWITCHES],
     count: usize,
@@ -152,7 +153,7 @@ fn check_switch_list(
     let mut ids = [0u16; IdRows::MAX_IDS];
     let mut first = [IdRows::NO_POSITION; IdRows::BUCKETS];
     let mut next = [IdRows::NO_POSITION; IdRows::MAX_IDS];
-    let mut taken = no_switches();
+    let mut counted = no_switches();
     let mut ties: u16 = 0;
     let mut place = start;
     let mut i: usize = 0;
@@ -160,13 +161,13 @@ fn check_switch_list(
         let switch = switches[i];
         let on = wide16(switch.branch_idx);
         let twice = position_of(&ids, &first, &next, count, switch.id) < i;
-        let second = has_flag(&taken, on);
-        let verdict = judge_switch(switch, branch_count, algorithm, twice, second, ties, place);
+        let before = switches_on(&counted, on);
+        let verdict = judge_switch(switch, branch_count, algorithm, twice, before, ties, place);
         let Verdict::Accepted = verdict else {
             return verdict;
         };
         put_id(&mut ids, &mut first, &mut next, i, switch.id);
-        taken[on] = true;
+        counted[on] = before + 1;
         ties = ties_with(ties, switch.normally_open);
         place += 1;
         i += 1;

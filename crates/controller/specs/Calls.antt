@@ -101,7 +101,7 @@ unfoldable pub onText : {A : Type 0} → Answer Network → (Network → List �
 onText (accepted N) call out = call N out
 onText (refused number place) call out = record { answer = refused number place; out = out }
 
--- how many pairs, after refusals 10 to 13, and an 83 line for each
+-- how many pairs, after refusals 10 to 13, and an 86 line for each
 unfoldable pub textPlan : List ℕ → List ℕ → List ℕ → List ℕ → Call ℕ
 textPlan text present wanted out = onText (readText text) (λ N. planned N present wanted) out
 

@@ -14,7 +14,7 @@ use Rattle.frames.specs.Acceptable.{textOf, Writable, Acceptable}
 use Rattle.frames.specs.Proof.{claim}
 use Rattle.frames.specs.Text.{readText}
 use Rattle.printing.specs.CallLaws.{in-full}
-use Rattle.printing.specs.Lengths.{operationLength, pairLength}
+use Rattle.printing.specs.Lengths.{operationLength}
 use Rattle.printing.specs.Printed.{truthByte}
 use Rattle.graph.specs.Graph.{Tree}
 use Rattle.graph.specs.Form.{formNumber}
@@ -57,8 +57,8 @@ module _ (t : List ℕ) (N : Network) (a : Acceptable t N) where
   pub text-plan-in-full : (present wanted : State) → GoodState N present → GoodState N wanted → Tree (feeder N) (LiveIn N present) → Tree (feeder N) (LiveIn N wanted)
       → Free N present wanted → (out : List ℕ)
       → let moves = plan N present wanted in
-      pairLength * length moves ≤ length out
-      → textPlan t present wanted out ≡ record { answer = accepted (length moves); out = planText moves ++ drop (pairLength * length moves) out }
+      length (planText moves) ≤ length out
+      → textPlan t present wanted out ≡ record { answer = accepted (length moves); out = planText moves ++ drop (length (planText moves)) out }
   unfolding textPlan onText
   text-plan-in-full present wanted p w r v free out room = rw has-records (planned-in-full N (a .inside) (a .supplied) present wanted p w r v free out room)
 

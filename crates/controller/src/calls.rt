@@ -74,7 +74,7 @@ pub extern "C" fn feeder_loss(text: &[u8], state: &[u8]) -> CallAnswer
     loss_numbers(evaluate_config(reading.network, state))
 }
 
-// The plan from the present state to the wanted one: the value is the number of pairs, and an 83 line for each stands at the front of the slice,
+// The plan from the present state to the wanted one: the value is the number of pairs, and an 86 line for each stands at the front of the slice,
 // which keeps what is behind them. A refusal writes nothing.
 #[no_mangle]
 pub extern "C" fn feeder_plan(

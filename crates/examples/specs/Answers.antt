@@ -20,7 +20,7 @@ use Rattle.graph.specs.Radial.{radial}
 use Rattle.graph.specs.Form.{form}
 use Rattle.feeders.specs.Feeder.{feeder, position, endsPath, formIn, radialIn}
 use Rattle.losses.specs.Loss.{walkLoad, downstream, termOf, totalOf, loss, drawn, lossIn}
-use Rattle.plan.specs.Plan.{closings, opening, exchanged, pairsFrom, pairs, switchOn, plan, planText}
+use Rattle.plan.specs.Plan.{ranks, closings, opening, exchanged, pairsFrom, pairs, openSwitches, plan, planText}
 use Rattle.plan.specs.Claim.{SwitchingPlan}
 use Rattle.states.specs.Switches.{swapped}
 use Rattle.exchange.specs.Exchange.{loopOf, sectionOf, swapWith, trial, improves, improved, roundOf, afterRound, exchange, exchangeBest}
@@ -37,8 +37,8 @@ pub triangle-printed : printed triangleText
     ++ (line 10 0x840000FFFF
     ++ (line 8 0x82000A00
     ++ (line 8 0x82000B01
-    ++ line 10 0x83000B000A)))
-unfolding printed networkText moveLines planLines operationLines resultLines resultText formText result resultBy reduction best bestBy exchangeBest exchange untilEnded lastSome afterRound roundOf improved improves trial swapWith sectionOf loopOf swapped operations operationTo operationsText plan planText pairs pairsFrom closings opening exchanged switchOn endsPath lossIn drawn loss totalOf termOf downstream walkLoad radialIn formIn form feeder position radial bfsPath back across byOf walk walkBy turn enterAll enter reached neighbours far baseState live openOn those least firstSome firstOf indexOf _orElse_ count upTo table answerText operationText pairText frameText writeFields digits digit flatMap ofBits toBits add sub mul div lt le neg
+    ++ line 14 0x8601000B01000A)))
+unfolding printed networkText moveLines planLines operationLines resultLines resultText formText result resultBy reduction best bestBy exchangeBest exchange untilEnded lastSome afterRound roundOf improved improves trial swapWith sectionOf loopOf swapped operations operationTo operationsText plan planText pairs pairsFrom ranks closings opening exchanged openSwitches endsPath lossIn drawn loss totalOf termOf downstream walkLoad radialIn formIn form feeder position radial bfsPath back across byOf walk walkBy turn enterAll enter reached neighbours far baseState live openOn those least firstSome firstOf indexOf _orElse_ count upTo table answerText operationText pairText frameText writeFields digits digit flatMap ofBits toBits add sub mul div lt le neg
 triangle-printed = rw triangle-read
 
 -- "A refusal prints one line": `0G` is 1 at line 1

@@ -6,6 +6,7 @@ use lib.Ieee.{le, neg, ofBits}
 use Rattle.numbers.specs.Choose.{_orElse_, among, firstOf, indexOf, least, those}
 use Rattle.numbers.specs.Counts.{count}
 use Rattle.numbers.specs.Every.{every}
+use Rattle.numbers.specs.Times.{times}
 use Rattle.numbers.specs.UpTo.{upTo}
 use Rattle.network.specs.declared.bus.Bus.{Bus}
 use Rattle.network.specs.Answers.{_andThen_, accepted, judge}
@@ -57,7 +58,7 @@ pub form-cases :
     -- with one branch of the ring open two pieces, with two open three
     × Is andOne (0 ∷ 1 ∷ []) (forms.Islands 1)
     × Is andOne (1 ∷ 1 ∷ []) (forms.Islands 2)
-unfolding checkNetwork checkSupply checkRecords headOf checkRun headFaults busFaults branchFaults switchFaults okBase okLoad okR ties judge _andThen_ neg le ofBits among firstOf those every checkState formIn form islands closes links label relabel feeder position live openOn radial walk walkBy turn enterAll enter reached neighbours far least _orElse_ indexOf count upTo
+unfolding checkNetwork checkSupply checkRecords headOf checkRun headFaults busFaults branchFaults switchFaults times okBase okLoad okR ties judge _andThen_ neg le ofBits among firstOf those every checkState formIn form islands closes links label relabel feeder position live openOn radial walk walkBy turn enterAll enter reached neighbours far least _orElse_ indexOf count upTo
 form-cases = (refl, refl, refl, refl, refl, refl, refl, refl, refl, refl)
 
 -- as one number: `FEEDER_TREE`, and islands × 65,536 + branch

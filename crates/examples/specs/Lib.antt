@@ -6,4 +6,5 @@ pub mod Answers
 pub mod ReadBack
 pub mod Supplies
 pub mod Resumptions
+pub mod BothEnds
 pub mod Forms

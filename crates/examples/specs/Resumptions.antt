@@ -59,7 +59,7 @@ triangle-resumable = point4 triangle present wanted (computed .1)
 -- one move ends between the closing and the opening of the only pair, and there the claim speaks of its loop
 triangle-between : Between (plan triangle present wanted) 1
 unfolding singleMoves closingMoves flatMap
-triangle-between = record { before = 0; pair = record { closes = 11; opens = 10 }; next = rw (computed .2) refl; count = refl }
+triangle-between = record { before = 0; pair = record { closes = 11 ∷ []; opens = 10 ∷ [] }; next = rw (computed .2) refl; count = refl }
 
 triangle-loop : OnLoop triangle present (stateAt triangle present wanted 1) 2 1
 unfolding triangle-between indexOf singleMoves flatMap movedAll

@@ -12,6 +12,7 @@ use Rattle.numbers.specs.UpTo.{upTo, table}
 use Rattle.numbers.specs.Counts.{count}
 use Rattle.numbers.specs.Choose.{those, least, firstSome, firstOf, indexOf, _orElse_, among, lastSome}
 use Rattle.numbers.specs.Every.{every}
+use Rattle.numbers.specs.Times.{times}
 use Rattle.network.specs.Records.{Network}
 use Rattle.network.specs.Answers.{Answer, accepted, _andThen_, judge}
 use Rattle.network.specs.Limits.{okBase, okLoad, okR, ties}
@@ -123,7 +124,7 @@ marked =
 
 -- document 01: "One proved table holds the marked (*) cases under one theorem"
 pub marked-cases : map reckoned marked ≡ map said marked
-unfolding solved solvedBy resultBy reduction called checkRoom checkState every lossCall checkNetwork checkSupply checkRecords headOf checkRun headFaults busFaults branchFaults switchFaults okBase okLoad okR ties judge _andThen_ neg best bestBy exchangeBest tabuBest exhaustiveBest exchange untilEnded lastSome afterRound roundOf improved improves trial swapWith sectionOf loopOf swapped tabu bestMove afterMove lastSeven lesserBy allowed among toggled exhaustive tryMask leastOrBase masked lossIn drawn loss totalOf termOf downstream walkLoad radialIn formIn form islands closes links label relabel endsPath feeder position radial bfsPath back across byOf walk walkBy turn enterAll enter reached neighbours far baseState live openOn those least firstSome firstOf indexOf _orElse_ count upTo table ofBits add sub mul div lt le
+unfolding solved solvedBy resultBy reduction called checkRoom checkState every lossCall checkNetwork checkSupply checkRecords headOf checkRun headFaults busFaults branchFaults switchFaults times okBase okLoad okR ties judge _andThen_ neg best bestBy exchangeBest tabuBest exhaustiveBest exchange untilEnded lastSome afterRound roundOf improved improves trial swapWith sectionOf loopOf swapped tabu bestMove afterMove lastSeven lesserBy allowed among toggled exhaustive tryMask leastOrBase masked lossIn drawn loss totalOf termOf downstream walkLoad radialIn formIn form islands closes links label relabel endsPath feeder position radial bfsPath back across byOf walk walkBy turn enterAll enter reached neighbours far baseState live openOn those least firstSome firstOf indexOf _orElse_ count upTo table ofBits add sub mul div lt le
 marked-cases = refl
 
 -- Five buses in a row, 1 MW at each but the first, and three ties. In the first round, with 9.75 at its start, tie 5 improves to 8.75 and tie 6 to 9.5; tie 7's first
@@ -147,5 +148,5 @@ rounds =
     ∷ []
 
 round-cases : map reckoned rounds ≡ map said rounds
-unfolding solved solvedBy resultBy reduction called checkRoom checkState every lossCall checkNetwork checkSupply checkRecords headOf checkRun headFaults busFaults branchFaults switchFaults okBase okLoad okR ties judge _andThen_ neg best bestBy exchangeBest tabuBest exhaustiveBest exchange untilEnded lastSome afterRound roundOf improved improves trial swapWith sectionOf loopOf swapped tabu bestMove afterMove lastSeven lesserBy allowed among toggled exhaustive tryMask leastOrBase masked lossIn drawn loss totalOf termOf downstream walkLoad radialIn formIn form islands closes links label relabel endsPath feeder position radial bfsPath back across byOf walk walkBy turn enterAll enter reached neighbours far baseState live openOn those least firstSome firstOf indexOf _orElse_ count upTo table ofBits add sub mul div lt le
+unfolding solved solvedBy resultBy reduction called checkRoom checkState every lossCall checkNetwork checkSupply checkRecords headOf checkRun headFaults busFaults branchFaults switchFaults times okBase okLoad okR ties judge _andThen_ neg best bestBy exchangeBest tabuBest exhaustiveBest exchange untilEnded lastSome afterRound roundOf improved improves trial swapWith sectionOf loopOf swapped tabu bestMove afterMove lastSeven lesserBy allowed among toggled exhaustive tryMask leastOrBase masked lossIn drawn loss totalOf termOf downstream walkLoad radialIn formIn form islands closes links label relabel endsPath feeder position radial bfsPath back across byOf walk walkBy turn enterAll enter reached neighbours far baseState live openOn those least firstSome firstOf indexOf _orElse_ count upTo table ofBits add sub mul div lt le
 round-cases = refl

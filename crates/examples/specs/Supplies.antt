@@ -7,6 +7,7 @@ use lib.Ieee.{add, div, le, lt, mul, neg, ofBits, sub, toBits}
 use Rattle.numbers.specs.Choose.{_orElse_, among, firstOf, firstSome, indexOf, lastSome, least, those}
 use Rattle.numbers.specs.Counts.{count}
 use Rattle.numbers.specs.Every.{every}
+use Rattle.numbers.specs.Times.{times}
 use Rattle.numbers.specs.UpTo.{table, upTo}
 use Rattle.network.specs.Answers.{_andThen_, accepted, judge, refused}
 use Rattle.network.specs.Check.{checkRecords, checkRun, headOf}
@@ -33,7 +34,7 @@ use Rattle.feeders.specs.StateCalls.{checkRadial}
 use Rattle.feeders.specs.Supply.{checkNetwork, checkSupply, supplyFaults}
 use Rattle.losses.specs.Loss.{downstream, drawn, loss, lossIn, termOf, totalOf, walkLoad}
 use Rattle.losses.specs.LossCall.{lossCall}
-use Rattle.plan.specs.Plan.{closings, exchanged, opening, pairs, pairsFrom, plan, planText, switchOn}
+use Rattle.plan.specs.Plan.{closings, exchanged, openSwitches, opening, pairs, pairsFrom, plan, planText, ranks}
 use Rattle.searches.specs.Results.{reduction, resultBy, solvedBy}
 use Rattle.searches.specs.Rounds.{lesserBy, untilEnded}
 use Rattle.exchange.specs.Exchange.{afterRound, exchange, exchangeBest, improved, improves, loopOf, roundOf, sectionOf, swapWith, trial}
@@ -80,7 +81,7 @@ cases =
     ∷ []
 
 pub supply-cases : map reckoned cases ≡ map said cases
-unfolding checkRadial supplyFaults away towards solved solvedBy resultBy reduction called checkRoom checkState every lossCall checkNetwork checkSupply checkRecords headOf checkRun headFaults busFaults branchFaults switchFaults okBase okLoad okR ties judge _andThen_ neg best bestBy exchangeBest tabuBest exhaustiveBest exchange untilEnded lastSome afterRound roundOf improved improves trial swapWith sectionOf loopOf swapped tabu bestMove afterMove lastSeven lesserBy allowed among toggled exhaustive tryMask leastOrBase masked lossIn drawn loss totalOf termOf downstream walkLoad radialIn formIn form islands closes links label relabel endsPath feeder position radial bfsPath back across byOf walk walkBy turn enterAll enter reached neighbours far baseState live openOn those least firstSome firstOf indexOf _orElse_ count upTo table ofBits add sub mul div lt le
+unfolding checkRadial supplyFaults away towards solved solvedBy resultBy reduction called checkRoom checkState every lossCall checkNetwork checkSupply checkRecords headOf checkRun headFaults busFaults branchFaults switchFaults times okBase okLoad okR ties judge _andThen_ neg best bestBy exchangeBest tabuBest exhaustiveBest exchange untilEnded lastSome afterRound roundOf improved improves trial swapWith sectionOf loopOf swapped tabu bestMove afterMove lastSeven lesserBy allowed among toggled exhaustive tryMask leastOrBase masked lossIn drawn loss totalOf termOf downstream walkLoad radialIn formIn form islands closes links label relabel endsPath feeder position radial bfsPath back across byOf walk walkBy turn enterAll enter reached neighbours far baseState live openOn those least firstSome firstOf indexOf _orElse_ count upTo table ofBits add sub mul div lt le
 supply-cases = refl
 
 -- ---- the line
@@ -100,15 +101,15 @@ pub supplies-read :
     × refusedAs 14 10 (triangleText ++ supplyLine 9)
     × refusedAs 2 11 (triangleText ++ (supplyLine 1 ++ supplyLine 1))  -- a second line
     × refusedAs 14 2 (noBuses ++ supplyLine 1)
-unfolding readText readLines readOne readRun atMostOne asOption readEnd without judge _andThen_ follow pure cut put every lineFaults isFrame fieldsOf methodOf number value digit digits isDigit readFields headFaults busFaults branchFaults switchFaults okBase okLoad okR among ties ofBits le neg supplyFaults radialIn formIn form islands closes links label relabel feeder position radial walk walkBy turn enterAll enter reached neighbours far baseState live openOn indexOf count upTo
+unfolding readText readLines readOne readRun atMostOne asOption readEnd without judge _andThen_ follow pure cut put every lineFaults isFrame fieldsOf methodOf number value digit digits isDigit readFields headFaults busFaults branchFaults switchFaults times okBase okLoad okR among ties ofBits le neg supplyFaults radialIn formIn form islands closes links label relabel feeder position radial walk walkBy turn enterAll enter reached neighbours far baseState live openOn indexOf count upTo
 supplies-read = (refl, refl, refl, refl, refl)
 
 -- the program's lines: those of document 01's triangle, however branch 0 is drawn; and no 82 line from bus 3
 pub supplies-printed :
-    (printed (turnedText ++ supplyLine 1) ≡ line 58 0x810140100000000000003FF00000000000004052C00000000000000201 ++ (line 10 0x840000FFFF ++ (line 8 0x82000A00 ++ (line 8 0x82000B01 ++ line 10 0x83000B000A))))
+    (printed (turnedText ++ supplyLine 1) ≡ line 58 0x810140100000000000003FF00000000000004052C00000000000000201 ++ (line 10 0x840000FFFF ++ (line 8 0x82000A00 ++ (line 8 0x82000B01 ++ line 14 0x8601000B01000A))))
     × (printed (triangleText ++ supplyLine 3) ≡ line 58 0x81013FDC0000000000003FDC0000000000000000000000000000000101 ++ line 10 0x840000FFFF)
     × (printed (triangleText ++ supplyLine 9) ≡ line 8 0x8F0E000A)
     × (printed (triangleText ++ (supplyLine 1 ++ supplyLine 1)) ≡ line 8 0x8F02000B)
     × (printed (noBuses ++ supplyLine 1) ≡ line 8 0x8F0E0002)
-unfolding away towards refusalText printed networkText moveLines planLines operationLines resultLines resultText formText result resultBy reduction best bestBy exchangeBest exchange untilEnded lastSome afterRound roundOf improved improves trial swapWith sectionOf loopOf swapped operations operationTo operationsText plan planText pairs pairsFrom closings opening exchanged switchOn endsPath lossIn drawn loss totalOf termOf downstream walkLoad radialIn formIn form islands closes links label relabel feeder position radial bfsPath back across byOf walk walkBy turn enterAll enter reached neighbours far baseState live openOn those least firstSome firstOf indexOf _orElse_ count upTo table answerText operationText pairText frameText writeFields digits digit flatMap ofBits toBits add sub mul div lt le neg
+unfolding away towards refusalText printed networkText moveLines planLines operationLines resultLines resultText formText result resultBy reduction best bestBy exchangeBest exchange untilEnded lastSome afterRound roundOf improved improves trial swapWith sectionOf loopOf swapped operations operationTo operationsText plan planText pairs pairsFrom ranks closings opening exchanged openSwitches endsPath lossIn drawn loss totalOf termOf downstream walkLoad radialIn formIn form islands closes links label relabel feeder position radial bfsPath back across byOf walk walkBy turn enterAll enter reached neighbours far baseState live openOn those least firstSome firstOf indexOf _orElse_ count upTo table answerText operationText pairText frameText writeFields digits digit flatMap ofBits toBits add sub mul div lt le neg
 supplies-printed = (rw (supplies-read .0), rw (supplies-read .1), rw (supplies-read .2), rw (supplies-read .3), rw (supplies-read .4))

@@ -4,6 +4,7 @@ use mathlib.Core.Path.{_≡_, refl}
 use Prim.Native.Nat.{ℕ, zero, suc, _+_, _*_}
 use lib.Ieee.{ofBits, le, neg}
 use Rattle.numbers.specs.Every.{every}
+use Rattle.numbers.specs.Times.{times}
 use Rattle.network.specs.Answers.{accepted, refused, _andThen_, judge}
 use Rattle.network.specs.Limits.{okBase, okLoad, okR, ties}
 use Rattle.numbers.specs.Choose.{among}
@@ -27,7 +28,7 @@ headLine = line 36 0x010003000300023FF0000000000000000064
 abbrev pub busLines : List ℕ
 busLines = line 22 0x0200010000000000000000 ++ (line 22 0x0200023FF0000000000000 ++ line 22 0x0200034000000000000000)
 
-abbrev branchLines : List ℕ
+abbrev pub branchLines : List ℕ
 branchLines = line 28 0x03000100023FD000000000000001 ++ (line 28 0x03000200033FDC00000000000001 ++ line 28 0x03000100033FC800000000000001)
 
 abbrev pub switchLines : List ℕ
@@ -37,7 +38,7 @@ abbrev pub triangleText : List ℕ
 triangleText = headLine ++ (busLines ++ (branchLines ++ switchLines))
 
 pub triangle-read : readText triangleText ≡ accepted triangle
-unfolding readText readLines readOne readRun atMostOne asOption readEnd without judge _andThen_ follow pure cut put every lineFaults isFrame fieldsOf methodOf number value digit digits isDigit readFields headFaults busFaults branchFaults switchFaults okBase okLoad okR among ties ofBits le neg
+unfolding readText readLines readOne readRun atMostOne asOption readEnd without judge _andThen_ follow pure cut put every lineFaults isFrame fieldsOf methodOf number value digit digits isDigit readFields headFaults busFaults branchFaults switchFaults times okBase okLoad okR among ties ofBits le neg
 triangle-read = refl
 
 -- its records in bytes: the same digits, two in a byte
@@ -63,7 +64,7 @@ lastBus t = headLine ++ (line 22 0x0200010000000000000000 ++ (line 22 0x0200023F
 abbrev lastBranch : List ℕ → List ℕ
 lastBranch t = headLine ++ (busLines ++ (line 28 0x03000100023FD000000000000001 ++ (line 28 0x03000200033FDC00000000000001 ++ t)))
 
--- document 01's table, its example of each of the first eight rows
+-- document 01's table, its example of each of the first eight rows; of row 8 by document 02, point 6: "Refusal 8 now means a third"
 pub table-rows :
     refusedAs 1 1 (48 ∷ 71 ∷ [])  -- `0G`
     × refusedAs 2 1 []  -- empty text
@@ -72,8 +73,8 @@ pub table-rows :
     × refusedAs 5 4 (lastBus (line 22 0x0200037FF0000000000000))  -- pd 7FF0000000000000
     × refusedAs 6 4 (line 36 0x010002000100003FF0000000000000000064 ++ (line 22 0x0200010000000000000000 ++ (line 22 0x0200020000000000000000 ++ line 28 0x0300010009000000000000000000)))  -- end 0009 of buses 1 and 2
     × refusedAs 7 3 (headLine ++ (line 22 0x0200010000000000000000 ++ line 22 0x0200010000000000000000))  -- bus 0001 again
-    × refusedAs 8 9 (headLine ++ (busLines ++ (branchLines ++ (line 12 0x04000A000002 ++ line 12 0x04000B000003))))  -- two switches on 0000
-unfolding readText readLines readOne readRun atMostOne asOption readEnd without judge _andThen_ follow pure cut put every lineFaults isFrame fieldsOf methodOf number value digit digits isDigit readFields headFaults busFaults branchFaults switchFaults okBase okLoad okR among ties ofBits le neg
+    × refusedAs 8 10 (line 36 0x010003000300033FF0000000000000000064 ++ (busLines ++ (branchLines ++ (line 12 0x04000A000002 ++ (line 12 0x04000B000003 ++ line 12 0x04000C000003)))))  -- three switches on 0000
+unfolding readText readLines readOne readRun atMostOne asOption readEnd without judge _andThen_ follow pure cut put every lineFaults isFrame fieldsOf methodOf number value digit digits isDigit readFields headFaults busFaults branchFaults switchFaults times okBase okLoad okR among ties ofBits le neg
 table-rows = (refl, refl, refl, refl, refl, refl, refl, refl)
 
 -- row 9: with method 02, ten ties pass, eleven are refused at the eleventh's line
@@ -89,5 +90,5 @@ abbrev manyTies : ℕ → List ℕ
 manyTies n = line 36 (0x010002000000003FF0000000000000020000 + n * 0x100010000000000000000000000) ++ (line 22 0x0200010000000000000000 ++ (line 22 0x0200020000000000000000 ++ (parallels n ++ tieLines n)))
 
 many-ties : (judgementOf (readText (manyTies 10)) ≡ accepted tt) × refusedAs 9 25 (manyTies 11)
-unfolding readText readLines readOne readRun atMostOne asOption readEnd without judge _andThen_ follow pure cut put every lineFaults isFrame fieldsOf methodOf number value digit digits isDigit readFields headFaults busFaults branchFaults switchFaults okBase okLoad okR among ties ofBits le neg judgementOf
+unfolding readText readLines readOne readRun atMostOne asOption readEnd without judge _andThen_ follow pure cut put every lineFaults isFrame fieldsOf methodOf number value digit digits isDigit readFields headFaults busFaults branchFaults switchFaults times okBase okLoad okR among ties ofBits le neg judgementOf
 many-ties = (refl, refl)

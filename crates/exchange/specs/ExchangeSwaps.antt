@@ -1,10 +1,11 @@
--- The operable section switch of each branch as the code lists it, and the swap of a tie with it by the rows of the feeder.
+-- The first operable section switch of each branch as the code lists it, and the swap of a tie with it by the rows of the feeder.
 use mathlib.Core.Path.{_≡_, refl, sym, ap, _∙_}
+use mathlib.Core.Logic.{_≢_}
 use mathlib.Core.Bool.{Bool, true, false, cond, not, _&&_, and-false}
 use mathlib.Core.List.{List}
 use mathlib.Core.Option.{Option, none, some}
 use Prim.Native.Nat.{ℕ, _+_, _≤_, _<_}
-use native.Mathlib.Decide.{decLt}
+use native.Mathlib.Decide.{ℕ-discrete, decLt}
 use native.Mathlib.Omega.{arith}
 use lib.Dec.{eqb, ltb}
 use lib.ListN.{length, getD, set, length-set, List·getD-eq-default}
@@ -20,13 +21,13 @@ use Rattle.network.specs.Answers.{accepted}
 use Rattle.network.specs.Check.{checkRecords}
 use Rattle.network.specs.Inside.{Inside}
 use Rattle.network.specs.InsideLaws.{check-inside}
-use Rattle.network.specs.Positions.{one-on-branch}
 use Rattle.graph.specs.declared.rows.Graph.{Graph}
 use Rattle.feeders.specs.Feeder.{radialIn}
 use Rattle.feeders.specs.FeederRows.{feederGraph, liveFlags}
 use Rattle.feeders.specs.FeederRowLaws.{flags-radial}
 use Rattle.graph.specs.Rows.{rowRadial}
-use Rattle.states.specs.Switches.{State, byte, branchOf, operable, size, isTie, swapped, inService}
+use Rattle.states.specs.Switches.{State, byte, branchOf, operable, size, isTie, swapped}
+use Rattle.states.specs.OpenCounts.{oneOpen}
 use Rattle.searches.specs.States.{stateOf}
 use Rattle.searches.specs.Given.{Held}
 use Rattle.states.specs.Listed.{switches-listed, few-switches}
@@ -35,9 +36,9 @@ use Rattle.searches.specs.LiveFlags.{on-flagged, flags-opened, flags-closed}
 use Rattle.exchange.specs.Exchange.{sectionOf, swapWith}
 use Rattle.numbers.specs.IfSome.{IfSome, cond-holds, least-passes}
 use Rattle.exchange.specs.ExchangeValues.{sectionNumber, sectionsOf, rowSwap, swapAt}
-use Rattle.numbers.specs.FirstLaws.{least-same, least-found, least-none, least-below}
+use Rattle.numbers.specs.FirstLaws.{least-same, least-kept, least-found, least-none, least-below}
 
--- ---- the operable section switch of each branch
+-- ---- the first operable section switch of each branch
 module _ (N : Network) where
   abbrev isSection : ℕ → Bool
   isSection i = not (isTie N i) && operable N i
@@ -66,16 +67,37 @@ module _ (N : Network) where
   sections-long = length-table _ 512
 
   module _ (inside : Inside N) where
-    -- a branch has one switch
-    pub section-listed : (i : ℕ) → i < size N → isSection i ≡ true → set (sectionsAmong i) (branchOf N i) i ≡ sectionsAmong (i + 1)
-    unfolding sectionsAmong sectionNumber
-    section-listed i l t =
-        table-set _ _ 512 (branchOf N i) i (on-flagged N inside i)
-        (ap sectionNumber (least-found (sectionOn (branchOf N i)) i (rw (eq-eqb (branchOf N i) (branchOf N i) refl, t)) (least-none (sectionOn (branchOf N i)) i alone)))
-        (λ k m n. ap sectionNumber (sym (least-same (sectionOn k) i (rw (ne-eqb (branchOf N i) k (λ e. n (sym e)))))))
-      where
-        alone : (j : ℕ) → j < i → sectionOn (branchOf N i) j ≡ false
-        alone j h = rw (ne-eqb (branchOf N j) (branchOf N i) (λ e. absurd (omega (arith, one-on-branch N inside j i (omega arith) l e))))
+    -- a section more: it is listed where its branch has none before it
+    module _ (i : ℕ) (l : i < size N) where
+      other-branch : (k : ℕ) → k ≢ branchOf N i → least (sectionOn k) (i + 1) ≡ least (sectionOn k) i
+      other-branch k n = least-same (sectionOn k) i (rw (ne-eqb (branchOf N i) k (λ e. n (sym e))))
+
+      listed-so-far : getD (sectionsAmong i) (branchOf N i) 0 ≡ sectionNumber (least (sectionOn (branchOf N i)) i)
+      unfolding sectionsAmong
+      listed-so-far = getD-table _ 512 (branchOf N i) 0 (on-flagged N inside i)
+
+      pub section-listed : isSection i ≡ true → getD (sectionsAmong i) (branchOf N i) 0 ≡ 512 → set (sectionsAmong i) (branchOf N i) i ≡ sectionsAmong (i + 1)
+      unfolding sectionsAmong sectionNumber
+      section-listed t e =
+          table-set _ _ 512 (branchOf N i) i (on-flagged N inside i)
+          (ap sectionNumber (least-found (sectionOn (branchOf N i)) i (rw (eq-eqb (branchOf N i) (branchOf N i) refl, t)) (first (least (sectionOn (branchOf N i)) i) (sym listed-so-far ∙ e) (least-below (sectionOn (branchOf N i)) i))))
+          (λ k m n. ap sectionNumber (sym (other-branch k n)))
+        where
+          first : (found : Option ℕ) → sectionNumber found ≡ 512 → IfSome (λ j. j < i) found → found ≡ none
+          first none e h = refl
+          first (some j) e h = absurd (omega (arith, inside .counts .2))
+
+      pub section-passed : getD (sectionsAmong i) (branchOf N i) 0 ≢ 512 → sectionsAmong i ≡ sectionsAmong (i + 1)
+      unfolding sectionsAmong sectionNumber
+      section-passed d = table-cong _ _ 512 (λ k m. ap sectionNumber (sym (each k (ℕ-discrete k (branchOf N i)))))
+        where
+          kept : (found : Option ℕ) → least (sectionOn (branchOf N i)) i ≡ found → least (sectionOn (branchOf N i)) (i + 1) ≡ least (sectionOn (branchOf N i)) i
+          kept none e = absurd (d (listed-so-far ∙ ap sectionNumber e))
+          kept (some j) e = least-kept (sectionOn (branchOf N i)) i j e ∙ sym e
+
+          each : (k : ℕ) → Dec (k ≡ branchOf N i) → least (sectionOn k) (i + 1) ≡ least (sectionOn k) i
+          each k (yes q) = rw q (kept (least (sectionOn (branchOf N i)) i) refl)
+          each k (no n) = other-branch k n
 
     section-read : (k : ℕ) → getD (sectionsOf N) k 512 ≡ sectionNumber (sectionOf N k)
     unfolding sectionsOf sectionOf sectionNumber
@@ -100,7 +122,7 @@ module _ (N : Network) where
       go (some i) h = eqb-true _ _ (both (eqb (branchOf N i) k) _ h .0)
 
 -- ---- a swap by the rows
-module _ (n : PowerNetwork) (ok : checkRecords (recordsOf n) ≡ accepted tt) (c : NetworkConfiguration) (held : Held n c) (tie : ℕ) (l : tie < n .«switch_count») where
+module _ (n : PowerNetwork) (ok : checkRecords (recordsOf n) ≡ accepted tt) (c : NetworkConfiguration) (held : Held n c) (tie : ℕ) (l : tie < n .«switch_count») (still-open : byte (stateOf n c) tie ≡ 1) where
   abbrev N : Network
   N = recordsOf n
 
@@ -120,20 +142,20 @@ module _ (n : PowerNetwork) (ok : checkRecords (recordsOf n) ≡ accepted tt) (c
   long = held-long n c held few ∙ sym (switches-listed n)
 
   -- the live branches after it
-  pub swapped-flags : (section : ℕ) → section < size N → set (set (liveFlags N s) on (inService N on)) (branchOf N section) false ≡ liveFlags N (swapped s tie section)
+  pub swapped-flags : (section : ℕ) → section < size N → set (set (liveFlags N s) on (oneOpen N s on)) (branchOf N section) false ≡ liveFlags N (swapped s tie section)
   unfolding swapped
   swapped-flags section h =
-      ap (λ flags. set flags (branchOf N section) false) (flags-closed N inside s long tie (omega (arith, switches-listed n)))
+      ap (λ flags. set flags (branchOf N section) false) (flags-closed N inside s long tie (omega (arith, switches-listed n)) still-open)
       ∙ flags-opened N inside (set s tie 0) (length-set s tie 0 ∙ long) section h
 
   module _ (sized : length (n .buses) ≡ 256) (g : Graph) (a : g ≡ feederGraph n) (sections : List ℕ) (q : sections ≡ sectionsOf N) (live : List Bool) (b : live ≡ liveFlags N s) where
     abbrev swapRow : ℕ → Option ℕ
-    swapRow = rowSwap g sections (c .switches) (set live on (inService N on))
+    swapRow = rowSwap g sections (c .switches) (set live on (oneOpen N s on))
 
     listed : (k : ℕ) → getD sections k 512 ≡ sectionNumber (sectionOf N k)
     listed k = rw q (section-read N inside k)
 
-    judged : (k section : ℕ) → section < size N → branchOf N section ≡ k → rowRadial g (set (set live on (inService N on)) k false) ≡ radialIn N (swapped s tie section)
+    judged : (k section : ℕ) → section < size N → branchOf N section ≡ k → rowRadial g (set (set live on (oneOpen N s on)) k false) ≡ radialIn N (swapped s tie section)
     judged k section h e = flags-radial n sized ok (swapped s tie section) g _ a (rw (b, ← e) (swapped-flags section h)) _ refl
 
     pub swap-by-row : (k : ℕ) → swapWith N s tie (sectionOf N k) ≡ swapAt s tie (swapRow k)
@@ -159,5 +181,5 @@ module _ (n : PowerNetwork) (ok : checkRecords (recordsOf n) ≡ accepted tt) (c
         go (some section) e h =
             let below : section < n .«switch_count» = omega (arith, switches-listed n) in
             rw e
-            (cond-holds (λ i. i < n .«switch_count») (ltb section 512 && (eqb (getD (c .switches) section 0) 0 && rowRadial g (set (set live on (inService N on)) k false))) (some section) none
+            (cond-holds (λ i. i < n .«switch_count») (ltb section 512 && (eqb (getD (c .switches) section 0) 0 && rowRadial g (set (set live on (oneOpen N s on)) k false))) (some section) none
             (λ t. below) tt)

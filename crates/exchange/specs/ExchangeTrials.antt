@@ -10,10 +10,12 @@ use lib.Dec.{eqb, ltb}
 use lib.Ieee.{Float, binary64, sub, lt}
 use lib.ListN.{length, getD, take, drop, set, length-take, List·getD-eq-default}
 use lib.Seq.{getD-take}
-use borrow.Author.Tests.{lt-ltb, le-ltb, ltb-true, eq-eqb, ne-eqb}
+use borrow.Author.Tests.{lt-ltb, le-ltb, ltb-true, eqb-true, eq-eqb, ne-eqb}
 use Rattle.numbers.specs.Arrays.{padded-front}
 use Rattle.numbers.specs.Constants.{billionth}
 use Rattle.numbers.specs.Choose.{firstSome, _orElse_}
+use Rattle.numbers.specs.Tests.{both}
+use Rattle.numbers.specs.UpTo.{table}
 use Rattle.states.specs.declared.configuration.NetworkConfiguration.{NetworkConfiguration}
 use Rattle.network.specs.declared.switch.Switch.{Switch}
 use Rattle.network.specs.declared.topology.PowerNetwork.{PowerNetwork}
@@ -21,6 +23,7 @@ use Rattle.network.specs.Records.{Network, noSwitch, recordsOf}
 use Rattle.network.specs.Answers.{accepted}
 use Rattle.network.specs.Check.{checkRecords}
 use Rattle.states.specs.Configuration.{configurationOf}
+use Rattle.network.specs.ReadLaws.{pastBranch}
 use Rattle.network.specs.InsideLaws.{check-inside}
 use Rattle.network.specs.Positions.{on-a-branch}
 use Rattle.graph.specs.declared.rows.Graph.{Graph}
@@ -30,7 +33,8 @@ use Rattle.feeders.specs.Feeder.{feeder}
 use Rattle.feeders.specs.FeederRows.{feederGraph, liveFlags}
 use Rattle.feeders.specs.FeederRowLaws.{live-row-ends-path}
 use Rattle.losses.specs.Loss.{lossIn}
-use Rattle.states.specs.Switches.{State, byte, branchOf, swapped, inService}
+use Rattle.states.specs.Switches.{State, byte, branchOf, operable, switch, isTie, swapped}
+use Rattle.states.specs.OpenCounts.{openCount, oneOpen}
 use Rattle.exchange.specs.declared.exchange.Section.{Section}
 use Rattle.exchange.specs.declared.exchange.Section.the-variants.{At, Absent}
 use Rattle.exchange.specs.declared.exchange.Trial.{Trial}
@@ -38,7 +42,7 @@ use Rattle.searches.specs.States.{stateOf}
 use Rattle.searches.specs.Given.{Held}
 use Rattle.states.specs.Listed.{switches-listed, switch-at}
 use Rattle.searches.specs.StateLaws.{byte-at}
-use Rattle.searches.specs.SwitchReads.{SwitchAt, own-switch, own-status}
+use Rattle.searches.specs.SwitchReads.{status-read, count-read}
 use Rattle.exchange.specs.Exchange.{seen, loopOf, sectionOf, swapWith, trial, improves, improved, improving}
 use Rattle.numbers.specs.IfSome.{IfSome, firstSome-holds}
 use Rattle.exchange.specs.ExchangeValues.{sectionAt, sectionIn, sectionsOf, rowSwap, rowTrial, swapAt, trialOf}
@@ -145,7 +149,7 @@ first-swapped s tie f (k ∷ l) = go (f k) (first-swapped s tie f l)
     go (some section) ih = refl
 
 module _ (n : PowerNetwork) (ok : checkRecords (recordsOf n) ≡ accepted tt) (sized : length (n .buses) ≡ 256) (c : NetworkConfiguration) (held : Held n c) (tie : ℕ) (h : tie < n .«switch_count»)
-    (g : Graph) (a : g ≡ feederGraph n) (sections : List ℕ) (q : sections ≡ sectionsOf (recordsOf n)) (live : List Bool) (b : live ≡ liveFlags (recordsOf n) (stateOf n c)) where
+    (still-open : byte (stateOf n c) tie ≡ 1) (g : Graph) (a : g ≡ feederGraph n) (sections : List ℕ) (q : sections ≡ sectionsOf (recordsOf n)) (live : List Bool) (b : live ≡ liveFlags (recordsOf n) (stateOf n c)) where
   abbrev N : Network
   N = recordsOf n
 
@@ -153,7 +157,7 @@ module _ (n : PowerNetwork) (ok : checkRecords (recordsOf n) ≡ accepted tt) (s
   on = branchOf N tie
 
   abbrev tieRow : Option ℕ
-  tieRow = rowTrial g sections (c .switches) live on (inService N on)
+  tieRow = rowTrial g sections (c .switches) live on (oneOpen N (stateOf n c) on)
 
   loop-by-rows : rowEndsPath g live on ≡ loopOf N (stateOf n c) tie
   unfolding loopOf
@@ -166,12 +170,28 @@ module _ (n : PowerNetwork) (ok : checkRecords (recordsOf n) ≡ accepted tt) (s
   trial-by-rows =
       let path = rowEndsPath g live on in
       ap (firstSome (λ k. swapWith N (stateOf n c) tie (sectionOf N k))) (sym loop-by-rows)
-      ∙ ap (λ f. firstSome f path) (fun-ext (swap-by-row n ok c held tie h sized g a sections q live b))
+      ∙ ap (λ f. firstSome f path) (fun-ext (swap-by-row n ok c held tie h still-open sized g a sections q live b))
       ∙ first-swapped (stateOf n c) tie _ path
 
   trial-below : IfSome (λ i. i < n .«switch_count») tieRow
   unfolding rowTrial
-  trial-below = firstSome-holds (λ i. i < n .«switch_count») _ (row-below n ok c held tie h sized g a sections q live b) _
+  trial-below = firstSome-holds (λ i. i < n .«switch_count») _ (row-below n ok c held tie h still-open sized g a sections q live b) _
+
+-- w is switch i of the feeder, and made-live says whether closing it, where it is open, makes its branch live
+pub record SwitchAt (n : PowerNetwork) (s : State) (i : ℕ) (w : Switch) (made-live : Bool) : Type 0 where
+  pub below : i < n .«switch_count»
+  pub here : switch (recordsOf n) i ≡ w
+  pub flag : oneOpen (recordsOf n) s (branchOf (recordsOf n) i) ≡ made-live
+
+-- what the code reads
+pub switch-read : (n : PowerNetwork) → checkRecords (recordsOf n) ≡ accepted tt → length (n .branches) ≡ 512 → (c : NetworkConfiguration) (counts : List ℕ)
+    → counts ≡ table (openCount (recordsOf n) (c .switches)) 512 → (i : ℕ) → i < n .«switch_count» → (on : ℕ) → on ≡ getD (n .switches) i noSwitch .«branch_idx» → (made-live : Bool)
+    → made-live ≡ (getD (n .branches) on pastBranch .status && eqb (getD counts on 0) 1) → SwitchAt n (stateOf n c) i (getD (n .switches) i noSwitch) made-live
+unfolding oneOpen
+switch-read n ok sized c counts e i l on p made-live q =
+    let status = status-read n ok i l _ refl sized on p in
+    let open-now = count-read n ok i l _ refl c counts e on p in
+    record { below = l; here = switch-at n i l; flag = rw (status, open-now) (sym q) }
 
 -- what the section that the code finds for a tie says
 pub record Tried (n : PowerNetwork) (c : NetworkConfiguration) (tie : ℕ) (section : Section) : Type 0 where
@@ -179,17 +199,20 @@ pub record Tried (n : PowerNetwork) (c : NetworkConfiguration) (tie : ℕ) (sect
   pub found : {i : ℕ} → section ≡ At i → trial (recordsOf n) (stateOf n c) tie ≡ some (swapped (stateOf n c) tie i)
   pub below : {i : ℕ} → section ≡ At i → i < n .«switch_count»
 
-module _ (n : PowerNetwork) (ok : checkRecords (recordsOf n) ≡ accepted tt) (c : NetworkConfiguration) (held : Held n c) (tie : ℕ) (sw : Switch) (served : Bool) (at : SwitchAt n tie sw served)
-    (live : List Bool) (b : live ≡ liveFlags (recordsOf n) (stateOf n c)) where
+module _ (n : PowerNetwork) (ok : checkRecords (recordsOf n) ≡ accepted tt) (c : NetworkConfiguration) (held : Held n c) (tie : ℕ) (sw : Switch) (made-live : Bool) (at : SwitchAt n (stateOf n c) tie sw made-live)
+    (see : seen (recordsOf n) (stateOf n c) tie ≡ true) (live : List Bool) (b : live ≡ liveFlags (recordsOf n) (stateOf n c)) where
+  still-open : byte (stateOf n c) tie ≡ 1
+  still-open = eqb-true _ _ (both (operable (recordsOf n) tie) _ (both (isTie (recordsOf n) tie) _ see .1) .1)
+
   pub tie-tried : length (n .buses) ≡ 256 → (g : Graph) → g ≡ feederGraph n → (sections : List ℕ) → sections ≡ sectionsOf (recordsOf n) → (section : Section)
-      → section ≡ sectionAt (rowTrial g sections (c .switches) live (sw .«branch_idx») served) → Tried n c tie section
+      → section ≡ sectionAt (rowTrial g sections (c .switches) live (sw .«branch_idx») made-live) → Tried n c tie section
   unfolding swapAt
   tie-tried sized g a sections q section e =
-      let row = tieRow n ok sized c held tie (at .below) g a sections q live b in
-      let tried = trial-by-rows n ok sized c held tie (at .below) g a sections q live b in
-      let listed : IfSome (λ i. i < n .«switch_count») row = trial-below n ok sized c held tie (at .below) g a sections q live b in
-      let found : section ≡ sectionAt row = e ∙ ap (λ w. sectionAt (rowTrial g sections (c .switches) live (w .«branch_idx») served)) (sym (own-switch n ok tie sw served at))
-      ∙ ap (λ t. sectionAt (rowTrial g sections (c .switches) live (branchOf (recordsOf n) tie) t)) (sym (own-status n ok tie sw served at)) in
+      let row = tieRow n ok sized c held tie (at .below) still-open g a sections q live b in
+      let tried = trial-by-rows n ok sized c held tie (at .below) still-open g a sections q live b in
+      let listed : IfSome (λ i. i < n .«switch_count») row = trial-below n ok sized c held tie (at .below) still-open g a sections q live b in
+      let found : section ≡ sectionAt row = e ∙ ap (λ w. sectionAt (rowTrial g sections (c .switches) live (w .«branch_idx») made-live)) (sym (at .here))
+      ∙ ap (λ t. sectionAt (rowTrial g sections (c .switches) live (branchOf (recordsOf n) tie) t)) (sym (at .flag)) in
       record {
         absent = λ l. tried ∙ ap (swapAt (stateOf n c) tie) (section-none row section found l);
         found = λ l. tried ∙ ap (swapAt (stateOf n c) tie) (section-some row section found l);
@@ -201,15 +224,15 @@ module _ (n : PowerNetwork) (ok : checkRecords (recordsOf n) ≡ accepted tt) (c
 
   -- the flags after the swap
   pub tried-flags : (section : ℕ) → section < n .«switch_count» → (on opened : ℕ) → on ≡ sw .«branch_idx» → opened ≡ getD (n .switches) section noSwitch .«branch_idx»
-      → set (set live on served) opened false ≡ liveFlags (recordsOf n) (swapped (stateOf n c) tie section)
+      → set (set live on made-live) opened false ≡ liveFlags (recordsOf n) (swapped (stateOf n c) tie section)
   tried-flags section l on opened e p =
-      rw (b, e, p, ← switch-at n section l, ← own-switch n ok tie sw served at, ← own-status n ok tie sw served at) (swapped-flags n ok c held tie (at .below) section (omega (arith, switches-listed n)))
+      rw (b, e, p, ← switch-at n section l, ← at .here, ← at .flag) (swapped-flags n ok c held tie (at .below) still-open section (omega (arith, switches-listed n)))
 
 -- ---- a switch more in a round
-pub seen-read : (n : PowerNetwork) → checkRecords (recordsOf n) ≡ accepted tt → (c : NetworkConfiguration) (i : ℕ) (sw : Switch) (served : Bool) → SwitchAt n i sw served → (b : Bool)
+pub seen-read : (n : PowerNetwork) (c : NetworkConfiguration) (i : ℕ) (sw : Switch) (made-live : Bool) → SwitchAt n (stateOf n c) i sw made-live → (b : Bool)
     → b ≡ (sw .«normally_open» && (sw .«can_operate» && eqb (getD (c .switches) i 0) 1)) → seen (recordsOf n) (stateOf n c) i ≡ b
-seen-read n ok c i sw served at b e =
-    ap (λ w. w .«normally_open» && (w .«can_operate» && eqb (byte (stateOf n c) i) 1)) (own-switch n ok i sw served at)
+seen-read n c i sw made-live at b e =
+    ap (λ w. w .«normally_open» && (w .«can_operate» && eqb (byte (stateOf n c) i) 1)) (at .here)
     ∙ ap (λ x. sw .«normally_open» && (sw .«can_operate» && eqb x 1)) (byte-at n c i (at .below))
     ∙ sym e
 

@@ -46,9 +46,9 @@ rowSwap g sections state live k =
     let section = getD sections k 512 in
     cond (ltb section 512 && (eqb (getD state section 0) 0 && rowRadial g (set live k false))) (some section) none
 
--- the first along the loop of a tie on branch k, which has this status
+-- the first along the loop of a tie on branch k, which is live then or not
 unfoldable pub rowTrial : Graph → List ℕ → List ℕ → List Bool → ℕ → Bool → Option ℕ
-rowTrial g sections state live k served = firstSome (rowSwap g sections state (set live k served)) (rowEndsPath g live k)
+rowTrial g sections state live k made-live = firstSome (rowSwap g sections state (set live k made-live)) (rowEndsPath g live k)
 
 -- the state after it
 unfoldable pub swapAt : State → ℕ → Option ℕ → Option State

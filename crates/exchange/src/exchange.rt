@@ -39,6 +39,7 @@ use searches::start::Start;
 use searches::start::start_of;
 use states::configuration::NetworkConfiguration;
 use states::configuration::live_branches;
+use states::configuration::open_counts;
 
 // A state that was tried, with its loss. Where none was found, the round's state.
 struct Trial {
@@ -71,7 +72,7 @@ fn is_section(switch: Switch) -> bool
 // In place of a switch position where a branch has no section: one more than the last.
 const NO_SECTION: u16 = PowerNetwork::MAX_SWITCHES as u16;
 
-// For each branch the position of its operable section switch, NO_SECTION where it has none: an array of enums cannot be lent. A branch has one switch at most.
+// For each branch the position of its first operable section switch, NO_SECTION where it has none: an array of enums cannot be lent.
 fn sections_of(network: PowerNetwork) -> [u16; PowerNetwork::MAX_BRANCHES]
     requires { ⌜ checkRecords (recordsOf network) ≡ accepted tt ⌝ }
     ensures { λ r. ⌜ r ≡ sectionsOf (recordsOf network) ⌝ }
@@ -84,7 +85,9 @@ fn sections_of(network: PowerNetwork) -> [u16; PowerNetwork::MAX_BRANCHES]
         let switch = network.switches[at];
         let on = wide16(switch.branch_idx);
         if is_section(switch) {
-            sections[on] = i;
+            if sections[on] == NO_SECTION {
+                sections[on] = i;
+            }
         }
         i += 1;
     }
@@ -164,22 +167,22 @@ fn find_loop_branches_closed_tie(
     path_of_ends(graph, live, branch)
 }
 
-// The section that a tie on this branch is swapped with: the first along its loop.
+// The section that a tie on this branch is swapped with: the first along its loop. Beside another open switch a closed tie does not make its branch live.
 fn try_tie(
     graph: Graph,
     sections: &[u16; PowerNetwork::MAX_BRANCHES],
     state: &[u8; NetworkConfiguration::MAX_SWITCHES],
     live: [bool; PowerNetwork::MAX_BRANCHES],
     branch: u16,
-    in_service: bool,
+    made_live: bool,
 ) -> Section
     requires { ⌜ (length (now sections) ≡ 512) × (length (now state) ≡ 512) × (branch < 512) ⌝ }
-    ensures { λ r. ⌜ r ≡ sectionAt (rowTrial graph (now (sections .entry)) (now (state .entry)) live branch «in_service») ⌝ }
+    ensures { λ r. ⌜ r ≡ sectionAt (rowTrial graph (now (sections .entry)) (now (state .entry)) live branch «made_live») ⌝ }
 {
     let path = find_loop_branches_closed_tie(graph, live, branch);
     let on = wide16(branch);
     let mut closed = live;
-    closed[on] = in_service;
+    closed[on] = made_live;
     first_swap(graph, sections, state, closed, path)
 }
 
@@ -193,6 +196,13 @@ fn is_seen(switch: Switch, state: u8) -> bool
     false
 }
 
+// Does closing an open switch make its branch live? It does where the branch is in service and no other switch on it is open.
+fn makes_live(in_service: bool, open_count: u16) -> bool
+    ensures { λ r. ⌜ r ≡ («in_service» && eqb «open_count» 1) ⌝ }
+{
+    in_service && open_count == 1
+}
+
 // A trial improves when its loss is below current − 1e-9.
 fn improves(loss: f64, current: f64) -> bool
     ensures { λ r. ⌜ r ≡ lt loss (sub binary64 current billionth) ⌝ }
@@ -200,18 +210,18 @@ fn improves(loss: f64, current: f64) -> bool
     loss < current - 1e-9
 }
 
-// The live branches after a swap: the tie's where it is in service, and not the section's.
+// The live branches after a swap: the tie's where closing it makes it live, and not the section's.
 fn swapped_live(
     live: [bool; PowerNetwork::MAX_BRANCHES],
     closed: usize,
-    in_service: bool,
+    made_live: bool,
     opened: usize,
 ) -> [bool; PowerNetwork::MAX_BRANCHES]
     requires { ⌜ (closed < 512) × (opened < 512) ⌝ }
-    ensures { λ r. ⌜ r ≡ set (set live closed «in_service») opened false ⌝ }
+    ensures { λ r. ⌜ r ≡ set (set live closed «made_live») opened false ⌝ }
 {
     let mut swapped = live;
-    swapped[closed] = in_service;
+    swapped[closed] = made_live;
     swapped[opened] = false;
     swapped
 }
@@ -255,6 +265,7 @@ fn branch_exchange_step(
     ensures { λ r. ⌜ r ≡ trialOf (recordsOf network) configuration (roundOf (recordsOf network) (stateOf network configuration) current) ⌝ }
 {
     let live = live_branches(network, configuration);
+    let counts = open_counts(network, configuration);
     let state = configuration.switches;
     let branches = network.branches;
     let base_mva = network.base_mva;
@@ -268,7 +279,7 @@ fn branch_exchange_step(
     while i < count {
         let switch = network.switches[i];
         let on = wide16(switch.branch_idx);
-        let served = network.branches[on].status;
+        let made_live = makes_live(network.branches[on].status, counts[on]);
         if is_seen(switch, state[i]) {
             if let Section::At(found) = try_tie(
                 graph,
@@ -276,11 +287,11 @@ fn branch_exchange_step(
                 &state,
                 live,
                 switch.branch_idx,
-                served,
+                made_live,
             ) {
                 let section = wide16(found);
                 let opened = wide16(network.switches[section].branch_idx);
-                let swapped = swapped_live(live, on, served, opened);
+                let swapped = swapped_live(live, on, made_live, opened);
                 let loss = live_loss(graph, loads, branches, base_mva, swapped);
                 last = last_improving(last, configuration, current, i, section, loss);
             }

@@ -11,7 +11,7 @@ use Rattle.network.specs.declared.switch.ReconfigAlgorithm.the-variants as meth
 use Rattle.network.specs.declared.topology.PowerNetwork.{PowerNetwork}
 use Rattle.states.specs.Configuration.{configurationOf}
 use Rattle.network.specs.Records.{Network}
-use Rattle.states.specs.Switches.{branchOf, size, isTie, inService}
+use Rattle.states.specs.Switches.{branchOf, size, isTie}
 use Rattle.exhaustive.specs.declared.exhaustive.ExhaustiveSearch.{ExhaustiveSearch}
 use Rattle.exhaustive.specs.declared.exhaustive.Ties.{Ties}
 use Rattle.exhaustive.specs.Exhaustive.{bit, Least, Exhaustive, leastOrBase}
@@ -21,21 +21,16 @@ use Rattle.exhaustive.specs.Exhaustive.{bit, Least, Exhaustive, leastOrB
 abbrev pub tieAt : Network → ℕ → ℕ
 tieAt N t = getD (those (isTie N) (size N)) t 0
 
--- the branches of the first t ties, and whether they are in service
+-- the branches of the first t ties
 unfoldable pub tiesOf : Network → ℕ → Ties
-tiesOf N t =
-    record {
-      count = t;
-      on = filled (λ j. branchOf N (tieAt N j)) 0 10 t;
-      «in_service» = filled (λ j. inService N (branchOf N (tieAt N j))) false 10 t;
-    }
+tiesOf N t = record { count = t; on = filled (λ j. branchOf N (tieAt N j)) 0 10 t }
 
--- flags of live branches, with the t-th tie closed if its bit of the mask is 1
-abbrev pub closing : Ties → ℕ → List Bool → ℕ → List Bool
-closing ties mask flags t = cond (bit mask t) (set flags (getD (ties .on) t 0) (getD (ties .«in_service») t false)) flags
+-- flags of live branches, with the t-th tie opened if its bit of the mask is 0
+abbrev pub opening : Ties → ℕ → List Bool → ℕ → List Bool
+opening ties mask flags t = cond (bit mask t) flags (set flags (getD (ties .on) t 0) false)
 
-unfoldable pub closedBy : Ties → ℕ → List Bool → List Bool
-closedBy ties mask live = upTo (closing ties mask) live (ties .count)
+unfoldable pub openedBy : Ties → ℕ → List Bool → List Bool
+openedBy ties mask live = upTo (opening ties mask) live (ties .count)
 
 -- ---- where the search stands
 

@@ -20,7 +20,7 @@ ghost use Rattle.searches.specs.Results.{solvedBy, solveAnswerOf};
 ghost use Rattle.searches.specs.SearchValues.{startOf, foundOf};
 ghost use Rattle.searches.specs.Given.{Given, Base};
 ghost use Rattle.exhaustive.specs.Exhaustive.{tieCount, masked, Exhaustive, noMask, withRadial, tryMask, exhaustive, exhaustiveBest, asExhaustive};
-ghost use Rattle.exhaustive.specs.ExhaustiveValues.{tiesOf, closedBy, exhaustiveOf, exhaustiveHead};
+ghost use Rattle.exhaustive.specs.ExhaustiveValues.{tiesOf, openedBy, exhaustiveOf, exhaustiveHead};
 use bfs::radial::is_radial;
 use graph::rows::Graph;
 use losses::loads::Loads;
@@ -37,6 +37,7 @@ use searches::answer::check_search;
 use searches::start::Start;
 use searches::start::start_of;
 use states::configuration::NetworkConfiguration;
+use states::configuration::live_branches;
 
 // The least radial state so far with its loss, the base with its loss where none was found yet, and how many radial states there were.
 struct ExhaustiveSearch {
@@ -46,11 +47,10 @@ struct ExhaustiveSearch {
     radial_count: u16,
 }
 
-// The ties in list order: how many there are, the branch of each, and whether that is in service.
+// The ties in list order: how many there are, and the branch of each.
 struct Ties {
     count: usize,
     on: [u16; PowerNetwork::MAX_TIES],
-    in_service: [bool; PowerNetwork::MAX_TIES],
 }
 
 impl Ties {
@@ -61,22 +61,19 @@ impl Ties {
         Ties {
             count: 0,
             on: [0; PowerNetwork::MAX_TIES],
-            in_service: [false; PowerNetwork::MAX_TIES],
         }
     }
 
     // One more.
-    fn with(mut self, on: u16, in_service: bool) -> Ties
+    fn with(mut self, on: u16) -> Ties
         requires { ⌜ self .count < 10 ⌝ }
         ensures { λ r. ⌜ r ≡ record {
           count = self .count + 1;
           on = set (self .on) (self .count) on;
-          «in_service» = set (self .«in_service») (self .count) «in_service»;
         } ⌝ }
     {
         let at = self.count;
         self.on[at] = on;
-        self.in_service[at] = in_service;
         self.count = at + 1;
         self
     }
@@ -140,31 +137,31 @@ fn find_ties(network: PowerNetwork) -> Ties
     let mut i = 0usize;
     while i < count {
         let switch = network.switches[i];
-        let on = wide16(switch.branch_idx);
         if is_tie(switch) {
-            ties = ties.with(switch.branch_idx, network.branches[on].status);
+            ties = ties.with(switch.branch_idx);
         }
         i += 1;
     }
     ties
 }
 
-// The live branches of a mask: those of the base, and of the ties whose bit is 1 those in service.
+// The live branches of a mask: those with every switch closed, without the branches of the ties whose bit is 0. A tie that is closed beside an open one
+// makes nothing live.
 fn masked_live(
-    base_live: [bool; PowerNetwork::MAX_BRANCHES],
+    closed_live: [bool; PowerNetwork::MAX_BRANCHES],
     ties: Ties,
     mask: u16,
 ) -> [bool; PowerNetwork::MAX_BRANCHES]
     requires { ⌜ (ties .count ≤ 10) × ((t : ℕ) → getD (ties .on) t 0 < 512) ⌝ }
-    ensures { λ r. ⌜ r ≡ closedBy ties mask «base_live» ⌝ }
+    ensures { λ r. ⌜ r ≡ openedBy ties mask «closed_live» ⌝ }
 {
-    let mut live = base_live;
+    let mut live = closed_live;
     let mut rest = mask;
     let mut t = 0usize;
     while t < ties.count {
         let on = wide16(ties.on[t]);
-        if rest % 2 == 1 {
-            live[on] = ties.in_service[t];
+        if rest % 2 == 0 {
+            live[on] = false;
         }
         rest = rest / 2;
         t += 1;
@@ -253,26 +250,27 @@ fn with_mask(
     with_radial(search, masked(network, mask), loss)
 }
 
-// Document 01's exhaustive search, by rising masks. Their live branches follow from the base's: only a radial mask has its state made and its loss taken.
+// Document 01's exhaustive search, by rising masks. Their live branches follow from those with every switch closed: only a radial mask has its state made and
+// its loss taken.
 fn exhaustive_masks(
     network: PowerNetwork,
     graph: Graph,
     loads: Loads,
     base: NetworkConfiguration,
-    base_live: [bool; PowerNetwork::MAX_BRANCHES],
     base_radial: bool,
     base_loss: f64,
 ) -> ExhaustiveSearch
-    requires { ⌜ Given network graph loads × Base network base «base_loss» × («base_live» ≡ liveFlags (recordsOf network) (baseState (recordsOf network)))
+    requires { ⌜ Given network graph loads × Base network base «base_loss»
         × («base_radial» ≡ radialIn (recordsOf network) (baseState (recordsOf network))) × (network .algorithm ≡ ReconfigAlgorithm.Exhaustive) ⌝ }
     ensures { λ r. ⌜ r ≡ exhaustiveOf (recordsOf network) (exhaustive (recordsOf network)) ⌝ }
 {
+    let closed_live = live_branches(network, NetworkConfiguration::new());
     let ties = find_ties(network);
     let masks = count_masks(ties.count);
     let mut search = with_base(base, base_radial, base_loss);
     let mut mask = 1u16;
     while mask < masks {
-        let live = masked_live(base_live, ties, mask);
+        let live = masked_live(closed_live, ties, mask);
         if is_radial(graph, live) {
             search = with_mask(network, graph, loads, search, live, mask);
         }
@@ -289,8 +287,7 @@ fn search(network: PowerNetwork, start: Start) -> Found
     let graph = start.graph;
     let loads = start.loads;
     let base = start.base;
-    let live = start.live;
-    let done = exhaustive_masks(network, graph, loads, base, live, start.radial, start.loss);
+    let done = exhaustive_masks(network, graph, loads, base, start.radial, start.loss);
     let configuration = done.configuration;
     Found {
         configuration,

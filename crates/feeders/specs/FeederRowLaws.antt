@@ -11,7 +11,7 @@ use borrow.Author.Tests.{lt-ltb, ltb-true, ltb-false}
 use Rattle.numbers.specs.UpTo.{table}
 use Rattle.numbers.specs.TableLaws.{length-table, getD-table, table-cong}
 use Rattle.numbers.specs.Choose.{indexOf, among}
-use Rattle.numbers.specs.ChooseLaws.{index-found}
+use Rattle.numbers.specs.ChooseLaws.{index-found, among-mem, mem-among}
 use Rattle.network.specs.declared.branch.Branch.{Branch}
 use Rattle.states.specs.declared.configuration.NetworkConfiguration.{NetworkConfiguration}
 use Rattle.network.specs.declared.topology.PowerNetwork.{PowerNetwork}
@@ -20,7 +20,7 @@ use Rattle.network.specs.Answers.{accepted}
 use Rattle.network.specs.Limits.{busId}
 use Rattle.network.specs.Check.{checkRecords}
 use Rattle.network.specs.Inside.{Inside, HasBus}
-use Rattle.network.specs.InsideLaws.{check-inside, among-mem, mem-among}
+use Rattle.network.specs.InsideLaws.{check-inside}
 use Rattle.network.specs.Positions.{from-listed, to-listed}
 use Rattle.states.specs.Listed.{buses-listed, branches-listed, branch-at, state-accepted}
 use Rattle.network.specs.LookupLaws.{listed-buses}

@@ -8,6 +8,7 @@ use Prim.Native.Nat.{ℕ, _+_, _<_}
 use lib.ListN.{length}
 use borrow.Author.Tests.{not-false}
 use Rattle.numbers.specs.Choose.{among}
+use Rattle.numbers.specs.ChooseLaws.{among-mem, mem-among}
 use Rattle.network.specs.declared.topology.PowerNetwork.{PowerNetwork}
 use Rattle.network.specs.Records.{Network, recordsOf}
 use Rattle.network.specs.Answers.{accepted, _andThen_, judge}
@@ -15,7 +16,7 @@ use Rattle.network.specs.AnswerLaws.{judge-iff, then-iff, then-nothing}
 use Rattle.network.specs.Limits.{busId}
 use Rattle.network.specs.Check.{headOf, checkRun, checkRecords}
 use Rattle.network.specs.Inside.{Inside}
-use Rattle.network.specs.InsideLaws.{check-inside, among-mem, mem-among}
+use Rattle.network.specs.InsideLaws.{check-inside}
 use Rattle.states.specs.Live.{baseState, live}
 use Rattle.feeders.specs.Feeder.{position, feeder, formIn, radialIn}
 use Rattle.feeders.specs.FeederLaws.{position-listed, inside-radial-tree}

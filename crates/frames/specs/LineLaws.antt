@@ -42,21 +42,24 @@ supply-sound = record { byte = lit< tt; short = lit≤ tt; even = refl }
 unfoldable pub lineOf : (F : Frame) → Fields (F .widths) → Line
 lineOf F f = record { chars = writeFields (layout F) (F .kind, f); ended = true }
 
--- a frame's text is one line, and the texts of many are their lines
+-- a frame's text is one line
 pub cut-frame : (F : Frame) (f : Fields (F .widths)) (rest : List ℕ) → cut (frameText F f ++ rest) ≡ lineOf F f ∷ cut rest
 unfolding frameText lineOf
 cut-frame F f rest =
     let chars = writeFields (layout F) (F .kind, f) in
     ap cut (append-assoc chars (10 ∷ []) rest) ∙ cut-ended chars rest (written-no-feed (layout F) (F .kind, f))
 
+-- where each text is one line, the texts of many are their lines
+pub cut-each : {A : Type 0} (text : A → List ℕ) (line : A → Line) → ((a : A) (rest : List ℕ) → cut (text a ++ rest) ≡ line a ∷ cut rest) → (l : List A) (rest : List ℕ)
+    → cut (flatMap text l ++ rest) ≡ map line l ++ cut rest
+unfolding flatMap
+cut-each text line one [] rest = refl
+cut-each text line one (a ∷ l) rest =
+    ap cut (append-assoc (text a) (flatMap text l) rest) ∙ one a (flatMap text l ++ rest) ∙ ap (λ (ls : List Line). line a ∷ ls) (cut-each text line one l rest)
+
 pub cut-frames : {A : Type 0} (F : Frame) (fields : A → Fields (F .widths)) (l : List A) (rest : List ℕ)
     → cut (flatMap (λ a. frameText F (fields a)) l ++ rest) ≡ map (λ a. lineOf F (fields a)) l ++ cut rest
-unfolding flatMap
-cut-frames F fields [] rest = refl
-cut-frames F fields (a ∷ l) rest =
-    let text = frameText F (fields a) in
-    let more = flatMap (λ b. frameText F (fields b)) l in
-    ap cut (append-assoc text more rest) ∙ cut-frame F (fields a) (more ++ rest) ∙ ap (λ (ls : List Line). lineOf F (fields a) ∷ ls) (cut-frames F fields l rest)
+cut-frames F fields = cut-each (λ a. frameText F (fields a)) (λ a. lineOf F (fields a)) (λ a. cut-frame F (fields a))
 
 module _ (F : Frame) (s : Sound F) where
   pub line-digits : (f : Fields (F .widths)) → Fit (F .widths) f → DigitLine (lineOf F f)

@@ -7,9 +7,10 @@ use mathlib.Core.List.{List, _∷_, List·Memᴰ, List·Memᴰ·head, List·Mem�
 use Prim.Native.Nat.{ℕ}
 use native.Mathlib.Decide.{ℕ-discrete}
 use Rattle.numbers.specs.Distinct.{Distinct}
+use Rattle.numbers.specs.Members.{mem?}
 use Rattle.graph.specs.Graph.{Net, Branches, Plus, Minus, Ends, Chain, stay, step, Path, Joined, Loop}
 use Rattle.graph.specs.Chains.{_⊆_, Via, minus-plus, plus-minus-swap, ends-flip, ends-same, ends-own, chain-without, joined-trans, joined-by, joined-sym, joined-ends, joined-more, chain-splits, via-joined, via-more}
-use Rattle.graph.specs.Paths.{mem?, branch-joined, path-distinct, joined-path}
+use Rattle.graph.specs.Paths.{branch-joined, path-distinct, joined-path}
 
 abbrev pub Forest : (N : Net) (S : Branches) → Type 0
 Forest N S = (k : ℕ) → S k → ¬ Joined N (Minus S k) (N .from k) (N .to k)

@@ -5,9 +5,10 @@ use mathlib.Core.Logic.{_⊎_, inl, inr, _↔_, _≢_}
 use mathlib.Core.List.{List, [], _∷_, List·Memᴰ, List·Memᴰ·head, List·Memᴰ·tail, List·Memᴰ·not-nil, List·Memᴰ·eq-of-singleton}
 use Prim.Native.Nat.{ℕ}
 use native.Mathlib.Decide.{ℕ-discrete}
+use Rattle.numbers.specs.Members.{mem?}
 use Rattle.graph.specs.Graph.{Net, Branches, Plus, Minus, Ends, along, against, stay, step, visited, Path, Joined, Loop}
 use Rattle.graph.specs.Chains.{_⊆_, Via, plus-minus, plus-minus-swap, ends-flip, ends-own, on-chain, chain-without, chain-more, joined-by, joined-more, chain-splits, via-joined, via-more}
-use Rattle.graph.specs.Paths.{mem?, path-stay, path-via, path-more}
+use Rattle.graph.specs.Paths.{path-stay, path-via, path-more}
 use Rattle.graph.specs.Forests.{Forest, forest-no-loop, forest-less, exchange-forest}
 
 module _ {N : Net} {S : Branches} where

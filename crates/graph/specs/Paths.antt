@@ -4,23 +4,10 @@ use mathlib.Core.Path.{_≡_, refl, sym, _∙_}
 use mathlib.Core.Logic.{_⊎_, inl, inr}
 use mathlib.Core.List.{List, [], _∷_, reverse, reverseAux, List·Memᴰ, List·Memᴰ·head, List·Memᴰ·tail, List·Memᴰ·not-nil, List·Memᴰ·eq-of-singleton, Memᴰ·cast}
 use Prim.Native.Nat.{ℕ}
-use native.Mathlib.Decide.{ℕ-discrete}
 use Rattle.numbers.specs.Distinct.{Distinct}
+use Rattle.numbers.specs.Members.{mem?}
 use Rattle.graph.specs.Graph.{Net, Branches, Minus, Ends, Chain, stay, step, visited, Path, Joined}
 use Rattle.graph.specs.Chains.{_⊆_, Via, ends-flip, ends-same, chain-without, chain-more, visited-more, joined-same, joined-trans, joined-by}
-
-pub mem? : (x : ℕ) (l : List ℕ) → Dec (List·Memᴰ x l)
-mem? x [] = no List·Memᴰ·not-nil
-mem? x (y ∷ l) = go (ℕ-discrete x y) (mem? x l)
-  where
-    go : Dec (x ≡ y) → Dec (List·Memᴰ x l) → Dec (List·Memᴰ x (y ∷ l))
-    go (yes e) d = yes (List·Memᴰ·head e)
-    go (no n) (yes m) = yes (List·Memᴰ·tail m)
-    go (no n) (no k) = no neither
-      where
-        neither : ¬ List·Memᴰ x (y ∷ l)
-        neither (List·Memᴰ·head e) = n e
-        neither (List·Memᴰ·tail m) = k m
 
 module _ {N : Net} {S : Branches} where
   pub starts : {a b : ℕ} {l : List ℕ} (c : Chain N S a b l) → List·Memᴰ a (visited c)

@@ -6,10 +6,11 @@ use mathlib.Core.Bool.{Bool, true, false}
 use mathlib.Core.List.{List, List·Memᴰ}
 use Prim.Native.Nat.{ℕ, _<_}
 use native.Mathlib.Decide.{decLt}
+use Rattle.numbers.specs.Members.{mem?}
 use Rattle.numbers.specs.Tests.{which, clash, same-test}
 use Rattle.graph.specs.Graph.{Net, Sound, Branches, Live, Plus, Minus, Chain, Path, Connected, Loop, Tree}
 use Rattle.graph.specs.Chains.{_⊆_, plus-minus-swap, on-chain, chain-without, chain-more, joined-more}
-use Rattle.graph.specs.Paths.{mem?, path-via, joined-path}
+use Rattle.graph.specs.Paths.{path-via, joined-path}
 use Rattle.graph.specs.Forests.{Forest, forest-no-loop, forest-less, path-unique, exchange-forest, exchange-joined}
 
 module _ {N : Net} {S : Branches} where

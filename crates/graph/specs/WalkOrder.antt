@@ -10,11 +10,11 @@ use lib.ListN.{getD}
 use borrow.Author.Tests.{eq-eqb, ne-eqb, lt-ltb, ltb-true}
 use Rattle.numbers.specs.Choose.{indexOf}
 use Rattle.numbers.specs.ChooseLaws.{index-found, index-none, index-still, index-past, index-holds}
+use Rattle.numbers.specs.Members.{mem?}
 use Rattle.numbers.specs.Tests.{same-test}
 use Rattle.graph.specs.Graph.{Net, Sound, Branches, Live, Ends, Chain, stay, step, visited, Connected, Tree}
 use Rattle.graph.specs.Walk.{Visit, reached, walk}
 use Rattle.graph.specs.Chains.{_⊆_, ends-flip, ends-own, chain-more, visited-more}
-use Rattle.graph.specs.Paths.{mem?}
 use Rattle.graph.specs.Barred.{Unbarred, unbarred-live}
 use Rattle.graph.specs.SideLaws.{ends-differ, side-joined, not-both}
 use Rattle.graph.specs.Visits.{visit, busesOf, reached-mem}

@@ -129,7 +129,7 @@ digit-written-no-feed n = go (ltb n 10)
     go true = rw (ne-eqb (48 + n) 10 (λ e. omega arith))
     go false = rw (ne-eqb (55 + n) 10 (λ e. omega arith))
 
-digits-written-no-feed : (w n : ℕ) → every noFeed (digits w n) ≡ true
+pub digits-written-no-feed : (w n : ℕ) → every noFeed (digits w n) ≡ true
 unfolding digits every
 digits-written-no-feed zero n = refl
 digits-written-no-feed (suc w) n = rw (digit-written-no-feed (n / 16 ^ w)) (digits-written-no-feed w (n % 16 ^ w))

@@ -97,7 +97,7 @@ unfolding digits every
 every-digits zero n h = refl
 every-digits (suc w) n h = rw (digit-isDigit (n / 16 ^ w) (top-digit w n h)) (every-digits w (n % 16 ^ w) (mod-lt n (pow-pos w)))
 
-number-digits : (w n : ℕ) → n < 16 ^ w → number (digits w n) ≡ n
+pub number-digits : (w n : ℕ) → n < 16 ^ w → number (digits w n) ≡ n
 unfolding digits number
 number-digits zero n h = omega arith
 number-digits (suc w) n h =

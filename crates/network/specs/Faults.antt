@@ -5,6 +5,7 @@ use Prim.Native.Nat.{ℕ}
 use lib.Dec.{leb, ltb, eqb}
 use lib.Ieee.{Float}
 use Rattle.numbers.specs.Choose.{among}
+use Rattle.numbers.specs.Times.{times}
 use Rattle.network.specs.declared.bus.Bus.{Bus}
 use Rattle.network.specs.declared.branch.Branch.{Branch}
 use Rattle.network.specs.declared.switch.Switch.{Switch}
@@ -35,12 +36,13 @@ branchRow b fromListed toListed =
     ∷ (6 if (not fromListed || not toListed))
     ∷ []
 
--- a switch; how many branches there are, the method, whether a switch before it has its id, whether one is on its branch, and how many before it are ties
-abbrev pub switchRow : Switch → ℕ → ReconfigAlgorithm → Bool → Bool → ℕ → List Fault
-switchRow s branches algorithm twice second tiesBefore =
+-- a switch; how many branches there are, the method, whether a switch before it has its id, how many before it are on its branch, and how many before it are ties
+abbrev pub switchRow : Switch → ℕ → ReconfigAlgorithm → Bool → ℕ → ℕ → List Fault
+switchRow s branches algorithm twice onBranch tiesBefore =
     (6 if leb branches (s .«branch_idx»))
     ∷ (7 if twice)
-    ∷ (8 if second)
+    -- document 02, Point 6: "Refusal 8 now means a third"
+    ∷ (8 if leb 2 onBranch)
     ∷ (9 if (eqb (methodByte algorithm) 2 && (s .«normally_open» && leb 10 tiesBefore)))
     ∷ []
 
@@ -58,4 +60,4 @@ branchFaults buses b = branchRow b (among (b .«from_bus») (map busId buses)) (
 
 -- of a switch, with the head and the switches before it
 unfoldable pub switchFaults : Head → List Switch → Switch → List Fault
-switchFaults h before s = switchRow s (h .branches) (h .algorithm) (among (s .id) (map switchId before)) (among (s .«branch_idx») (map on before)) (ties before)
+switchFaults h before s = switchRow s (h .branches) (h .algorithm) (among (s .id) (map switchId before)) (times (s .«branch_idx») (map on before)) (ties before)

@@ -1,10 +1,11 @@
--- Document 01's limits, as statements about a network. No refusal number occurs here.
+-- Document 01's limits, and document 02's of switches on a branch, as statements about a network. No refusal number occurs here.
 use mathlib.Core.List.{List, [], _∷_, map, List·Memᴰ}
 use mathlib.Core.Path.{_≡_}
 use mathlib.Core.Bool.{true}
 use Prim.Native.Nat.{ℕ, _≤_, _<_}
 use lib.ListN.{length}
 use Rattle.numbers.specs.Distinct.{Distinct}
+use Rattle.numbers.specs.Times.{times}
 use Rattle.network.specs.Records.{Network}
 use Rattle.network.specs.Limits.{okBase, okLoad, okR, busId, switchId, on, ties, methodByte}
 
@@ -31,7 +32,7 @@ pub record Inside (N : Network) : Type 0 where
   -- an id stands once in its kind
   pub bus-ids : Distinct (map busId (N .buses))
   pub switch-ids : Distinct (map switchId (N .switches))
-  -- at most one switch on a branch
-  pub alone : Distinct (map on (N .switches))
+  -- document 02, Point 6: "A branch may have two switches", not "a third"
+  pub at-most-two : (k : ℕ) → times k (map on (N .switches)) ≤ 2
   -- at most ten normally open switches with method 02
   pub few-ties : methodByte (N .algorithm) ≡ 2 → ties (N .switches) ≤ 10

@@ -1,15 +1,19 @@
 -- The check of records finds nothing exactly where the network is inside document 01's limits.
 use mathlib.Core.Path.{_≡_, refl, sym, ap, _∙_}
 use mathlib.Core.Logic.{_⊎_, inl, inr, _↔_}
-use mathlib.Core.Bool.{Bool, true, false, cond, not, _&&_, _||_, false≢true, true≢false}
+use mathlib.Core.Bool.{Bool, true, false, cond, not, _&&_, _||_, true≢false}
 use mathlib.Core.List.{List, [], _∷_, _++_, map, Memᴰ·append-left, Memᴰ·append-right, List·Memᴰ·append-cases, List·Memᴰ·eq-of-singleton, List·Memᴰ, List·Memᴰ·head, List·Memᴰ·tail, List·Memᴰ·not-nil, List·Memᴰ·cases-cons, Memᴰ·cast}
 use Prim.Native.Nat.{ℕ, suc, _+_, _≤_, _<_}
 use native.Mathlib.Omega.{arith}
 use lib.Dec.{leb, ltb, eqb}
 use borrow.Author.Tests.{ltb-false, le-ltb, leb-false, lt-leb, eqb-true, eq-eqb, not-false}
+use Rattle.numbers.specs.Choose.{among}
+use Rattle.numbers.specs.ChooseLaws.{among-mem, mem-among, not-among}
 use Rattle.numbers.specs.TableLaws.{map-snoc}
 use Rattle.numbers.specs.Tests.{neither, or-none}
 use Rattle.numbers.specs.Distinct.{Distinct}
+use Rattle.numbers.specs.Members.{distinct-once}
+use Rattle.numbers.specs.Times.{Counting, times, counted-last, times-counting}
 use Rattle.network.specs.declared.bus.Bus.{Bus}
 use Rattle.network.specs.declared.branch.Branch.{Branch}
 use Rattle.network.specs.declared.switch.Switch.{Switch}
@@ -17,9 +21,8 @@ use Rattle.network.specs.Records.{Network}
 use Rattle.network.specs.Answers.{accepted, Fault, judge}
 use Rattle.network.specs.AnswerLaws.{Passes, judge-iff, then-iff}
 use Rattle.network.specs.Limits.{Head, okBase, okLoad, okR, busId, switchId, on, ties, methodByte}
-use Rattle.numbers.specs.Choose.{among}
 use Rattle.network.specs.Faults.{headFaults, busFaults, branchFaults, switchFaults}
-use Rattle.network.specs.TieLaws.{ties-more}
+use Rattle.network.specs.TieLaws.{ties-counting}
 use Rattle.network.specs.Check.{headOf, checkRun, checkRecords}
 use Rattle.network.specs.Inside.{Each, HasBus, Inside}
 use Rattle.network.specs.EachLaws.{each-map}
@@ -48,6 +51,11 @@ module _ {A : Type 0} where
   zip Q R before [] h k = tt
   zip Q R before (a ∷ rest) h k = ((h .0, k .0), zip Q R (before ++ (a ∷ [])) rest (h .1) (k .1))
 
+  -- what holds throughout for every k holds for every k throughout
+  for-all : {K : Type 0} (Q : K → List A → A → Type 0) (before l : List A) → ((k : K) → Through (Q k) before l) → Through (λ b a. (k : K) → Q k b a) before l
+  for-all Q before [] h = tt
+  for-all Q before (a ∷ rest) h = (λ k. h k .0, for-all Q (before ++ (a ∷ [])) rest (λ k. h k .1))
+
   -- where those before play no part
   through-each : (P : A → Type 0) (before l : List A) → Through (λ b a. P a) before l → Each P l
   through-each P before [] h = tt
@@ -56,39 +64,6 @@ module _ {A : Type 0} where
   each-through : (P : A → Type 0) (before l : List A) → Each P l → Through (λ b a. P a) before l
   each-through P before [] h = tt
   each-through P before (a ∷ rest) h = (h .0, each-through P (before ++ (a ∷ [])) rest (h .1))
-
--- ---- membership
-pub among-mem : (x : ℕ) (ys : List ℕ) → among x ys ≡ true → List·Memᴰ x ys
-unfolding among
-among-mem x [] e = absurd (false≢true e)
-among-mem x (y ∷ ys) e = go (eqb x y) refl e (among-mem x ys)
-  where
-    go : (b : Bool) → eqb x y ≡ b → (b || among x ys) ≡ true → (among x ys ≡ true → List·Memᴰ x ys) → List·Memᴰ x (y ∷ ys)
-    go true q e ih = List·Memᴰ·head (eqb-true x y q)
-    go false q e ih = List·Memᴰ·tail (ih e)
-
-pub mem-among : (x : ℕ) (ys : List ℕ) → List·Memᴰ x ys → among x ys ≡ true
-unfolding among
-mem-among x [] m = absurd (List·Memᴰ·not-nil m)
-mem-among x (y ∷ ys) m = go (List·Memᴰ·cases-cons m) (mem-among x ys)
-  where
-    go : (x ≡ y) ⊎ List·Memᴰ x ys → (List·Memᴰ x ys → among x ys ≡ true) → (eqb x y || among x ys) ≡ true
-    go (inl q) ih = rw (eq-eqb x y q)
-    go (inr h) ih = last (eqb x y) (ih h)
-      where
-        last : (b : Bool) → among x ys ≡ true → (b || among x ys) ≡ true
-        last true e = refl
-        last false e = e
-
-not-mem : (x : ℕ) (ys : List ℕ) → among x ys ≡ false → List·Memᴰ x ys → ⊥
-not-mem x ys e m = true≢false (sym (mem-among x ys m) ∙ e)
-
-not-among : (x : ℕ) (ys : List ℕ) → (List·Memᴰ x ys → ⊥) → among x ys ≡ false
-not-among x ys n = go (among x ys) refl
-  where
-    go : (b : Bool) → among x ys ≡ b → among x ys ≡ false
-    go true e = absurd (n (among-mem x ys e))
-    go false e = e
 
 -- ---- none twice: each is new to those before it
 module _ {A : Type 0} (f : A → ℕ) where
@@ -110,7 +85,7 @@ module _ {A : Type 0} (f : A → ℕ) where
       )
     where
       go : (x : ℕ) → List·Memᴰ x (map f before) → (x ≡ f a) ⊎ List·Memᴰ x (map f rest) → (List·Memᴰ x (map f rest) → ⊥) → ⊥
-      go x k (inl q) n = not-mem (f a) (map f before) (h .0) (Memᴰ·cast (sym q) k)
+      go x k (inl q) n = true≢false (sym (mem-among (f a) (map f before) (Memᴰ·cast (sym q) k)) ∙ h .0)
       go x k (inr m) n = n m
 
   distinct-new : (before l : List A) → Distinct (map f l) → Apart before l → Through New before l
@@ -129,40 +104,80 @@ module _ {A : Type 0} (f : A → ℕ) where
   unfolding Apart
   first-apart l x m k = List·Memᴰ·not-nil k
 
+-- ---- at most so many pass a test: none that passes has as many before it
+module _ {A : Type 0} (p : A → Bool) (many : List A → ℕ) (c : Counting p many) (limit : ℕ) where
+  abbrev Room : List A → A → Type 0
+  Room before a = (p a && leb limit (many before)) ≡ false
+
+  few : (before l : List A) → Through Room before l → many before ≤ limit → many before + many l ≤ limit
+  few before [] t b = omega (arith, c .nothing)
+  few before (a ∷ rest) t b = rw (c .one-more a rest) (go (p a) refl (few (before ++ (a ∷ [])) rest (t .1)))
+    where
+      go : (k : Bool) → p a ≡ k → (many (before ++ (a ∷ [])) ≤ limit → many (before ++ (a ∷ [])) + many rest ≤ limit) → many before + cond k (suc (many rest)) (many rest) ≤ limit
+      go true e ih =
+          let l : many before < limit = leb-false limit (many before) (rw e at (t .0)) in
+          let i : suc (many before) ≤ limit → suc (many before) + many rest ≤ limit = rw (counted-last p many c before a, e) at ih in
+          let j = i l in omega arith
+      go false e ih = let i : many before ≤ limit → many before + many rest ≤ limit = rw (counted-last p many c before a, e) at ih in i b
+
+  room : (before l : List A) → many before + many l ≤ limit → Through Room before l
+  room before [] t = tt
+  room before (a ∷ rest) t = (one (p a) refl, room (before ++ (a ∷ [])) rest (rw (counted-last p many c before a) (more (p a) refl)))
+    where
+      one : (k : Bool) → p a ≡ k → (k && leb limit (many before)) ≡ false
+      one true e = let j : many before + suc (many rest) ≤ limit = rw (c .one-more a rest, e) at t in lt-leb limit (many before) (omega arith)
+      one false e = refl
+
+      more : (k : Bool) → p a ≡ k → cond k (suc (many before)) (many before) + many rest ≤ limit
+      more true e = let j : many before + suc (many rest) ≤ limit = rw (c .one-more a rest, e) at t in omega arith
+      more false e = rw (c .one-more a rest, e) at t
+
+  few-iff : (l : List A) → Through Room [] l ↔ (many l ≤ limit)
+  few-iff l = (
+    λ t. let z = few [] l t (omega (arith, c .nothing)) in omega (arith, c .nothing),
+    λ h. room [] l (omega (arith, c .nothing)),
+  )
+
 -- ---- at most ten ties
-abbrev Few : Head → List Switch → Switch → Type 0
-Few h before s = (eqb (methodByte (h .algorithm)) 2 && (s .«normally_open» && leb 10 (ties before))) ≡ false
+abbrev FewTies : Head → List Switch → Switch → Type 0
+FewTies h before s = (eqb (methodByte (h .algorithm)) 2 && (s .«normally_open» && leb 10 (ties before))) ≡ false
 
-tie-few : (h : Head) (before : List Switch) (s : Switch) → Few h before s → methodByte (h .algorithm) ≡ 2 → s .«normally_open» ≡ true → ties before < 10
-tie-few h before s f m e = leb-false 10 (ties before) (rw (eq-eqb (methodByte (h .algorithm)) 2 m, e) at f)
-
-few-ties : (h : Head) (before l : List Switch) → Through (Few h) before l → methodByte (h .algorithm) ≡ 2 → ties before ≤ 10 → ties before + ties l ≤ 10
-unfolding ties
-few-ties h before [] t m b = omega arith
-few-ties h before (s ∷ rest) t m b = go (s .«normally_open») refl (few-ties h (before ++ (s ∷ [])) rest (t .1) m)
+ties-iff : (h : Head) (l : List Switch) → Through (FewTies h) [] l ↔ (methodByte (h .algorithm) ≡ 2 → ties l ≤ 10)
+ties-iff h l = (
+  λ t m. few-iff _ ties ties-counting 10 l .0 (weaken (FewTies h) RoomForTie [] l (λ b s f. rw (eq-eqb (methodByte (h .algorithm)) 2 m) at f) t),
+  λ i. weaken _ (FewTies h) [] l asked (for-all (λ m. RoomForTie) [] l (λ m. few-iff _ ties ties-counting 10 l .1 (i m))),
+)
   where
-    go : (k : Bool) → s .«normally_open» ≡ k → (ties (before ++ (s ∷ [])) ≤ 10 → ties (before ++ (s ∷ [])) + ties rest ≤ 10) → ties before + cond k (suc (ties rest)) (ties rest) ≤ 10
-    go true e ih =
-        let l : ties before < 10 = tie-few h before s (t .0) m e in
-        let i : suc (ties before) ≤ 10 → suc (ties before) + ties rest ≤ 10 = rw (ties-more before s, e) at ih in
-        let j = i l in omega arith
-    go false e ih = let i : ties before ≤ 10 → ties before + ties rest ≤ 10 = rw (ties-more before s, e) at ih in i b
+    RoomForTie : List Switch → Switch → Type 0
+    RoomForTie = Room (λ s. s .«normally_open») ties ties-counting 10
 
-ties-few : (h : Head) (before l : List Switch) → (methodByte (h .algorithm) ≡ 2 → ties before + ties l ≤ 10) → Through (Few h) before l
-unfolding ties
-ties-few h before [] t = tt
-ties-few h before (s ∷ rest) t = (one (eqb (methodByte (h .algorithm)) 2) (s .«normally_open») refl refl, ties-few h (before ++ (s ∷ [])) rest (λ m. rw (ties-more before s) (more (s .«normally_open») refl m)))
-  where
-    one : (m k : Bool) → eqb (methodByte (h .algorithm)) 2 ≡ m → s .«normally_open» ≡ k → (m && (k && leb 10 (ties before))) ≡ false
-    one true true p q =
-        let j : ties before + suc (ties rest) ≤ 10 = rw q at (t (eqb-true (methodByte (h .algorithm)) 2 p)) in
-        lt-leb 10 (ties before) (omega arith)
-    one true false p q = refl
-    one false k p q = refl
+    asked : (before : List Switch) (s : Switch) → (methodByte (h .algorithm) ≡ 2 → RoomForTie before s) → FewTies h before s
+    asked before s r = go (eqb (methodByte (h .algorithm)) 2) refl
+      where
+        go : (b : Bool) → eqb (methodByte (h .algorithm)) 2 ≡ b → (b && (s .«normally_open» && leb 10 (ties before))) ≡ false
+        go true e = r (eqb-true (methodByte (h .algorithm)) 2 e)
+        go false e = refl
 
-    more : (k : Bool) → s .«normally_open» ≡ k → methodByte (h .algorithm) ≡ 2 → cond k (suc (ties before)) (ties before) + ties rest ≤ 10
-    more true q m = let j : ties before + suc (ties rest) ≤ 10 = rw q at (t m) in omega arith
-    more false q m = rw q at (t m)
+-- ---- no third: none has two of its own key before it exactly where no key stands three times
+module _ {A : Type 0} (key : A → ℕ) where
+  abbrev NoThird : List A → A → Type 0
+  NoThird before a = leb 2 (times (key a) (map key before)) ≡ false
+
+  abbrev RoomFor : ℕ → List A → A → Type 0
+  RoomFor k = Room (λ a. eqb k (key a)) (λ l. times k (map key l)) (times-counting key k) 2
+
+  third-iff : (l : List A) → Through NoThird [] l ↔ ((k : ℕ) → times k (map key l) ≤ 2)
+  third-iff l = (
+    λ t k. few-iff _ _ (times-counting key k) 2 l .0 (weaken NoThird (RoomFor k) [] l (λ b a. of-key k b a) t),
+    λ h. weaken _ NoThird [] l (λ b a r. rw (eq-eqb (key a) (key a) refl) at (r (key a))) (for-all RoomFor [] l (λ k. few-iff _ _ (times-counting key k) 2 l .1 (h k))),
+  )
+    where
+      of-key : (k : ℕ) (before : List A) (a : A) → NoThird before a → RoomFor k before a
+      of-key k before a n = go (eqb k (key a)) refl
+        where
+          go : (b : Bool) → eqb k (key a) ≡ b → (b && leb 2 (times k (map key before))) ≡ false
+          go true e = rw (eqb-true k (key a) e) n
+          go false e = refl
 
 -- ---- the four kinds
 -- what the head's conditions leave
@@ -243,30 +258,30 @@ branches-iff buses l = (
 record SwitchesInside (h : Head) (l : List Switch) : Type 0 where
   positions : Each (λ s. s .«branch_idx» < h .branches) l
   ids : Distinct (map switchId l)
-  alone : Distinct (map on l)
-  few : methodByte (h .algorithm) ≡ 2 → ties l ≤ 10
+  at-most-two : (k : ℕ) → times k (map on l) ≤ 2
+  few-ties : methodByte (h .algorithm) ≡ 2 → ties l ≤ 10
 
 switches-iff : (h : Head) (l : List Switch) → Through (λ b a. Passes (switchFaults h b a)) [] l ↔ SwitchesInside h l
-unfolding switchFaults ties
+unfolding switchFaults
 switches-iff h l = (left, right)
   where
     left : Through (λ b a. Passes (switchFaults h b a)) [] l → SwitchesInside h l
     left t = record {
       positions = through-each (λ s. s .«branch_idx» < h .branches) [] l (weaken _ _ [] l (λ e a p. leb-false (h .branches) (a .«branch_idx») (p .0)) t);
       ids = new-distinct switchId [] l (weaken _ (New switchId) [] l (λ e a p. p .1 .0) t) .0;
-      alone = new-distinct on [] l (weaken _ (New on) [] l (λ e a p. p .1 .1 .0) t) .0;
-      few = λ m. let z : 0 + ties l ≤ 10 = few-ties h [] l (weaken _ (Few h) [] l (λ e a p. p .1 .1 .1 .0) t) m (omega arith) in omega arith;
+      at-most-two = third-iff on l .0 (weaken _ (NoThird on) [] l (λ e a p. p .1 .1 .0) t);
+      few-ties = ties-iff h l .0 (weaken _ (FewTies h) [] l (λ e a p. p .1 .1 .1 .0) t);
     }
 
     right : SwitchesInside h l → Through (λ b a. Passes (switchFaults h b a)) [] l
     right i =
         let t₁ = each-through (λ (s : Switch). s .«branch_idx» < h .branches) [] l (i .positions) in
         let t₂ = distinct-new switchId [] l (i .ids) (first-apart switchId l) in
-        let t₃ = distinct-new on [] l (i .alone) (first-apart on l) in
-        let t₄ = ties-few h [] l (λ m. let z = i .few m in omega arith) in
+        let t₃ = third-iff on l .1 (i .at-most-two) in
+        let t₄ = ties-iff h l .1 (i .few-ties) in
         weaken _ _ [] l
         (λ e a p. (lt-leb (h .branches) (a .«branch_idx») (p .0), (p .1 .0, (p .1 .1 .0, (p .1 .1 .1, tt)))))
-        (zip _ _ [] l t₁ (zip (New switchId) _ [] l t₂ (zip (New on) (Few h) [] l t₃ t₄)))
+        (zip _ _ [] l t₁ (zip (New switchId) _ [] l t₂ (zip (NoThird on) (FewTies h) [] l t₃ t₄)))
 
 -- ---- the whole network
 pub check-inside : (N : Network) → (checkRecords N ≡ accepted tt) ↔ Inside N
@@ -295,8 +310,8 @@ check-inside N = (left, right)
           ends = each-map _ _ (N .branches) (λ a p. (p .from-listed, p .to-listed)) r;
           positions = s .positions;
           switch-ids = s .ids;
-          alone = s .alone;
-          few-ties = s .few;
+          at-most-two = s .at-most-two;
+          few-ties = s .few-ties;
         }
 
     right : Inside N → checkRecords N ≡ accepted tt
@@ -305,9 +320,13 @@ check-inside N = (left, right)
         let v₁ = run-iff busFaults [] 2 (N .buses) .1 (buses-iff (N .buses) .1 (i .loads, i .bus-ids)) in
         let ends : Each (BranchInside (map busId (N .buses))) (N .branches) = each-zip (N .branches) (i .resistances) (i .ends) in
         let v₂ = run-iff (λ before. branchFaults (N .buses)) [] (2 + h .buses) (N .branches) .1 (branches-iff (N .buses) (N .branches) .1 ends) in
-        let v₃ = run-iff (switchFaults h) [] (2 + h .buses + h .branches) (N .switches) .1 (switches-iff h (N .switches) .1 (record { positions = i .positions; ids = i .switch-ids; alone = i .alone; few = i .few-ties })) in
+        let v₃ = run-iff (switchFaults h) [] (2 + h .buses + h .branches) (N .switches) .1 (switches-iff h (N .switches) .1 (record { positions = i .positions; ids = i .switch-ids; at-most-two = i .at-most-two; few-ties = i .few-ties })) in
         then-iff (judge (headFaults h) 1) _ .1 (v₀, then-iff (checkRun busFaults [] 2 (N .buses)) _ .1 (v₁, then-iff (checkRun (λ before. branchFaults (N .buses)) [] (2 + h .buses) (N .branches)) _ .1 (v₂, v₃)))
       where
         each-zip : (l : List Branch) → Each (λ b. okR (b .r) ≡ true) l → Each (λ b. HasBus N (b .«from_bus») × HasBus N (b .«to_bus»)) l → Each (BranchInside (map busId (N .buses))) l
         each-zip [] q r = tt
         each-zip (b ∷ rest) q r = (record { resistance = q .0; from-listed = r .0 .0; to-listed = r .0 .1 }, each-zip rest (q .1) (r .1))
+
+-- "A switch that was accepted before is accepted": no switch is a third where no branch has two
+pub once-few : (N : Network) → Distinct (map on (N .switches)) → (k : ℕ) → times k (map on (N .switches)) ≤ 2
+once-few N once k = omega (arith, distinct-once (map on (N .switches)) once k)

@@ -42,6 +42,9 @@ impl PowerNetwork {
 
     pub const MAX_ITERATIONS: u16 = 1000;
 
+    // A branch may have two switches, one at each end.
+    pub const MAX_SWITCHES_ON_BRANCH: usize = 2;
+
     // With method 02, at most ten switches are normally open.
     pub const MAX_TIES: usize = 10;
 

@@ -1,9 +1,9 @@
--- Laws of choosing: what `those`, `firstOf` and `indexOf` find.
+-- Laws of choosing: what `those`, `firstOf` and `indexOf` find, and what is `among` a list.
 use mathlib.Core.Path.{_≡_, refl, sym, ap, _∙_}
 use mathlib.Core.Logic.{_⊎_, inl, inr, _≢_}
-use mathlib.Core.Bool.{Bool, true, false, cond, true≢false, _||_, or-false}
+use mathlib.Core.Bool.{Bool, true, false, cond, true≢false, false≢true, _||_, or-false}
 use mathlib.Core.List.{List, [], _∷_, _++_, List·Memᴰ, List·Memᴰ·head, List·Memᴰ·tail, List·Memᴰ·not-nil, List·Memᴰ·cases-cons, List·Memᴰ·append-cases, List·Memᴰ·eq-of-singleton, Memᴰ·append-left, Memᴰ·append-right}
-use Prim.Native.Nat.{ℕ, zero, suc, _+_, _<_}
+use Prim.Native.Nat.{ℕ, zero, suc, _+_, _≤_, _<_}
 use native.Mathlib.Nat.{add-zero}
 use native.Mathlib.Numerals.{add-one}
 use native.Mathlib.Decide.{ℕ-discrete}
@@ -11,7 +11,7 @@ use native.Mathlib.Omega.{arith}
 use lib.Dec.{eqb}
 use lib.ListN.{length, getD, drop, length-append, List·getD-append}
 use lib.Seq.{drop-cons, getD-at}
-use borrow.Author.Tests.{eq-eqb, ne-eqb}
+use borrow.Author.Tests.{eq-eqb, ne-eqb, eqb-true}
 use Rattle.numbers.specs.Counts.{count}
 use Rattle.numbers.specs.CountLaws.{counted-before}
 use Rattle.numbers.specs.UpTo.{upTo}
@@ -104,6 +104,17 @@ index-at (y ∷ xs) d zero l h = rw (eq-eqb y _ refl)
 index-at (y ∷ xs) d (suc i) l h =
     rw (ne-eqb (getD xs i d) y (λ e. h zero (omega arith) (sym e)), index-at xs d i (omega arith) (λ j k. h (suc j) (omega arith)))
 
+-- what stands at position i is found there or before it
+pub index-early : (x : ℕ) (l : List ℕ) (i : ℕ) → i < length l → getD l i 0 ≡ x → indexOf x l ≤ i
+unfolding indexOf
+index-early x [] i b e = absurd (omega arith)
+index-early x (y ∷ l) zero b e = rw (eq-eqb x y (sym e)) (omega arith)
+index-early x (y ∷ l) (suc i) b e = go (eqb x y) (index-early x l i (omega arith) e)
+  where
+    go : (t : Bool) → indexOf x l ≤ i → cond t zero (suc (indexOf x l)) ≤ suc i
+    go true h = omega arith
+    go false h = omega arith
+
 module _ (x : ℕ) where
   -- what does not stand in the list is behind it
   pub index-none : (l : List ℕ) → ¬ List·Memᴰ x l → indexOf x l ≡ length l
@@ -150,6 +161,36 @@ module _ (x : ℕ) (l : List ℕ) (i : ℕ) (h : i < length l) where
   index-behind n =
       let e : indexOf x (drop i l) ≡ suc (indexOf x (drop (i + 1) l)) = rw (drop-cons l i 0 h, ne-eqb x (getD l i 0) (λ q. n (sym q)), add-one) in
       omega arith
+
+-- among a list are its members
+pub among-mem : (x : ℕ) (ys : List ℕ) → among x ys ≡ true → List·Memᴰ x ys
+unfolding among
+among-mem x [] e = absurd (false≢true e)
+among-mem x (y ∷ ys) e = go (eqb x y) refl e (among-mem x ys)
+  where
+    go : (b : Bool) → eqb x y ≡ b → (b || among x ys) ≡ true → (among x ys ≡ true → List·Memᴰ x ys) → List·Memᴰ x (y ∷ ys)
+    go true q e ih = List·Memᴰ·head (eqb-true x y q)
+    go false q e ih = List·Memᴰ·tail (ih e)
+
+pub mem-among : (x : ℕ) (ys : List ℕ) → List·Memᴰ x ys → among x ys ≡ true
+unfolding among
+mem-among x [] m = absurd (List·Memᴰ·not-nil m)
+mem-among x (y ∷ ys) m = go (List·Memᴰ·cases-cons m) (mem-among x ys)
+  where
+    go : (x ≡ y) ⊎ List·Memᴰ x ys → (List·Memᴰ x ys → among x ys ≡ true) → (eqb x y || among x ys) ≡ true
+    go (inl q) ih = rw (eq-eqb x y q)
+    go (inr h) ih = last (eqb x y) (ih h)
+      where
+        last : (b : Bool) → among x ys ≡ true → (b || among x ys) ≡ true
+        last true e = refl
+        last false e = e
+
+pub not-among : (x : ℕ) (ys : List ℕ) → ¬ List·Memᴰ x ys → among x ys ≡ false
+not-among x ys n = go (among x ys) refl
+  where
+    go : (b : Bool) → among x ys ≡ b → among x ys ≡ false
+    go true e = absurd (n (among-mem x ys e))
+    go false e = e
 
 -- one more at the end
 pub among-more : (y x : ℕ) (xs : List ℕ) → among y (xs ++ (x ∷ [])) ≡ (among y xs || eqb y x)

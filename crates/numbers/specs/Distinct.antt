@@ -15,7 +15,8 @@ abbrev pub Distinct : List ℕ → Type 0
 Distinct [] = Unit {0}
 Distinct (x ∷ l) = (¬ List·Memᴰ x l) × Distinct l
 
-stands-at : (l : List ℕ) (i d : ℕ) → i < length l → List·Memᴰ (getD l i d) l
+-- at a position of a list stands one of it
+pub stands-at : {A : Type 0} (l : List A) (i : ℕ) (d : A) → i < length l → List·Memᴰ (getD l i d) l
 stands-at [] i d b = absurd (omega arith)
 stands-at (x ∷ l) zero d b = List·Memᴰ·head refl
 stands-at (x ∷ l) (suc i) d b = List·Memᴰ·tail (stands-at l i d (omega arith))

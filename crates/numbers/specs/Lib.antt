@@ -9,6 +9,7 @@ pub mod Arrays
 pub mod Tests
 pub mod Every
 pub mod CountLaws
+pub mod Times
 pub mod ChooseLaws
 pub mod IfSome
 pub mod FirstLaws
@@ -19,3 +20,4 @@ pub mod Sums
 pub mod RangeLaws
 pub mod Distinct
 pub mod Matching
+pub mod Members

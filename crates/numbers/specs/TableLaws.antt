@@ -131,6 +131,15 @@ module _ {A : Type 0} (f g : ℕ → A) where
   unfolding renewed
   renewed-more n i h = table-set _ _ n i (f i) h (rw (lt-ltb i (i + 1) (omega arith))) (λ j k m. ap (λ b. cond b (f j) (g j)) (next-same i j m))
 
+  -- the next entry is the same in both
+  renewed-kept : (n i : ℕ) → f i ≡ g i → renewed n i ≡ renewed n (i + 1)
+  unfolding renewed
+  renewed-kept n i e = table-cong _ _ n (λ j h. go j (ℕ-discrete j i))
+    where
+      go : (j : ℕ) → Dec (j ≡ i) → cond (ltb j i) (f j) (g j) ≡ cond (ltb j (i + 1)) (f j) (g j)
+      go j (yes q) = rw (q, le-ltb i i (omega arith), lt-ltb i (i + 1) (omega arith)) (sym e)
+      go j (no m) = ap (λ b. cond b (f j) (g j)) (next-same i j m)
+
   -- where the others are those of f too
   pub renewed-all : (n i : ℕ) → ((j : ℕ) → j < n → i ≤ j → f j ≡ g j) → renewed n i ≡ table f n
   unfolding renewed
@@ -153,6 +162,11 @@ module _ {A : Type 0} (f : ℕ → A) (d : A) where
   pub filled-more : (n i : ℕ) → i < n → set (filled n i) i (f i) ≡ filled n (i + 1)
   unfolding filled renewed
   filled-more n i h = renewed-more f (λ j. d) n i h
+
+  -- the next entry is d in the table too
+  pub filled-kept : (n i : ℕ) → f i ≡ d → filled n i ≡ filled n (i + 1)
+  unfolding filled renewed
+  filled-kept n i e = renewed-kept f (λ j. d) n i e
 
   -- no more than n are filled
   pub filled-within : (n i : ℕ) → filled n (min i n) ≡ filled n i

@@ -1,5 +1,6 @@
+pub mod ArrayLengths
 pub mod PairLists
-pub mod Identified
+pub mod OpenIds
 pub mod Pairing
 pub mod Lines
 pub mod Answering

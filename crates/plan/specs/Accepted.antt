@@ -1,18 +1,19 @@
 -- What the planner's acceptance means: a network inside the limits, good states, both radial, and operable switches where they must move.
 -- From the law of the record check, from that of radiality, and from what the tests of refusals 10 to 12 look at.
-use mathlib.Core.Path.{_≡_, refl, ap, _∙_}
+use mathlib.Core.Path.{_≡_, refl}
 use mathlib.Core.Logic.{_⊎_, inl, inr, _↔_, _≢_}
 use mathlib.Core.Bool.{Bool, true, false, not, _&&_, _||_, true≢false, false≢true}
 use mathlib.Core.List.{List, [], _∷_, cons≢nil, List·Memᴰ·head, List·Memᴰ·not-nil}
 use Prim.Native.Nat.{ℕ, _<_}
 use lib.Dec.{eqb}
-use lib.ListN.{length, getD}
+use lib.ListN.{length}
 use borrow.Author.Tests.{eq-eqb, ne-eqb, not-true}
 use Rattle.numbers.specs.Choose.{those}
 use Rattle.numbers.specs.ChooseLaws.{in-those, of-those}
 use Rattle.numbers.specs.Tests.{both, which, clash}
 use Rattle.network.specs.Records.{Network, noSwitch}
 use Rattle.network.specs.Answers.{accepted}
+use Rattle.network.specs.Check.{checkRecords}
 use Rattle.network.specs.Limits.{switchId}
 use Rattle.network.specs.AnswerLaws.{then-iff, no-refusal}
 use Rattle.network.specs.InsideLaws.{check-inside}
@@ -27,10 +28,8 @@ use Rattle.feeders.specs.StateCallLaws.{radial-accepted}
 use Rattle.feeders.specs.Supply.{checkNetwork}
 use Rattle.feeders.specs.SupplyLaws.{network-records}
 use Rattle.changes.specs.Change.{differing, lockedDifference, lockedDifferences, checkLocked, refuseLocked, checkPlan}
-use Rattle.plan.specs.Plan.{switchOn}
-use Rattle.plan.specs.Claim.{switchAt}
-use Rattle.states.specs.LiveBytes.{on-found, one-switch}
-use Rattle.plan.specs.Plannable.{Regular, Free, Plannable}
+use Rattle.plan.specs.Claim.{Tested}
+use Rattle.plan.specs.Plannable.{Regular, Free, Joined, Plannable}
 
 module _ (N : Network) (inside : Inside N) where
   inside-regular : Regular N
@@ -38,9 +37,7 @@ module _ (N : Network) (inside : Inside N) where
     ends = feeder-sound N inside;
     few = feeder-small N inside;
     placed = λ o. unfold feeder in rw (o .here) at (on-a-branch N inside _ (o .listed));
-    alone = one-switch N inside;
-    resolved = λ o. unfold switchOn in
-        ap (λ j. switchAt N (getD (N .switches) j noSwitch .id)) (on-found N inside o) ∙ index-own switchId (N .switches) (inside .switch-ids) _ noSwitch (o .listed);
+    resolved = λ i l. index-own switchId (N .switches) (inside .switch-ids) i noSwitch l;
   }
 
 module _ (N : Network) where
@@ -48,7 +45,7 @@ module _ (N : Network) where
     abbrev locked : ℕ → Bool
     locked = lockedDifference N present wanted
 
-    differs : (k : ℕ) → (differing N present wanted k ≡ true) ↔ (live N present k ≢ live N wanted k)
+    pub differs : (k : ℕ) → (differing N present wanted k ≡ true) ↔ (live N present k ≢ live N wanted k)
     unfolding differing
     differs k = go (live N present k) (live N wanted k)
       where
@@ -105,16 +102,36 @@ module _ (N : Network) where
           ),
     )
 
+-- states that have passed 11 are joined by pairs
+radial-joined : (N : Network) (present wanted : State) → checkRecords N ≡ accepted tt → GoodState N present → GoodState N wanted → radialIn N present ≡ true → radialIn N wanted ≡ true
+    → Joined N present wanted
+radial-joined N present wanted n p w r v = record {
+  regular = inside-regular N (check-inside N .0 n);
+  present-good = p;
+  wanted-good = w;
+  present-tree = radial-in-tree N n present .0 r;
+  wanted-tree = radial-in-tree N n wanted .0 v;
+}
+
+pub tested-joined : (N : Network) (present wanted : State) → Tested N present wanted → Joined N present wanted
+tested-joined N present wanted t = radial-joined N present wanted (network-records N (t .network))
+    (state-accepted N present 0 .0 (t .present-state)) (state-accepted N wanted 1 .0 (t .wanted-state))
+    (radial-accepted N present 0 .0 (t .present-radial)) (radial-accepted N wanted 1 .0 (t .wanted-radial))
+
+pub accepted-tested : (N : Network) (present wanted : State) → checkPlan N present wanted ≡ accepted tt → Tested N present wanted
+accepted-tested N present wanted e =
+    let told = plan-accepted N present wanted .0 e in
+    record {
+      network = told .0;
+      present-state = state-accepted N present 0 .1 (told .1);
+      wanted-state = state-accepted N wanted 1 .1 (told .2);
+      present-radial = radial-accepted N present 0 .1 (told .3);
+      wanted-radial = radial-accepted N wanted 1 .1 (told .4);
+    }
+
 -- what the planner accepts a plan can be made for
 pub accepted-plannable : (N : Network) (present wanted : State) → checkPlan N present wanted ≡ accepted tt → Plannable N present wanted
 accepted-plannable N present wanted e =
     let (a, p, w, r, v, f) = plan-accepted N present wanted .0 e in
     let n = network-records N a in
-    record {
-      regular = inside-regular N (check-inside N .0 n);
-      present-good = p;
-      wanted-good = w;
-      present-tree = radial-in-tree N n present .0 r;
-      wanted-tree = radial-in-tree N n wanted .0 v;
-      free = f;
-    }
+    record { joined = radial-joined N present wanted n p w r v; free = f }

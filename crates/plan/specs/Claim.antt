@@ -3,21 +3,24 @@
 use mathlib.Core.Path.{_≡_}
 use mathlib.Core.Logic.{_↔_, _≢_}
 use mathlib.Core.Bool.{Bool, true, false, cond, _&&_}
-use mathlib.Core.List.{List, [], _∷_, _++_, map, List·Memᴰ}
+use mathlib.Core.List.{List, [], _∷_, _++_, map, reverse, flatMap, List·Memᴰ}
 use mathlib.Core.Option.{Option, none, some}
-use Prim.Native.Nat.{ℕ, zero, suc, pred, _≤_}
+use Prim.Native.Nat.{ℕ, zero, suc, pred, _≤_, _<_}
 use lib.Dec.{eqb}
-use lib.ListN.{length, set, replicate, getElem?}
+use lib.ListN.{length, set, replicate, getElem?, getD}
 use Rattle.numbers.specs.UpTo.{table}
 use Rattle.numbers.specs.Choose.{indexOf}
+use Rattle.numbers.specs.Distinct.{Distinct}
 use Rattle.network.specs.Records.{Network}
 use Rattle.network.specs.Answers.{accepted}
 use Rattle.network.specs.Limits.{switchId}
-use Rattle.states.specs.Live.{live, SameLive}
-use Rattle.states.specs.Switches.{State, byte, branchOf, operable, inService, GoodState}
+use Rattle.states.specs.Live.{live, SameLive, checkState}
+use Rattle.states.specs.Switches.{State, byte, branchOf, operable, inService, size, GoodState}
 use Rattle.graph.specs.Graph.{Path, Connected, Loop, Tree}
 use Rattle.feeders.specs.Feeder.{feeder, LiveIn}
-use Rattle.changes.specs.Change.{checkPlan}
+use Rattle.feeders.specs.StateCalls.{checkRadial}
+use Rattle.feeders.specs.Supply.{checkNetwork}
+use Rattle.changes.specs.Change.{lockedDifference, checkPlan}
 use Rattle.plan.specs.Plan.{Moves, plan}
 
 -- ---- the two kinds of step
@@ -25,16 +28,32 @@ use Rattle.plan.specs.Plan.{Moves, plan}
 abbrev pub switchAt : Network → ℕ → ℕ
 switchAt N id = indexOf id (map switchId (N .switches))
 
+-- these switches, one after the other, get this byte
+unfoldable pub setAll : State → List ℕ → ℕ → State
+setAll s [] b = s
+setAll s (i ∷ l) b = setAll (set s i b) l b
+
+-- the positions of the switches that a pair closes, and of those that it opens
+abbrev pub closesAt : Network → Moves → List ℕ
+closesAt N q = map (switchAt N) (q .closes)
+
+abbrev pub opensAt : Network → Moves → List ℕ
+opensAt N q = map (switchAt N) (q .opens)
+
+-- the positions of the switches that the pairs move, one pair behind the other
+unfoldable pub switchesMoved : Network → List Moves → List ℕ
+switchesMoved N P = flatMap (λ q. closesAt N q ++ opensAt N q) P
+
 -- "A pair carried out sets what it closes to 00, then what it opens to 01"
 unfoldable pub afterClosing : Network → Moves → State → State
-afterClosing N q s = set s (switchAt N (q .closes)) 0
+afterClosing N q s = setAll s (closesAt N q) 0
 
 unfoldable pub carriedOut : Network → Moves → State → State
-carriedOut N q s = set (afterClosing N q s) (switchAt N (q .opens)) 1
+carriedOut N q s = setAll (afterClosing N q s) (opensAt N q) 1
 
 -- "Undone, it moves the same switches the other way, the last moved first": that is carrying out the pair turned round
 abbrev pub turned : Moves → Moves
-turned q = record { closes = q .opens; opens = q .closes }
+turned q = record { closes = reverse (q .opens); opens = reverse (q .closes) }
 
 abbrev pub turnedIf : Option Moves → Option Moves
 turnedIf none = none
@@ -94,6 +113,17 @@ pub record OnLoop (N : Network) (s t : State) (e f : ℕ) : Type 0 where
   pub only-loop : (o : Loop (feeder N) (LiveIn N t)) (k : ℕ) → List·Memᴰ k (o .branch ∷ o .rest) ↔ List·Memᴰ k (e ∷ path)
   pub lies : List·Memᴰ f path
 
+-- the branch of the first of these switches: a pair's lists are not empty (`two-branches`)
+abbrev pub firstBranch : Network → List ℕ → ℕ
+firstBranch N l = branchOf N (getD l 0 0)
+
+-- in state s pair q closes all open switches of branch e, and opens switches of branch f. Their order is that of the plan's lists, turned round where it is undone
+pub record TwoBranches (N : Network) (s : State) (q : Moves) (e f : ℕ) : Type 0 where
+  pub closes : (i : ℕ) → List·Memᴰ i (closesAt N q) ↔ ((branchOf N i ≡ e) × (byte s i ≡ 1))
+  pub opens : (i : ℕ) → List·Memᴰ i (opensAt N q) → branchOf N i ≡ f
+  pub some-closed : q .closes ≢ []
+  pub some-opened : q .opens ≢ []
+
 -- another pair: branch `closed` is closed by its switches, then `opened` is opened by those of its switches that `by` names
 pub record OtherPair : Type 0 where
   pub closed : ℕ
@@ -119,12 +149,12 @@ module _ (N : Network) (present wanted : State) where
   abbrev pub Carries : List Step → Step → Moves → Type 0
   Carries xs x q = found (plan N present wanted) x (done xs) ≡ some q
 
-  -- the branches that q closes and opens
+  -- the branches that q closes and opens: those of the first of its switches
   abbrev pub closedBy : Moves → ℕ
-  closedBy q = branchOf N (switchAt N (q .closes))
+  closedBy q = firstBranch N (closesAt N q)
 
   abbrev pub openedBy : Moves → ℕ
-  openedBy q = branchOf N (switchAt N (q .opens))
+  openedBy q = firstBranch N (opensAt N q)
 
   pub record SwitchingPlan : Type 0 where
     -- for any two lists, the live branches reached are equal exactly when equally many pairs stand done
@@ -139,10 +169,12 @@ module _ (N : Network) (present wanted : State) where
     pub exchanges : (xs : List Step) (x : Step) (q : Moves) → Carries xs x q → Exchanged N (reached xs) (carriedOut N q (reached xs)) (closedBy q) (openedBy q)
     -- each opening, undoing included, lies on the one loop that its closing made
     pub on-loop : (xs : List Step) (x : Step) (q : Moves) → Carries xs x q → OnLoop N (reached xs) (afterClosing N q (reached xs)) (closedBy q) (openedBy q)
+    -- each pair, undone too, closes all open switches of a branch, and opens switches of another
+    pub two-branches : (xs : List Step) (x : Step) (q : Moves) → Carries xs x q → TwoBranches N (reached xs) q (closedBy q) (openedBy q)
     -- no locked switch moves, and no other byte changes
-    pub operable-only : (xs : List Step) (x : Step) (q : Moves) → Carries xs x q → (operable N (switchAt N (q .closes)) ≡ true) × (operable N (switchAt N (q .opens)) ≡ true)
+    pub operable-only : (xs : List Step) (x : Step) (q : Moves) → Carries xs x q → (i : ℕ) → List·Memᴰ i (closesAt N q ++ opensAt N q) → operable N i ≡ true
     pub others-stay : (xs : List Step) (x : Step) (q : Moves) → Carries xs x q
-        → (i : ℕ) → i ≢ switchAt N (q .closes) → i ≢ switchAt N (q .opens) → byte (carriedOut N q (reached xs)) i ≡ byte (reached xs) i
+        → (i : ℕ) → ¬ List·Memᴰ i (closesAt N q ++ opensAt N q) → byte (carriedOut N q (reached xs)) i ≡ byte (reached xs) i
     -- after every list a switch whose branch is live in both states or in neither has its present byte; so "Switches on out-of-service branches are left as found"
     pub untouched : (xs : List Step) (i : ℕ) → live N present (branchOf N i) ≡ live N wanted (branchOf N i) → byte (reached xs) i ≡ byte present i
     pub as-found : (xs : List Step) (i : ℕ) → inService N (branchOf N i) ≡ false → byte (reached xs) i ≡ byte present i
@@ -159,6 +191,28 @@ module _ (N : Network) (present wanted : State) where
     -- no other list of pairs that leads from the present state to the wanted live branches is shorter
     pub shortest : (qs : List OtherPair) → SameLive N (othersCarriedOut N qs present) wanted → length (plan N present wanted) ≤ length qs
 
+  -- the tests before 12 have passed
+  pub record Tested : Type 0 where
+    pub network : checkNetwork N ≡ accepted tt
+    pub present-state : checkState N present 0 ≡ accepted tt
+    pub wanted-state : checkState N wanted 1 ≡ accepted tt
+    pub present-radial : checkRadial N present 0 ≡ accepted tt
+    pub wanted-radial : checkRadial N wanted 1 ≡ accepted tt
+
+  -- the switches that the pairs move, or would move but for 12, are those that differ, on a branch live in one of the two states only. Each moves once, so that a plan
+  -- has at most as many moves as there are switches
+  pub record MovesOnce : Type 0 where
+    pub which : (i : ℕ) → List·Memᴰ i (switchesMoved N (plan N present wanted))
+        ↔ ((i < size N) × (byte present i ≢ byte wanted i) × (live N present (branchOf N i) ≢ live N wanted (branchOf N i)))
+    pub once : Distinct (switchesMoved N (plan N present wanted))
+    pub few : length (switchesMoved N (plan N present wanted)) ≤ size N
+    -- "refusal 12 looks at every switch it would move"
+    pub refused-12 : (i : ℕ) → ((i < size N) × (lockedDifference N present wanted i ≡ true)) ↔ (List·Memᴰ i (switchesMoved N (plan N present wanted)) × (operable N i ≡ false))
+
 -- demand 3, for every network and states that the planner accepts
 abbrev pub Demand3 : Type 0
 Demand3 = (N : Network) (present wanted : State) → checkPlan N present wanted ≡ accepted tt → SwitchingPlan N present wanted
+
+-- point 6's law on refusal 12, for every network and states that have passed the tests before it
+abbrev pub EachMovesOnce : Type 0
+EachMovesOnce = (N : Network) (present wanted : State) → Tested N present wanted → MovesOnce N present wanted

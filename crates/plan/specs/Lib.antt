@@ -6,11 +6,14 @@ pub mod Claim
 pub mod Exchanges
 pub mod Missing
 pub mod Plannable
+pub mod Sets
 pub mod Moved
+pub mod Due
 pub mod Stages
 pub mod Planner
 pub mod Accepted
 pub mod Proof
+pub mod Moving
 pub mod Empty
 pub mod Length
 pub mod MadePlanLaws

@@ -2,7 +2,7 @@
 use mathlib.Core.Path.{_≡_, refl, sym, ap, _∙_}
 use mathlib.Core.Logic.{_↔_}
 use mathlib.Core.Bool.{Bool, false}
-use mathlib.Core.List.{List, [], _∷_, _++_, map}
+use mathlib.Core.List.{List, [], _∷_, _++_, map, Memᴰ·append-left, Memᴰ·append-right}
 use mathlib.Core.Option.{Option, none, some, Option·some-ne-none}
 use Prim.Native.Nat.{ℕ, zero, suc, _+_, _≤_, _<_}
 use native.Mathlib.Omega.{arith}
@@ -14,12 +14,14 @@ use Rattle.states.specs.Live.{live, SameLive}
 use Rattle.states.specs.Switches.{State, byte, branchOf, inService}
 use Rattle.feeders.specs.Feeder.{feeder}
 use Rattle.plan.specs.Plan.{Pair, pairs, Moves, movesOf, plan}
-use Rattle.plan.specs.Claim.{turned, turnedIf, Step, forward, back, found, Point, carriedOut, taken, run, after, SwitchingPlan, Demand3}
+use Rattle.plan.specs.Claim.{turned, turnedIf, Step, forward, back, found, Point, closesAt, opensAt, afterClosing, carriedOut, taken, run, after, SwitchingPlan, Demand3}
 use Rattle.states.specs.LiveBytes.{live-so, live-listed}
 use Rattle.plan.specs.Plannable.{Regular, Plannable}
-use Rattle.plan.specs.Moved.{Shows, shows-tree, pair-exchanges, pair-on-loop, pair-operable, other-bytes}
+use Rattle.plan.specs.Moved.{Shows}
+use Rattle.plan.specs.Sets.{all-out}
+use Rattle.plan.specs.Due.{Due, shows-tree, pair-two, pair-exchanges, pair-on-loop}
 use Rattle.plan.specs.Missing.{missing, missing-same, missing-none, others-missing}
-use Rattle.plan.specs.Stages.{Leads, there, leads-tree, leads-missing, stage, stage-byte, Due, leads-at, At, run-at, found-due}
+use Rattle.plan.specs.Stages.{Leads, there, leads-tree, leads-missing, stage, stage-byte, Holds, leads-at, At, run-at, found-due}
 use Rattle.plan.specs.Accepted.{accepted-plannable}
 use Rattle.plan.specs.Planner.{pairs-lead}
 
@@ -46,7 +48,7 @@ run-forward N P (suc n) p h = go (getElem? P (p .done)) refl (λ q l. run-forwar
     go (some m) e ih = unfold taken in ih (record { state = carriedOut N m (p .state); done = suc (p .done) }) (omega arith) ∙ omega arith
 
 -- the same listed branches are live: then the same branches are
-same-live : (N : Network) (s t : State) → ((k : ℕ) → k < feeder N .branches → live N s k ≡ live N t k) → SameLive N s t
+pub same-live : (N : Network) (s t : State) → ((k : ℕ) → k < feeder N .branches → live N s k ≡ live N t k) → SameLive N s t
 unfolding feeder
 same-live N s t h k = same-test _ _ (λ e. sym (h k (live-listed N s k e)) ∙ e) (λ e. h k (live-listed N t k e) ∙ e)
 
@@ -62,25 +64,25 @@ module _ (N : Network) (present wanted : State) (given : Plannable N present wan
   P = plan N present wanted
 
   regular : Regular N
-  regular = given .regular
+  regular = given .joined .regular
 
-  lead : Leads N (live N wanted) (live N present) Q
-  lead = pairs-lead N present wanted given
+  lead : Leads N (live N present) (live N wanted) (live N present) Q
+  lead = pairs-lead N present wanted (given .joined)
 
-  start : Shows N present (live N present)
-  start = record { good = given .present-good; flags = λ k. refl }
+  start : Holds N present wanted given present (live N present)
+  start = record { shows = record { good = given .joined .present-good; flags = λ k. refl }; kept = λ i x. refl }
 
   as-many : length P ≡ length Q
   unfolding plan
-  as-many = length-map Q (movesOf N)
+  as-many = length-map Q (movesOf N present wanted)
 
-  at : (xs : List Step) → At N present Q (after N present wanted xs)
+  at : (xs : List Step) → At N present wanted given present Q (after N present wanted xs)
   unfolding after plan stage
-  at xs = run-at regular lead start xs _ (record { low = omega arith; here = refl })
+  at xs = run-at N present wanted given lead start xs _ (record { low = omega arith; here = refl })
 
   -- what stands after the steps xs
-  reach : (xs : List Step) → (D : ℕ → Bool) × Leads N (live N wanted) D (drop (after N present wanted xs .done) Q) × Shows N (after N present wanted xs .state) D
-  reach xs = rw (at xs .here) (leads-at regular lead start (after N present wanted xs .done) (at xs .low))
+  reach : (xs : List Step) → (D : ℕ → Bool) × Leads N (live N present) (live N wanted) D (drop (after N present wanted xs .done) Q) × Shows N (after N present wanted xs .state) D
+  reach xs = rw (at xs .here) (leads-at N present wanted given lead start (after N present wanted xs .done) (at xs .low))
 
   -- as many branches are missing as pairs are left
   left : (xs : List Step) → missing (feeder N) (live N wanted) (live N (after N present wanted xs .state)) + after N present wanted xs .done ≡ length P
@@ -90,13 +92,13 @@ module _ (N : Network) (present wanted : State) (given : Plannable N present wan
 
   -- equally many pairs done: the same state
   same-state : (xs ys : List Step) → after N present wanted xs .done ≡ after N present wanted ys .done → after N present wanted xs .state ≡ after N present wanted ys .state
-  same-state xs ys e = at xs .here ∙ ap (stage N present (map (movesOf N) Q)) e ∙ sym (at ys .here)
+  same-state xs ys e = at xs .here ∙ ap (stage N present (map (movesOf N present wanted) Q)) e ∙ sym (at ys .here)
 
   due : (xs : List Step) (x : Step) (m : Moves) → found P x (after N present wanted xs .done) ≡ some m → Due N (after N present wanted xs .state) m
   unfolding plan
-  due xs x m e = found-due regular lead start x (after N present wanted xs) (at xs) m e
+  due xs x m e = found-due N present wanted given lead start x (after N present wanted xs) (at xs) m e
 
-  final : {D : ℕ → Bool} → Leads N (live N wanted) D [] → (k : ℕ) → k < feeder N .branches → D k ≡ live N wanted k
+  final : {D : ℕ → Bool} → Leads N (live N present) (live N wanted) D [] → (k : ℕ) → k < feeder N .branches → D k ≡ live N wanted k
   final (there t h) = h
 
   arrives : (xs : List Step) → after N present wanted xs .done ≡ length P → SameLive N (after N present wanted xs .state) wanted
@@ -105,7 +107,7 @@ module _ (N : Network) (present wanted : State) (given : Plannable N present wan
       same-live N _ wanted (λ k b. s .flags k ∙ final (rw (e ∙ as-many, drop-length Q) at l) k b)
 
   keeps : (xs : List Step) (i : ℕ) → live N present (branchOf N i) ≡ live N wanted (branchOf N i) → byte (after N present wanted xs .state) i ≡ byte present i
-  keeps xs i e = ap (λ s. byte s i) (at xs .here) ∙ stage-byte regular lead start (after N present wanted xs .done) i e
+  keeps xs i e = ap (λ s. byte s i) (at xs .here) ∙ stage-byte N present wanted given lead start (after N present wanted xs .done) i e
 
   back-finds : (d : ℕ) → d ≤ length P → (found P back d ≡ none) ↔ (d ≡ 0)
   unfolding found
@@ -129,10 +131,12 @@ module _ (N : Network) (present wanted : State) (given : Plannable N present wan
     radial = λ xs. let (D, l, s) = reach xs in shows-tree s (leads-tree l);
     good = λ xs. let (D, l, s) = reach xs in s .good;
     moves = λ xs x m e. unfold after in run-more N P xs x _ ∙ unfold taken in ap (taken N x (after N present wanted xs)) e;
-    exchanges = λ xs x m e. let d = due xs x m e in rw (d .moves) (pair-exchanges regular (d .shows) (d .ready));
-    on-loop = λ xs x m e. let d = due xs x m e in rw (d .moves) (pair-on-loop regular (d .shows) (d .ready));
-    operable-only = λ xs x m e. let d = due xs x m e in rw (d .moves) (pair-operable regular (d .shows) (d .ready));
-    others-stay = λ xs x m e. other-bytes N m (after N present wanted xs .state);
+    two-branches = λ xs x m e. pair-two (regular .ends) (due xs x m e);
+    exchanges = λ xs x m e. pair-exchanges (regular .ends) (due xs x m e);
+    on-loop = λ xs x m e. pair-on-loop (regular .ends) (due xs x m e);
+    operable-only = λ xs x m e. due xs x m e .free;
+    others-stay = λ xs x m e i n. unfold carriedOut afterClosing in
+        all-out _ (opensAt N m) 1 i (λ z. n (Memᴰ·append-right (closesAt N m) z)) ∙ all-out _ (closesAt N m) 0 i (λ z. n (Memᴰ·append-left (opensAt N m) z));
     untouched = keeps;
     as-found = λ xs i o. keeps xs i (out-of-service N present (branchOf N i) o ∙ sym (out-of-service N wanted (branchOf N i) o));
     all-done = arrives;

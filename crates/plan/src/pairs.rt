@@ -1,33 +1,33 @@
 // The pairs of a plan.
 ghost use mathlib.Core.Path.{_≡_};
 ghost use mathlib.Core.Bool.{true, false};
-ghost use mathlib.Core.List.{[], _∷_, _++_};
-ghost use Prim.Native.Nat.{_<_, _≤_};
-ghost use lib.ListN.{getD, set};
-ghost use Rattle.numbers.specs.UpTo.{table};
+ghost use mathlib.Core.List.{[], _∷_, _++_, map};
+ghost use Prim.Native.Nat.{ℕ, _+_, _<_};
+ghost use lib.ListN.{length, getD, set};
 ghost use Rattle.network.specs.Answers.{accepted};
 ghost use Rattle.network.specs.Check.{checkRecords};
 ghost use Rattle.network.specs.Records.{recordsOf};
-ghost use Rattle.states.specs.Switches.{State};
+ghost use Rattle.printing.specs.Stored.{idsIn, noEntry};
 ghost use Rattle.graph.specs.Rows.{flag};
 ghost use Rattle.changes.specs.Change.{onlyIn};
 ghost use Rattle.changes.specs.Passing.{Passed};
-ghost use Rattle.openings.specs.Opening.{rowOpening};
-ghost use Rattle.plan.specs.Plan.{switchOn, plan};
+ghost use Rattle.plan.specs.Plan.{openSwitches, idOf, plan};
 ghost use Rattle.plan.specs.Stored.{movesIn};
 use changes::change::Change;
 use graph::flags::flagged;
 use graph::rows::Graph;
 use network::topology::PowerNetwork;
+use numbers::wide8;
 use numbers::wide16;
 use openings::opening::opening;
+use printing::writer::SwitchIds;
 
-// The pairs of a plan in order: for each the id of the switch that it closes and the id of the one that it opens. Each closes another switch,
-// so that there are no more of them than switches.
+// The pairs of a plan in order: for each the ids of the switches that it closes and the ids of those that it opens. Each closes another branch by
+// a switch of its own: there are no more of them than switches (`specs/Length.plan-few`: 255 at the most).
 pub struct PairList {
     pub count: u16,
-    pub closes: [u16; PowerNetwork::MAX_SWITCHES],
-    pub opens: [u16; PowerNetwork::MAX_SWITCHES],
+    pub closes: [SwitchIds; PowerNetwork::MAX_SWITCHES],
+    pub opens: [SwitchIds; PowerNetwork::MAX_SWITCHES],
 }
 
 impl PairList {
@@ -35,17 +35,18 @@ impl PairList {
     pub(crate) fn new() -> PairList
         ensures { λ r. ⌜ movesIn r ≡ [] ⌝ }
     {
+        let none = SwitchIds::new();
         PairList {
             count: 0,
-            closes: [0u16; PowerNetwork::MAX_SWITCHES],
-            opens: [0u16; PowerNetwork::MAX_SWITCHES],
+            closes: [none; PowerNetwork::MAX_SWITCHES],
+            opens: [none; PowerNetwork::MAX_SWITCHES],
         }
     }
 
     // One pair more.
-    fn with(mut self, closes: u16, opens: u16) -> PairList
+    fn with(mut self, closes: SwitchIds, opens: SwitchIds) -> PairList
         requires { ⌜ self .count < 512 ⌝ }
-        ensures { λ r. ⌜ movesIn r ≡ movesIn self ++ (record { closes = closes; opens = opens } ∷ []) ⌝ }
+        ensures { λ r. ⌜ movesIn r ≡ movesIn self ++ (record { closes = idsIn closes; opens = idsIn opens } ∷ []) ⌝ }
     {
         let at = wide16(self.count);
         self.closes[at] = closes;
@@ -61,65 +62,79 @@ struct Stage {
     pairs: PairList,
 }
 
-// For each branch position the id of the first listed switch on it, and 0 where there is none: from the last switch to the first, so that the
-// first one stands.
-fn switch_ids(network: PowerNetwork) -> [u16; PowerNetwork::MAX_BRANCHES]
-    requires { ⌜ checkRecords (recordsOf network) ≡ accepted tt ⌝ }
-    ensures { λ r. ⌜ r ≡ table (switchOn (recordsOf network)) 512 ⌝ }
+// One id more, behind the others.
+fn with_id(mut ids: SwitchIds, id: u16) -> SwitchIds
+    requires { ⌜ ids .count < 2 ⌝ }
+    ensures { λ r. ⌜ (r .count ≡ ids .count + 1) × (idsIn r ≡ idsIn ids ++ (id ∷ [])) ⌝ }
 {
+    let at = wide8(ids.count);
+    ids.ids[at] = id;
+    ids.count += 1;
+    ids
+}
+
+// For each branch position the ids of the switches on it that are open in the state, in list order.
+fn open_ids(network: PowerNetwork, state: &[u8]) -> [SwitchIds; PowerNetwork::MAX_BRANCHES]
+    requires { ⌜ (checkRecords (recordsOf network) ≡ accepted tt) × (length (now state) ≡ network .«switch_count») ⌝ }
+    ensures { λ r. ⌜ ((k : ℕ) → k < 512 → idsIn (getD r k noEntry) ≡ map (idOf (recordsOf network)) (openSwitches (recordsOf network) (now (state .entry)) k)) ⌝ }
+{
+    let none = SwitchIds::new();
     let n = network.switch_count;
-    let mut ids = [0u16; PowerNetwork::MAX_BRANCHES];
+    let mut ids = [none; PowerNetwork::MAX_BRANCHES];
     let mut i = 0u16;
     while i < n {
-        let at = wide16(n - 1 - i);
-        let switch = network.switches[at];
-        let on = wide16(switch.branch_idx);
-        ids[on] = switch.id;
+        let at = wide16(i);
+        if state[at] == 1 {
+            let switch = network.switches[at];
+            let on = wide16(switch.branch_idx);
+            ids[on] = with_id(ids[on], switch.id);
+        }
         i += 1;
     }
     ids
 }
 
-// The pair that closes branch k, made and done.
-fn pair_done(
-    stage: Stage,
-    graph: Graph,
-    wanted: [bool; PowerNetwork::MAX_BRANCHES],
-    ids: [u16; PowerNetwork::MAX_BRANCHES],
-    k: u16,
-) -> Stage
-    requires { ⌜ (k < 512) × (rowOpening graph (stage .live) wanted k < 512) × (stage .pairs .count < 512) ⌝ }
-    ensures { λ r. ⌜ (r .live ≡ set (set (stage .live) k true) (rowOpening graph (stage .live) wanted k) false)
-        × (movesIn (r .pairs) ≡ movesIn (stage .pairs)
-        ++ (record { closes = getD ids k 0; opens = getD ids (rowOpening graph (stage .live) wanted k) 0 } ∷ [])) ⌝ }
+// The pair that closes branch k and opens branch f, made of the switches that it moves and done.
+fn pair_done(stage: Stage, k: u16, f: u16, closes: SwitchIds, opens: SwitchIds) -> Stage
+    requires { ⌜ (k < 512) × (f < 512) × (stage .pairs .count < 512) ⌝ }
+    ensures { λ r. ⌜ (r .live ≡ set (set (stage .live) k true) f false)
+        × (movesIn (r .pairs) ≡ movesIn (stage .pairs) ++ (record { closes = idsIn closes; opens = idsIn opens } ∷ [])) ⌝ }
 {
     let mut live = stage.live;
     let closed = wide16(k);
-    let opened = wide16(opening(graph, live, wanted, k));
+    let opened = wide16(f);
     live[closed] = true;
     live[opened] = false;
     Stage {
         live,
-        pairs: stage.pairs.with(ids[closed], ids[opened]),
+        pairs: stage.pairs.with(closes, opens),
     }
 }
 
-// Whether a pair closes branch k: it is live in the wanted state only.
-fn is_closing(present: &[bool], wanted: &[bool], k: u16) -> bool
-    ensures { λ r. ⌜ r ≡ onlyIn (flag (now (wanted .entry))) (flag (now (present .entry))) k ⌝ }
+// Whether a pair still to come closes branch k: it is live in the wanted state and not yet.
+fn is_closing(live: &[bool], wanted: &[bool], k: u16) -> bool
+    ensures { λ r. ⌜ r ≡ onlyIn (flag (now (wanted .entry))) (flag (now (live .entry))) k ⌝ }
 {
     if flagged(wanted, k) {
-        return !flagged(present, k);
+        return !flagged(live, k);
     }
     false
 }
 
-// The plan of a change that is accepted: a pair for each branch live in the wanted state only, by switch order.
-pub(crate) fn pairs_of(network: PowerNetwork, change: Change) -> PairList
-    requires { ⌜ ((present : State) × (wanted : State) × Passed network change present wanted) ⌝ }
-    ensures { λ r. ⌜ (r .count ≤ 512) × ((present wanted : State) → Passed network change present wanted → movesIn r ≡ plan (recordsOf network) present wanted) ⌝ }
+// The plan of a change that is accepted: a pair for each branch live in the wanted state only, by the order of its first switch. From there on the branch
+// is live, so that its second switch makes no pair. A pair closes what is open on the one branch in the present state, and opens on the other what is open
+// in the wanted one.
+pub(crate) fn pairs_of(
+    network: PowerNetwork,
+    change: Change,
+    present: &[u8],
+    wanted: &[u8],
+) -> PairList
+    requires { ⌜ Passed network change (now present) (now wanted) ⌝ }
+    ensures { λ r. ⌜ movesIn r ≡ plan (recordsOf network) (now (present .entry)) (now (wanted .entry)) ⌝ }
 {
-    let ids = switch_ids(network);
+    let closes = open_ids(network, present);
+    let opens = open_ids(network, wanted);
     let present_live = change.present_live;
     let wanted_live = change.wanted_live;
     let n = network.switch_count;
@@ -131,8 +146,10 @@ pub(crate) fn pairs_of(network: PowerNetwork, change: Change) -> PairList
     while i < n {
         let at = wide16(i);
         let k = network.switches[at].branch_idx;
-        if is_closing(&present_live, &wanted_live, k) {
-            stage = pair_done(stage, change.graph, wanted_live, ids, k);
+        let live = stage.live;
+        if is_closing(&live, &wanted_live, k) {
+            let f = opening(change.graph, live, wanted_live, k);
+            stage = pair_done(stage, k, f, closes[wide16(k)], opens[wide16(f)]);
         }
         i += 1;
     }

@@ -1,1 +1,2 @@
 pub mod AnswerPieces
+pub mod PairPieces

@@ -13,9 +13,17 @@ formLength = 11
 abbrev pub operationLength : ℕ
 operationLength = 9
 
--- a line 83: a pair of a plan
-abbrev pub pairLength : ℕ
-pairLength = 11
+-- a line 86 without its ids: a pair of a plan
+abbrev pub pairHeadLength : ℕ
+pairHeadLength = 7
+
+-- each id of a line 86
+abbrev pub idLength : ℕ
+idLength = 4
+
+-- the longest line 86, with two ids closed and two opened (each time `PowerNetwork::MAX_SWITCHES_ON_BRANCH`): 23
+abbrev pub longestPair : ℕ
+longestPair = pairHeadLength + idLength * 4
 
 -- a line 8F: a refusal
 abbrev pub refusalLength : ℕ
@@ -29,14 +37,14 @@ resultLength = answerLength + formLength
 abbrev pub operationsLength : ℕ
 operationsLength = 512 * operationLength
 
--- a pair for each of "256 buses" but one: 2,805
+-- a pair for each of "256 buses" but one, and each of "512 switches" in one pair: 3,833
 abbrev pub planLength : ℕ
-planLength = 255 * pairLength
+planLength = 255 * pairHeadLength + 512 * idLength
 
--- the single moves of the longest plan (`resumption.specs.ResumeLaws.moves-fit`): 4,590
+-- the single moves of the longest plan, one for each switch (`resumption.specs.ResumeLaws.moves-fit`): 4,608
 abbrev pub movesLength : ℕ
-movesLength = 510 * operationLength
+movesLength = 512 * operationLength
 
--- all that is printed for a text: 7,483
+-- all that is printed for a text: 8,511
 abbrev pub printedLength : ℕ
 printedLength = resultLength + operationsLength + planLength

@@ -1,4 +1,5 @@
 pub mod Printed
+pub mod Stored
 pub mod Lengths
 pub mod LineTexts
 pub mod LineLoops

@@ -1,11 +1,11 @@
--- Lines of one length, one for each entry of a table, as a loop writes them into a slice that has room for all.
-use mathlib.Core.Path.{_≡_, sym, ap, _∙_}
-use mathlib.Core.List.{List, [], flatMap}
-use Prim.Native.Nat.{ℕ, _+_, _*_, _-_, _≤_, _<_}
+-- Lines, one for each entry of a table, as a loop writes them into a slice that has room for all: of any lengths, and of one length.
+use mathlib.Core.Path.{_≡_, refl, sym, ap, _∙_}
+use mathlib.Core.List.{List, [], _++_, flatMap}
+use Prim.Native.Nat.{ℕ, zero, suc, _+_, _*_, _-_, _≤_, _<_}
 use native.Mathlib.Omega.{arith}
-use native.Mathlib.Nat.{mul-le-mul-left, mul-suc, mul-zero}
+use native.Mathlib.Nat.{mul-suc, mul-zero, zero-add}
 use native.Mathlib.Numerals.{add-one}
-use lib.ListN.{length, take, drop}
+use lib.ListN.{length, take, drop, length-append}
 use borrow.Rule.Slice.PartMut.{putMid}
 use Rattle.numbers.specs.UpTo.{table}
 use Rattle.numbers.specs.TableLaws.{length-table, table-more}
@@ -13,46 +13,80 @@ use Rattle.slices.specs.Written.{written}
 use Rattle.slices.specs.WrittenLaws.{length-written, written-append, written-room}
 use Rattle.printing.specs.LineTexts.{lines-more, length-lines}
 
-module _ {A : Type 0} (line : A → List ℕ) (width : ℕ) (long : (a : A) → length (line a) ≡ width) (entry : ℕ → A) (n : ℕ) (out : List ℕ) where
+-- ---- lines of any lengths
+module _ {A : Type 0} (line : A → List ℕ) (entry : ℕ → A) (n : ℕ) (out : List ℕ) where
   -- the lines of the first i entries
   abbrev lines : ℕ → List ℕ
   lines i = flatMap line (table entry i)
 
   -- they stand at the front, and the next one begins at `at`
-  pub record Lines (now : List ℕ) (at i : ℕ) : Type 0 where
-    pub within : i ≤ n
-    pub here : at ≡ width * i
-    so-far : now ≡ written (lines i) out
+  pub record LinesAt (now : List ℕ) (at i : ℕ) : Type 0 where
+    pub below : i ≤ n
+    pub begins : at ≡ length (lines i)
+    now-so : now ≡ written (lines i) out
 
-  length-first : (i : ℕ) → length (lines i) ≡ width * i
-  length-first i = length-lines line width long (table entry i) ∙ ap (λ (k : ℕ). width * k) (length-table entry i)
+  one-more : (i : ℕ) → lines (i + 1) ≡ lines i ++ line (entry i)
+  one-more i = rw (table-more entry i, lines-more line (table entry i) (entry i))
 
-  pub lines-none : Lines out 0 0
+  pub length-more : (i : ℕ) → length (lines (i + 1)) ≡ length (lines i) + length (line (entry i))
+  length-more i = ap length (one-more i) ∙ length-append (lines i) (line (entry i))
+
+  -- no shorter than those of fewer entries
+  length-rises : (k i : ℕ) → length (lines i) ≤ length (lines (k + i))
+  length-rises zero i = rw zero-add (omega arith)
+  length-rises (suc k) i = let e : suc k + i ≡ (k + i) + 1 = omega arith in rw e (omega (arith, length-more (k + i), length-rises k i))
+
+  pub at-none : LinesAt out 0 0
   unfolding table flatMap
-  lines-none = record { within = omega arith; here = omega arith; so-far = sym (written-room [] out (omega arith)) }
+  at-none = record { below = omega arith; begins = refl; now-so = sym (written-room [] out (omega arith)) }
 
-  module _ (now : List ℕ) (at i : ℕ) (l : Lines now at i) where
-    pub lines-length : length now ≡ length out
-    lines-length = ap length (l .so-far) ∙ length-written (lines i) out
+  module _ (now : List ℕ) (at i : ℕ) (l : LinesAt now at i) where
+    pub at-length : length now ≡ length out
+    at-length = ap length (l .now-so) ∙ length-written (lines i) out
 
-    pub lines-all : n ≤ i → now ≡ written (lines n) out
-    lines-all h = let all : i ≡ n = omega (arith, l .within) in l .so-far ∙ rw all
+    pub at-all : n ≤ i → now ≡ written (lines n) out
+    at-all h = let all : i ≡ n = omega (arith, l .below) in l .now-so ∙ rw all
 
     module _ (room : length (lines n) ≤ length out) (h : i < n) where
       -- the next line has room
+      pub at-room : at + length (line (entry i)) ≤ length now
+      at-room =
+          let all : (n - (i + 1)) + (i + 1) ≡ n = omega arith in
+          omega (arith, at-length, l .begins, length-more i, rw all at (length-rises (n - (i + 1)) (i + 1)))
+
+      pub at-next : {x : A} → x ≡ entry i → {next : ℕ} → next ≡ at + length (line (entry i)) → {part : List ℕ} → part ≡ written (line x) (take (length now - at) (drop at now))
+          → LinesAt (putMid at (length now - at) now part) next (i + 1)
+      at-next e behind w = record {
+        below = omega arith;
+        begins = behind ∙ omega (arith, l .begins, length-more i);
+        now-so = written-append (lines i) (line (entry i)) out at (sym (l .begins)) (omega (arith, at-room, at-length)) (l .now-so) (w ∙ rw e) ∙ rw (one-more i);
+      }
+
+-- ---- lines of one length
+module _ {A : Type 0} (line : A → List ℕ) (width : ℕ) (long : (a : A) → length (line a) ≡ width) (entry : ℕ → A) (n : ℕ) (out : List ℕ) where
+  pub record Lines (now : List ℕ) (at i : ℕ) : Type 0 where
+    pub here : at ≡ width * i
+    so-far : LinesAt line entry n out now at i
+
+  pub lines-none : Lines out 0 0
+  lines-none = record { here = omega arith; so-far = at-none line entry n out }
+
+  module _ (now : List ℕ) (at i : ℕ) (l : Lines now at i) where
+    pub lines-length : length now ≡ length out
+    lines-length = at-length line entry n out now at i (l .so-far)
+
+    pub lines-all : n ≤ i → now ≡ written (flatMap line (table entry n)) out
+    lines-all = at-all line entry n out now at i (l .so-far)
+
+    module _ (room : length (flatMap line (table entry n)) ≤ length out) (h : i < n) where
       pub lines-room : at + width ≤ length now
-      lines-room =
-          let more : width * (i + 1) ≤ width * n = mul-le-mul-left width (omega arith) in
-          omega (arith, lines-length, length-first n, l .here)
+      lines-room = rw (← long (entry i)) (at-room line entry n out now at i (l .so-far) room h)
 
       pub lines-next : {x : A} → x ≡ entry i → {next : ℕ} → next ≡ at + width → {part : List ℕ} → part ≡ written (line x) (take (length now - at) (drop at now))
           → Lines (putMid at (length now - at) now part) next (i + 1)
       lines-next e behind w = record {
-        within = omega arith;
         here = omega (arith, l .here, behind);
-        so-far =
-            written-append (lines i) (line (entry i)) out at (length-first i ∙ sym (l .here)) (omega (arith, long (entry i), lines-room, lines-length)) (l .so-far) (w ∙ rw e)
-            ∙ rw (table-more entry i, lines-more line (table entry i) (entry i));
+        so-far = at-next line entry n out now at i (l .so-far) room h e (behind ∙ rw (long (entry i))) w;
       }
 
   -- ---- where a loop reckons the place of the next line from i, and room is tested by the width
@@ -71,4 +105,4 @@ module _ {A : Type 0} (line : A → List ℕ) (width : ℕ) (long : (a : A) → 
 
     pub lines-further : width * n ≤ length out → i < n → {x : A} → x ≡ entry i → {part : List ℕ} → part ≡ written (line x) (take (length now - width * i) (drop (width * i) now))
         → LinesTo (putMid (width * i) (length now - width * i) now part) (i + 1)
-    lines-further room h e w = record { lines-so-far = lines-next now (width * i) i (l .lines-so-far) (rw (length-first n) room) h e (rw (add-one i, mul-suc) (omega arith)) w }
+    lines-further room h e w = record { lines-so-far = lines-next now (width * i) i (l .lines-so-far) (rw (length-lines line width long (table entry n), length-table entry n) room) h e (rw (add-one i, mul-suc) (omega arith)) w }

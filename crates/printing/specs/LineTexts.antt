@@ -7,12 +7,12 @@ use native.Mathlib.Omega.{arith}
 use native.Mathlib.Nat.{mul-suc, mul-zero}
 use lib.ListN.{length, length-append}
 use Rattle.graph.specs.declared.form.Form.{Form}
-use Rattle.lines.specs.Hex.{Fields, total}
+use Rattle.lines.specs.Hex.{digits, Fields, total}
 use Rattle.lines.specs.Frames.{Frame, layout, frameText}
-use Rattle.lines.specs.HexLaws.{length-fields}
+use Rattle.lines.specs.HexLaws.{length-digits, length-fields}
 use Rattle.printing.specs.declared.writer.SwitchOperation.{SwitchOperation}
-use Rattle.printing.specs.Printed.{answer, answerText, formFrame, formFields, formText, operation, operationText, pair, pairText, refusal, refusalText}
-use Rattle.printing.specs.Lengths.{answerLength, formLength, operationLength, pairLength, refusalLength}
+use Rattle.printing.specs.Printed.{answer, answerText, formFrame, formFields, formText, operation, operationText, idsText, pairText, refusal, refusalText}
+use Rattle.printing.specs.Lengths.{answerLength, formLength, operationLength, pairHeadLength, idLength, refusalLength}
 
 -- its line feed included
 pub length-frame : (F : Frame) (f : Fields (F .widths)) → length (frameText F f) ≡ total (layout F) + 1
@@ -31,10 +31,6 @@ pub length-operation : (o : SwitchOperation) → length (operationText o) ≡ op
 unfolding operationText
 length-operation o = length-frame operation _
 
-pub length-pair : (closes opens : ℕ) → length (pairText closes opens) ≡ pairLength
-unfolding pairText
-length-pair closes opens = length-frame pair _
-
 pub length-refusal : (number place : ℕ) → length (refusalText number place) ≡ refusalLength
 unfolding refusalText
 length-refusal number place = length-frame refusal _
@@ -49,3 +45,12 @@ module _ {A : Type 0} (line : A → List ℕ) where
   unfolding flatMap
   length-lines width h [] = rw mul-zero
   length-lines width h (x ∷ l) = simp length-append (rw (h x, length-lines width h l, mul-suc) (omega arith))
+
+-- ---- 86
+-- a pair's line by its ids
+length-ids : (ids : List ℕ) → length (idsText ids) ≡ 2 + idLength * length ids
+length-ids ids = simp length-append (rw (length-digits, length-lines (digits 4) idLength (length-digits 4) ids))
+
+pub length-pair : (closes opens : List ℕ) → length (pairText closes opens) ≡ pairHeadLength + idLength * (length closes + length opens)
+unfolding pairText
+length-pair closes opens = rw (length-append, length-digits, length-append, length-ids closes, length-append, length-ids opens) (omega arith)

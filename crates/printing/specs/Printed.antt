@@ -1,13 +1,14 @@
--- The frames that are printed (document 01, section Triangle; 84 by document 02, point 5).
+-- The frames that are printed (document 01, section Triangle; 84 and 86 by document 02, points 5 and 6).
 use mathlib.Core.Bool.{Bool, cond}
-use mathlib.Core.List.{List, [], _∷_}
+use mathlib.Core.List.{List, [], _∷_, _++_, flatMap}
 use Prim.Native.Nat.{ℕ}
+use lib.ListN.{length}
 use Rattle.printing.specs.declared.writer.SwitchAction.{SwitchAction}
 use Rattle.printing.specs.declared.writer.SwitchOperation.{SwitchOperation}
 use Rattle.printing.specs.declared.writer.SwitchAction.the-variants.{Open, Close}
 use Rattle.graph.specs.declared.form.Form.{Form}
 use Rattle.graph.specs.Form.{islandsField, branchField}
-use Rattle.lines.specs.Hex.{Fields}
+use Rattle.lines.specs.Hex.{digits, Fields}
 use Rattle.lines.specs.Frames.{Frame, frameText}
 
 -- ---- 81
@@ -53,16 +54,13 @@ operationFields o = (o .«switch_id», (actionByte (o .action), tt))
 unfoldable pub operationText : SwitchOperation → List ℕ
 operationText o = frameText operation (operationFields o)
 
--- ---- 83
--- "id closed, id opened"
-abbrev pub pair : Frame
-pair = record { kind = 0x83; widths = 4 ∷ 4 ∷ [] }
+-- ---- 86
+-- "a count byte, the closed ids, a count byte, the opened ids, each id u16, in list order"
+abbrev pub idsText : List ℕ → List ℕ
+idsText ids = digits 2 (length ids) ++ flatMap (digits 4) ids
 
-abbrev pub pairFields : ℕ → ℕ → Fields (pair .widths)
-pairFields closes opens = (closes, (opens, tt))
-
-unfoldable pub pairText : ℕ → ℕ → List ℕ
-pairText closes opens = frameText pair (pairFields closes opens)
+unfoldable pub pairText : List ℕ → List ℕ → List ℕ
+pairText closes opens = digits 2 0x86 ++ (idsText closes ++ (idsText opens ++ (10 ∷ [])))
 
 -- ---- 8F
 -- "number byte, place (u16)"

@@ -2,15 +2,22 @@
 // most 16 digits is written as one number.
 // `SwitchAction` and `SwitchOperation` are translated and changed from src/network/reconfiguration.rs of oxigrid. Copyright 2024-2026 COOLJAPAN OU (Team Kitasan), Apache License 2.0.
 ghost use mathlib.Core.Path.{_≡_};
-ghost use mathlib.Core.List.{_++_};
+ghost use mathlib.Core.List.{[], _∷_, _++_};
 ghost use Prim.Native.Nat.{_≤_};
 ghost use lib.ListN.{length};
 ghost use Rattle.lines.specs.Hex.{digits};
-ghost use Rattle.slices.specs.Written.{written};
-ghost use Rattle.printing.specs.Printed.{truthByte, actionByte, answerText, formText, operationText, pairText, refusalText};
+ghost use Rattle.slices.specs.Written.{written, lastDigits};
+ghost use Rattle.printing.specs.Printed.{truthByte, actionByte, answerText, formText, operationText, idsText, pairText, refusalText};
+ghost use Rattle.printing.specs.Stored.{idsIn, noIds};
+ghost use Rattle.printing.specs.Lengths.{longestPair};
 use crate::lengths::ANSWER_LENGTH;
+use crate::lengths::ID_LENGTH;
+use crate::lengths::PAIR_HEAD_LENGTH;
 use graph::form::Form;
 use graph::form::fields_of;
+use network::topology::PowerNetwork;
+use numbers::at_most;
+use numbers::wide8;
 use slices::writer::write_digits;
 use slices::writer::write_line;
 
@@ -24,6 +31,30 @@ pub enum SwitchAction {
 pub struct SwitchOperation {
     pub switch_id: u16,
     pub action: SwitchAction,
+}
+
+// The ids of switches of one branch that a pair moves, in list order: the first `count` of them, both where it is larger.
+pub struct SwitchIds {
+    pub count: u8,
+    pub ids: [u16; PowerNetwork::MAX_SWITCHES_ON_BRANCH],
+}
+
+impl SwitchIds {
+    // None yet.
+    pub fn new() -> SwitchIds
+        ensures { λ r. ⌜ r ≡ noIds ⌝ }
+    {
+        SwitchIds {
+            count: 0,
+            ids: [0; PowerNetwork::MAX_SWITCHES_ON_BRANCH],
+        }
+    }
+}
+
+// Ids in a line: how many digits they have with their count before them, and the number that these write.
+struct IdDigits {
+    width: u8,
+    number: u64,
 }
 
 // The byte of a field that says whether it is so.
@@ -95,12 +126,62 @@ pub fn write_operation(out: &mut [u8], operation: SwitchOperation)
     write_line(out, 8, 0x8200_0000 + fields);
 }
 
-// The frame 83: a pair of a plan, by the id of the switch that it closes and the id of the one that it opens.
-pub fn write_pair(out: &mut [u8], closes: u16, opens: u16)
-    ensures { λ _. ⌜ now (out .exit) ≡ written (pairText closes opens) (now (out .entry)) ⌝ }
+fn one_id(id: u16) -> IdDigits
+    ensures { λ r. ⌜ lastDigits (r .width) (r .number) ≡ idsText (id ∷ []) ⌝ }
 {
-    let fields = 0x1_0000 * closes as u64 + opens as u64;
-    write_line(out, 10, 0x83_0000_0000 + fields);
+    IdDigits {
+        width: 6,
+        number: 0x1_0000 + id as u64,
+    }
+}
+
+fn two_ids(first: u16, second: u16) -> IdDigits
+    ensures { λ r. ⌜ lastDigits (r .width) (r .number) ≡ idsText (first ∷ second ∷ []) ⌝ }
+{
+    let ids = 0x1_0000 * first as u64 + second as u64;
+    IdDigits {
+        width: 10,
+        number: 0x2_0000_0000 + ids,
+    }
+}
+
+fn id_digits(switches: SwitchIds) -> IdDigits
+    ensures { λ r. ⌜ lastDigits (r .width) (r .number) ≡ idsText (idsIn switches) ⌝ }
+{
+    if switches.count == 0 {
+        return IdDigits {
+            width: 2,
+            number: 0,
+        };
+    }
+    if switches.count == 1 {
+        return one_id(switches.ids[0]);
+    }
+    two_ids(switches.ids[0], switches.ids[1])
+}
+
+// How many bytes the line of a pair has. The bound stands beside the equation for the callers: they add lengths up, and the ids that the text has are not bounded by its words.
+pub fn pair_length(closes: SwitchIds, opens: SwitchIds) -> usize
+    ensures { λ r. ⌜ (r ≡ length (pairText (idsIn closes) (idsIn opens))) × (r ≤ longestPair) ⌝ }
+{
+    let closed = at_most(wide8(closes.count), PowerNetwork::MAX_SWITCHES_ON_BRANCH);
+    let opened = at_most(wide8(opens.count), PowerNetwork::MAX_SWITCHES_ON_BRANCH);
+    PAIR_HEAD_LENGTH + ID_LENGTH * (closed + opened)
+}
+
+// The frame 86: a pair of a plan, by the ids of the switches that it closes and of those that it opens.
+pub fn write_pair(out: &mut [u8], closes: SwitchIds, opens: SwitchIds)
+    ensures { λ _. ⌜ now (out .exit) ≡ written (pairText (idsIn closes) (idsIn opens)) (now (out .entry)) ⌝ }
+{
+    let closed = id_digits(closes);
+    let opened = id_digits(opens);
+    let width = wide8(closed.width);
+    if out.len() < 2 + width + wide8(opened.width) + 1 {
+        return;
+    }
+    write_digits(out, 2, 0x86);
+    write_digits(&mut out[2..], width, closed.number);
+    write_line(&mut out[2 + width..], opened.width, opened.number);
 }
 
 // The frame 8F: a refusal's number and place.

@@ -20,7 +20,7 @@ pub(crate) fn changed(mut network: PowerNetwork, change: u8) -> PowerNetwork {
         74 => network.branches[1] = branch(2, -1.0),
         75 => network.switches[0] = switch(10, 3),
         76 => network.switches[1] = switch(10, 2),
-        77 => network.switches[1] = switch(11, 1),
+        77 => return three_on_a_branch(network),
         78 => return unlisted(network),
         _ => return network,
     }
@@ -47,6 +47,14 @@ fn switch(id: u16, branch_idx: u16) -> Switch {
         normally_open: true,
         can_operate: true,
     }
+}
+
+// The triangle's first switch is on branch 1; the second joins it there, and a third is listed.
+fn three_on_a_branch(mut network: PowerNetwork) -> PowerNetwork {
+    network.switches[1] = switch(11, 1);
+    network.switches[2] = switch(12, 1);
+    network.switch_count = 3;
+    network
 }
 
 fn three_fewer(count: u16) -> u16 {

@@ -108,10 +108,10 @@ fn print_cases(input: &[u8]) {
 }
 
 // Room for all cases.
-fn buffer() -> [u8; 393216]
-    ensures { λ r. ⌜ 393216 ≡ length r ⌝ }
+fn buffer() -> [u8; 458752]
+    ensures { λ r. ⌜ 458752 ≡ length r ⌝ }
 {
-    [0; 393216]
+    [0; 458752]
 }
 
 fn main() {

@@ -42,10 +42,10 @@ fn print_cases(input: &[u8]) {
 }
 
 // Room for all cases.
-fn buffer() -> [u8; 524288]
-    ensures { λ r. ⌜ 524288 ≡ length r ⌝ }
+fn buffer() -> [u8; 589824]
+    ensures { λ r. ⌜ 589824 ≡ length r ⌝ }
 {
-    [0; 524288]
+    [0; 589824]
 }
 
 fn main() {

@@ -92,18 +92,18 @@ fn is_eleventh_tie(algorithm: ReconfigAlgorithm, normally_open: bool, ties: u16)
     }
 }
 
-// A switch line's refusals; of the switches before it, `twice` says that one has its id, `second` that one is on its
+// A switch line's refusals; of the switches before it, `twice` says that one has its id, `on_branch` how many are on its
 // branch, and `ties` how many are normally open.
 pub fn judge_switch(
     switch: Switch,
     branch_count: u16,
     algorithm: ReconfigAlgorithm,
     twice: bool,
-    second: bool,
+    on_branch: u8,
     ties: u16,
     place: u16,
 ) -> Verdict
-    ensures { λ r. ⌜ answerOf r ≡ judge (switchRow switch «branch_count» algorithm twice second ties) place ⌝ }
+    ensures { λ r. ⌜ answerOf r ≡ judge (switchRow switch «branch_count» algorithm twice «on_branch» ties) place ⌝ }
 {
     if switch.branch_idx >= branch_count {
         return Verdict::Refused { number: 6, place };
@@ -111,7 +111,7 @@ pub fn judge_switch(
     if twice {
         return Verdict::Refused { number: 7, place };
     }
-    if second {
+    if on_branch as usize >= PowerNetwork::MAX_SWITCHES_ON_BRANCH {
         return Verdict::Refused { number: 8, place };
     }
     if is_eleventh_tie(algorithm, switch.normally_open, ties) {

@@ -30,11 +30,11 @@ use resumption::resume::resume;
 // Bytes of an 82 line.
 const LINE: usize = 9;
 
-// The moves of 255 pairs, which a plan on 256 buses has at most.
-const MAX_MOVES: usize = 510;
+// A plan moves each of 512 switches at most once.
+const MAX_MOVES: usize = 512;
 
 // More than a line for each of these moves, so that longer slices can be asked for.
-const MAX_ROOM: usize = 4608;
+const MAX_ROOM: usize = 4864;
 
 // The feeder of a case, and where the case ends.
 struct Done {
@@ -69,7 +69,7 @@ fn changed(mut network: PowerNetwork, change: u8) -> PowerNetwork {
 
 // A dot for each byte.
 fn dots() -> [u8; MAX_ROOM]
-    ensures { λ r. ⌜ 4608 ≡ length r ⌝ }
+    ensures { λ r. ⌜ 4864 ≡ length r ⌝ }
 {
     [46; MAX_ROOM]
 }
@@ -83,8 +83,8 @@ fn resumed(
     left: usize,
     gone: usize,
 ) -> Call
-    requires { ⌜ (left ≤ 4608) × (gone ≤ 4608) ⌝ }
-    ensures { λ r. ⌜ (r .left ≤ 4608) × (r .gone ≤ 4608) ⌝ }
+    requires { ⌜ (left ≤ 4864) × (gone ≤ 4864) ⌝ }
+    ensures { λ r. ⌜ (r .left ≤ 4864) × (r .gone ≤ 4864) ⌝ }
 {
     let mut remaining = dots();
     let mut back = dots();
@@ -114,8 +114,8 @@ fn resumed_at(
     moves: usize,
     count: usize,
 ) -> Call
-    requires { ⌜ (moves ≤ 510) × (count ≤ 511) ⌝ }
-    ensures { λ r. ⌜ (r .left ≤ 4608) × (r .gone ≤ 4608) ⌝ }
+    requires { ⌜ (moves ≤ 512) × (count ≤ 513) ⌝ }
+    ensures { λ r. ⌜ (r .left ≤ 4864) × (r .gone ≤ 4864) ⌝ }
 {
     let left = LINE * (moves - at_most(count, moves));
     resumed(network, present, wanted, count as u64, left, LINE * count)
@@ -139,7 +139,7 @@ fn print_answer(count: u64, answer: ResumeAnswer) {
 
 // The slice stands between brackets, its line feeds as they are.
 fn print_slice(bytes: [u8; MAX_ROOM], room: usize)
-    requires { ⌜ room ≤ 4608 ⌝ }
+    requires { ⌜ room ≤ 4864 ⌝ }
 {
     io::write_all(STDOUT_FILENO, b" [");
     io::write_all(STDOUT_FILENO, &bytes[0..room]);
@@ -147,7 +147,7 @@ fn print_slice(bytes: [u8; MAX_ROOM], room: usize)
 }
 
 fn print_call(call: Call)
-    requires { ⌜ (call .left ≤ 4608) × (call .gone ≤ 4608) ⌝ }
+    requires { ⌜ (call .left ≤ 4864) × (call .gone ≤ 4864) ⌝ }
 {
     let answer = call.answer;
     let remaining = call.remaining;
@@ -177,7 +177,7 @@ fn ends_with(list: &[u8], bytes: &[u8]) -> bool
 }
 
 fn print_end(list: [u8; MAX_ROOM], length: usize, bytes: [u8; MAX_ROOM], room: usize)
-    requires { ⌜ (length ≤ 4608) × (room ≤ 4608) ⌝ }
+    requires { ⌜ (length ≤ 4864) × (room ≤ 4864) ⌝ }
 {
     if ends_with(&list[0..length], &bytes[0..room]) {
         io::write_all(STDOUT_FILENO, b" end");
@@ -188,7 +188,7 @@ fn print_end(list: [u8; MAX_ROOM], length: usize, bytes: [u8; MAX_ROOM], room: u
 
 // The calls at count 0 and at the last count have the longest lists.
 fn print_ends(first: Call, last: Call, call: Call)
-    requires { ⌜ (first .left ≤ 4608) × (last .gone ≤ 4608) × (call .left ≤ 4608) × (call .gone ≤ 4608) ⌝ }
+    requires { ⌜ (first .left ≤ 4864) × (last .gone ≤ 4864) × (call .left ≤ 4864) × (call .gone ≤ 4864) ⌝ }
 {
     let answer = call.answer;
     let remaining = call.remaining;
@@ -202,7 +202,7 @@ fn print_ends(first: Call, last: Call, call: Call)
 }
 
 fn print_every_count(network: PowerNetwork, present: &[u8], wanted: &[u8], moves: usize)
-    requires { ⌜ moves ≤ 510 ⌝ }
+    requires { ⌜ moves ≤ 512 ⌝ }
 {
     let mut count = 0usize;
     while count <= moves + 1 {
@@ -212,7 +212,7 @@ fn print_every_count(network: PowerNetwork, present: &[u8], wanted: &[u8], moves
 }
 
 fn print_long_plan(network: PowerNetwork, present: &[u8], wanted: &[u8], moves: usize)
-    requires { ⌜ moves ≤ 510 ⌝ }
+    requires { ⌜ moves ≤ 512 ⌝ }
 {
     let first = resumed_at(network, present, wanted, moves, 0);
     let last = resumed_at(network, present, wanted, moves, moves);
@@ -231,7 +231,7 @@ fn print_long_plan(network: PowerNetwork, present: &[u8], wanted: &[u8], moves: 
 
 // The length of a slice, from four digits.
 fn room_at(line: &[u8], at: usize) -> usize
-    ensures { λ r. ⌜ r ≤ 4608 ⌝ }
+    ensures { λ r. ⌜ r ≤ 4864 ⌝ }
 {
     at_most(number_at(line, at, 4) as usize, MAX_ROOM)
 }
@@ -321,10 +321,10 @@ fn print_cases(input: &[u8]) {
 }
 
 // Room for all cases.
-fn buffer() -> [u8; 393216]
-    ensures { λ r. ⌜ 393216 ≡ length r ⌝ }
+fn buffer() -> [u8; 524288]
+    ensures { λ r. ⌜ 524288 ≡ length r ⌝ }
 {
-    [0; 393216]
+    [0; 524288]
 }
 
 fn main() {

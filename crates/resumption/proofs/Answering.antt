@@ -17,13 +17,19 @@ use Rattle.operations.specs.Operations.{operationsText}
 use Rattle.plan.specs.declared.planner.MadePlan.{MadePlan}
 use Rattle.plan.specs.MadePlans.{madePlan}
 use Rattle.plan.specs.Stored.{movesIn, madeIn}
-use Rattle.plan.specs.MadePlanLaws.{made-accepted, made-pairs}
+use Rattle.plan.specs.MadePlanLaws.{made-accepted, made-pairs, made-few}
 use Rattle.resumption.specs.declared.moves.MoveList.{MoveList}
 use Rattle.resumption.specs.SingleMoves.{singleMoves, goingBack}
 use Rattle.resumption.specs.Resume.{movesOfPlan, checkResume, resumed}
-use Rattle.resumption.specs.ResumeLaws.{count-passes, count-refused, remaining-long, back-long}
+use Rattle.resumption.specs.ResumeLaws.{singles-few, count-passes, count-refused, remaining-long, back-long}
 use Rattle.resumption.specs.Stored.{listed}
 use Rattle.resumption.proofs.MoveLists.{length-listed}
+
+-- there is room for the moves of the planner's pairs
+pub moves-room : (N : Network) (present wanted : State) (m : MadePlan) → madeIn m ≡ madePlan N present wanted → m .verdict ≡ Accepted
+    → (m .pairs .count ≤ 512) × (length (singleMoves (movesIn (m .pairs))) ≤ 512)
+moves-room N present wanted m made v =
+    (made-few N present wanted m made v, rw (made-pairs N present wanted m made v) (singles-few N present wanted (made-accepted N present wanted m made v)))
 
 module _ (N : Network) (present wanted : State) (count : ℕ) (remaining back : List ℕ) where
   abbrev M : List SwitchOperation

@@ -1,23 +1,25 @@
--- Lists of single moves: carried out one behind the other, cut in two, and undone move by move.
+-- Lists of single moves: carried out one behind the other, cut in two, the same done to several switches, and undone move by move.
 use mathlib.Core.Path.{_≡_, refl, sym, ap, _∙_}
 use mathlib.Core.Logic.{_≢_}
-use mathlib.Core.List.{List, [], _∷_, _++_, map, reverse, reverse-cons, reverse-append, flatMap, map-append, append-assoc}
+use mathlib.Core.Bool.{true}
+use mathlib.Core.List.{List, [], _∷_, _++_, map, reverse, reverse-cons, reverse-append, flatMap, map-append, append-assoc, append-nil, List·Memᴰ, List·Memᴰ·head, List·Memᴰ·tail, Memᴰ·cast}
 use mathlib.Core.Option.{some, Option·none-ne-some}
 use Prim.Native.Nat.{ℕ, zero, suc, _≤_, _<_}
 use native.Mathlib.Decide.{ℕ-discrete}
 use native.Mathlib.Omega.{arith}
-use lib.ListN.{length, set, take, getElem?, length-map, length-reverse, length-set}
-use lib.Seq.{set-set, set-getD, getD-set-same, getD-set-other}
+use lib.ListN.{length, set, take, drop, getElem?, take-append-drop, length-append, length-map, length-reverse, length-set}
+use lib.Seq.{take-all, set-set, set-getD, getD-set-same, getD-set-other}
+use Rattle.numbers.specs.Distinct.{Distinct}
 use Rattle.numbers.specs.Parts.{take-some}
 use Rattle.numbers.specs.TableLaws.{map-snoc}
 use Rattle.network.specs.Records.{Network}
-use Rattle.states.specs.Switches.{State, byte, GoodState}
+use Rattle.states.specs.Switches.{State, byte, operable, GoodState}
 use Rattle.printing.specs.declared.writer.SwitchAction.{SwitchAction}
 use Rattle.printing.specs.declared.writer.SwitchAction.the-variants.{Open, Close}
 use Rattle.printing.specs.declared.writer.SwitchOperation.{SwitchOperation}
 use Rattle.plan.specs.Plan.{Moves}
-use Rattle.plan.specs.Claim.{switchAt}
-use Rattle.resumption.specs.SingleMoves.{movesOfPair, singleMoves, byteAfter, moved, movedAll, inverse, goingBack}
+use Rattle.plan.specs.Claim.{switchAt, setAll}
+use Rattle.resumption.specs.SingleMoves.{to, closingMoves, openingMoves, movesOfPair, singleMoves, byteAfter, moved, movedAll, inverseAction, inverse, goingBack}
 use Rattle.resumption.specs.Claim.{Movable}
 
 -- ---- the moves of pairs
@@ -26,9 +28,25 @@ unfolding singleMoves flatMap
 singles-append [] Q = refl
 singles-append (q ∷ P) Q = rw (singles-append P Q) (sym (append-assoc (movesOfPair q) (singleMoves P) (singleMoves Q)))
 
+-- those of the first n pairs come first
+pub singles-parts : (n : ℕ) (P : List Moves) → singleMoves P ≡ singleMoves (take n P) ++ singleMoves (drop n P)
+singles-parts n P = ap singleMoves (sym (take-append-drop n P)) ∙ singles-append (take n P) (drop n P)
+
+pub singles-fewer : (n : ℕ) (P : List Moves) → length (singleMoves (take n P)) ≤ length (singleMoves P)
+singles-fewer n P = omega (arith, ap length (singles-parts n P), length-append (singleMoves (take n P)) (singleMoves (drop n P)))
+
 pub singles-first : (q : Moves) (P : List Moves) → singleMoves (q ∷ P) ≡ movesOfPair q ++ singleMoves P
 unfolding singleMoves flatMap
 singles-first q P = refl
+
+-- one pair more
+pub singles-more : (P : List Moves) (q : Moves) → singleMoves (P ++ (q ∷ [])) ≡ singleMoves P ++ movesOfPair q
+unfolding singleMoves flatMap
+singles-more P q = singles-append P (q ∷ []) ∙ ap (λ (l : List SwitchOperation). singleMoves P ++ l) (append-nil (movesOfPair q))
+
+-- what the first pair closes, what it opens, and the others
+pub singles-order : (q : Moves) (P : List Moves) → singleMoves (q ∷ P) ≡ closingMoves q ++ (openingMoves q ++ singleMoves P)
+singles-order q P = singles-first q P ∙ append-assoc (closingMoves q) (openingMoves q) (singleMoves P)
 
 -- ---- going back
 pub back-append : (l m : List SwitchOperation) → goingBack (l ++ m) ≡ goingBack m ++ goingBack l
@@ -102,6 +120,35 @@ module _ (N : Network) where
   movable-at [] s h n o e = absurd (Option·none-ne-some o e)
   movable-at (x ∷ l) s h zero o e = let p : x ≡ o = cc in rw (← p) (h .0)
   movable-at (x ∷ l) s h (suc n) o e = movable-at l (moved N x s) (h .1) n o e
+
+  -- ---- the same done to several switches, by their ids
+  -- to the first n of them
+  pub moved-some : (a : SwitchAction) (n : ℕ) (l : List ℕ) (s : State) → movedAll N (take n (map (to a) l)) s ≡ setAll s (take n (map (switchAt N) l)) (byteAfter a)
+  unfolding movedAll moved setAll
+  moved-some a zero l s = refl
+  moved-some a (suc n) [] s = refl
+  moved-some a (suc n) (x ∷ l) s = moved-some a n l (set s (switchAt N x) (byteAfter a))
+
+  -- to all of them
+  pub moved-each : (a : SwitchAction) (l : List ℕ) (s : State) → movedAll N (map (to a) l) s ≡ setAll s (map (switchAt N) l) (byteAfter a)
+  moved-each a l s =
+      ap (λ (m : List SwitchOperation). movedAll N m s) (sym (take-all (length l) (map (to a) l) (omega (arith, length-map l (to a)))))
+      ∙ moved-some a (length l) l s
+      ∙ ap (λ (m : List ℕ). setAll s m (byteAfter a)) (take-all (length l) (map (switchAt N) l) (omega (arith, length-map l (switchAt N))))
+
+  -- each is listed and operable, stands the other way before, and none is named twice
+  pub movable-each : (a : SwitchAction) (l : List ℕ) (s : State) → Distinct (map (switchAt N) l)
+      → ((i : ℕ) → List·Memᴰ i (map (switchAt N) l) → (i < length (N .switches)) × (operable N i ≡ true) × (byte s i ≡ byteAfter (inverseAction a)))
+      → AllMovable (map (to a) l) s
+  unfolding moved
+  movable-each a [] s d h = tt
+  movable-each a (x ∷ l) s d h =
+      let (listed, free, stands) = h (switchAt N x) (List·Memᴰ·head refl) in (
+        record { listed = listed; free = free; stands = stands },
+        movable-each a l (set s (switchAt N x) (byteAfter a)) (d .1) (λ i z.
+            let (b, f, t) = h i (List·Memᴰ·tail z) in
+            (b, f, getD-set-other s (switchAt N x) i (byteAfter a) 0 (λ e. d .0 (Memᴰ·cast (sym e) z)) ∙ t)),
+      )
 
   -- a move that changed its byte, and its inverse
   undone-one : (o : SwitchOperation) (s : State) → Movable N o s → moved N (inverse o) (moved N o s) ≡ s

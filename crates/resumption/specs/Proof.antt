@@ -14,9 +14,9 @@ use Rattle.graph.specs.Graph.{Tree}
 use Rattle.feeders.specs.Feeder.{feeder, LiveIn}
 use Rattle.plan.specs.Plan.{pairs, Moves, plan}
 use Rattle.plan.specs.Claim.{OnLoop, closedBy, openedBy, forward, reached, after}
-use Rattle.plan.specs.Plannable.{Regular, Plannable}
-use Rattle.plan.specs.Moved.{Shows, pair-on-loop}
-use Rattle.plan.specs.Stages.{Leads, stage, Due, due-at, run-at}
+use Rattle.plan.specs.Plannable.{Plannable}
+use Rattle.plan.specs.Due.{Due, pair-on-loop}
+use Rattle.plan.specs.Stages.{Leads, stage, Holds, due-at, run-at}
 use Rattle.plan.specs.Accepted.{accepted-plannable}
 use Rattle.plan.specs.Planner.{pairs-lead}
 use Rattle.plan.specs.Proof.{plannable-plan}
@@ -32,18 +32,15 @@ module _ (N : Network) (present wanted : State) (given : Plannable N present wan
   abbrev M : List SwitchOperation
   M = moves N present wanted
 
-  regular : Regular N
-  regular = given .regular
+  lead : Leads N (live N present) (live N wanted) (live N present) (pairs N present wanted)
+  lead = pairs-lead N present wanted (given .joined)
 
-  lead : Leads N (live N wanted) (live N present) (pairs N present wanted)
-  lead = pairs-lead N present wanted given
-
-  start : Shows N present (live N present)
-  start = record { good = given .present-good; flags = λ k. refl }
+  start : Holds N present wanted given present (live N present)
+  start = record { shows = record { good = given .joined .present-good; flags = λ k. refl }; kept = λ i e. refl }
 
   movable : AllMovable N M present
   unfolding plan
-  movable = leads-movable regular lead start
+  movable = leads-movable given lead start
 
   whole : (j : ℕ) → movedAll N (drop j M) (stateAt N present wanted j) ≡ movedAll N M present
   whole j = sym (moved-append N (take j M) (drop j M) present) ∙ ap (λ (l : List SwitchOperation). movedAll N l present) (take-append-drop j M)
@@ -66,12 +63,12 @@ module _ (N : Network) (present wanted : State) (given : Plannable N present wan
       → OnLoop N (stateAt N present wanted (movesBefore P (b .before))) (stateAt N present wanted j) (closedBy N present wanted (b .pair)) (openedBy N present wanted (b .pair))
   on-loop j b d =
       rw (before-moved N P (b .before) present, b .count, between-moved N P (b .before) present (b .pair) (b .next))
-      (rw (d .moves) (pair-on-loop regular (d .shows) (d .ready)))
+      (pair-on-loop (given .joined .regular .ends) d)
 
   reached-stage : (n : ℕ) → n ≤ length P → reached N present wanted (replicate n forward) ≡ stage N present P n
   unfolding after plan stage
   reached-stage n l =
-      run-at regular lead start (replicate n forward) (record { state = present; done = 0 }) (record { low = omega arith; here = refl }) .here
+      run-at N present wanted given lead start (replicate n forward) (record { state = present; done = 0 }) (record { low = omega arith; here = refl }) .here
       ∙ ap (stage N present P) (plannable-plan N present wanted given .forward-counts n l)
 
   -- all moves made: all pairs are done
@@ -93,14 +90,14 @@ module _ (N : Network) (present wanted : State) (given : Plannable N present wan
     going-back-live = λ j l k. ap (λ (s : State). live N s k) (undone-all N (take j M) present (done-movable j));
     further = λ i j. sym (moved-append N (take j M) (take i (drop j M)) present) ∙ ap (λ (l : List SwitchOperation). movedAll N l present) (sym (take-add j i M));
     fewer = some-back;
-    between = λ j b. on-loop j b (due-at regular lead start (b .before) (b .pair) (b .next) .2);
-    elsewhere = λ j l n. radial j n (leads-told regular lead start j l);
+    between = λ j b. on-loop j b (due-at N present wanted given lead start (b .before) (b .pair) (b .next) .2);
+    elsewhere = λ j l n. radial j n (leads-told given lead start j l);
     movable = movable-at N M present movable;
     sets = λ j o e.
-        let g = all-good N (take j M) present (given .present-good) in
+        let g = all-good N (take j M) present (given .joined .present-good) in
         rw (moved-next N M j o e present) (moved-byte N o (stateAt N present wanted j) g (movable-at N M present movable j o e .listed));
     others-stay = λ j o e i n. rw (moved-next N M j o e present) (moved-other N o (stateAt N present wanted j) i n);
-    good = λ j. all-good N (take j M) present (given .present-good);
+    good = λ j. all-good N (take j M) present (given .joined .present-good);
     stopping-points = λ n l. before-moved N P n present ∙ sym (reached-stage n l);
   }
     where

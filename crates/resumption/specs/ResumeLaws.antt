@@ -8,26 +8,34 @@ use lib.Seq.{length-take-le}
 use borrow.Author.Tests.{le-ltb, lt-ltb}
 use Rattle.network.specs.Records.{Network}
 use Rattle.network.specs.Answers.{accepted, refused, _andThen_, judge}
-use Rattle.states.specs.Switches.{State}
+use Rattle.network.specs.InsideLaws.{check-inside}
+use Rattle.states.specs.Switches.{State, size}
 use Rattle.printing.specs.Lengths.{operationLength, movesLength}
 use Rattle.printing.specs.CallLaws.{two-in-full}
+use Rattle.feeders.specs.SupplyLaws.{network-records}
 use Rattle.changes.specs.Change.{checkPlan}
 use Rattle.operations.specs.Operations.{operationsText}
 use Rattle.operations.specs.OperationLines.{length-text}
-use Rattle.plan.specs.Length.{plan-short, plan-few}
 use Rattle.plan.specs.Plan.{plan}
+use Rattle.plan.specs.Accepted.{accepted-tested}
+use Rattle.plan.specs.Moving.{each-moves-once}
 use Rattle.resumption.specs.SingleMoves.{goingBack}
 use Rattle.resumption.specs.Resume.{movesOfPlan, checkResume, resumed, fullAnswer}
 use Rattle.resumption.specs.MoveLaws.{length-back}
-use Rattle.resumption.specs.PairMoves.{moves-few}
+use Rattle.resumption.specs.PairMoves.{moves-counted}
 
 module _ (N : Network) (present wanted : State) where
-  -- ---- how long
-  pub moves-short : checkPlan N present wanted ≡ accepted tt → length (movesOfPlan N present wanted) ≤ 2 * (length (N .buses) - 1)
-  moves-short ok = omega (arith, moves-few (plan N present wanted), plan-short N present wanted ok)
+  -- ---- how long: each switch moves once
+  pub moves-short : checkPlan N present wanted ≡ accepted tt → length (movesOfPlan N present wanted) ≤ size N
+  moves-short ok = omega (arith, moves-counted N (plan N present wanted), each-moves-once N present wanted (accepted-tested N present wanted ok) .few)
+
+  pub singles-few : checkPlan N present wanted ≡ accepted tt → length (movesOfPlan N present wanted) ≤ 512
+  singles-few ok =
+      let passed = network-records N (accepted-tested N present wanted ok .network) in
+      omega (arith, moves-short ok, check-inside N .0 passed .counts .2)
 
   pub moves-fit : checkPlan N present wanted ≡ accepted tt → operationLength * length (movesOfPlan N present wanted) ≤ movesLength
-  moves-fit ok = omega (arith, moves-few (plan N present wanted), plan-few N present wanted ok)
+  moves-fit ok = omega (arith, singles-few ok)
 
   module _ (count : ℕ) where
     -- the lines of the moves that remain, and of those that go back

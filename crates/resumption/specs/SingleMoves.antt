@@ -11,12 +11,16 @@ use Rattle.plan.specs.Plan.{Moves}
 use Rattle.plan.specs.Claim.{switchAt}
 
 -- ---- the moves of a plan
--- what a pair closes, and what it opens. Only these two know how many switches a pair moves
+-- a switch by its id, and what is done to it
+abbrev pub to : SwitchAction → ℕ → SwitchOperation
+to a id = record { «switch_id» = id; action = a }
+
+-- what a pair closes, and what it opens: one move for each switch, in list order. Only these two know how many switches a pair moves
 unfoldable pub closingMoves : Moves → List SwitchOperation
-closingMoves q = record { «switch_id» = q .closes; action = Close } ∷ []
+closingMoves q = map (to Close) (q .closes)
 
 unfoldable pub openingMoves : Moves → List SwitchOperation
-openingMoves q = record { «switch_id» = q .opens; action = Open } ∷ []
+openingMoves q = map (to Open) (q .opens)
 
 abbrev pub movesOfPair : Moves → List SwitchOperation
 movesOfPair q = closingMoves q ++ openingMoves q

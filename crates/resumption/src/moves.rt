@@ -1,19 +1,23 @@
 // The single moves of a plan.
 ghost use mathlib.Core.Path.{_≡_};
-ghost use mathlib.Core.List.{[], _∷_, _++_};
+ghost use mathlib.Core.List.{[], _∷_, _++_, map};
 ghost use Prim.Native.Nat.{_+_, _*_, _<_, _≤_};
 ghost use lib.ListN.{length, take, drop};
 ghost use Rattle.plan.specs.Stored.{movesIn};
 ghost use Rattle.printing.specs.Lengths.{operationLength};
+ghost use Rattle.printing.specs.Stored.{idsIn};
 ghost use Rattle.slices.specs.Written.{written};
 ghost use Rattle.operations.specs.Operations.{operationsText};
 ghost use Rattle.resumption.specs.SingleMoves.{singleMoves, goingBack};
 ghost use Rattle.resumption.specs.Stored.{operationOf, listed};
 use network::topology::PowerNetwork;
+use numbers::at_most;
+use numbers::wide8;
 use numbers::wide16;
 use plan::pairs::PairList;
 use printing::lengths::OPERATION_LENGTH;
 use printing::writer::SwitchAction;
+use printing::writer::SwitchIds;
 use printing::writer::SwitchOperation;
 use printing::writer::write_operation;
 
@@ -25,8 +29,8 @@ pub(crate) struct MoveList {
 }
 
 impl MoveList {
-    // A closing and an opening for each pair that a list of pairs has room for.
-    pub const MAX_MOVES: usize = 2 * PowerNetwork::MAX_SWITCHES;
+    // Each switch moves at most once.
+    pub const MAX_MOVES: usize = PowerNetwork::MAX_SWITCHES;
 
     // No moves.
     fn new() -> MoveList
@@ -41,7 +45,7 @@ impl MoveList {
 
     // One move more.
     fn with(mut self, id: u16, opens: bool) -> MoveList
-        requires { ⌜ self .count < 1024 ⌝ }
+        requires { ⌜ self .count < 512 ⌝ }
         ensures { λ r. ⌜ listed r ≡ listed self ++ (operationOf id opens ∷ []) ⌝ }
     {
         let at = wide16(self.count);
@@ -50,20 +54,35 @@ impl MoveList {
         self.count += 1;
         self
     }
+
+    // One move more for each of the ids, in order.
+    fn with_ids(self, switches: SwitchIds, opens: bool) -> MoveList
+        requires { ⌜ self .count + length (idsIn switches) ≤ 512 ⌝ }
+        ensures { λ r. ⌜ listed r ≡ listed self ++ map (λ id. operationOf id opens) (idsIn switches) ⌝ }
+    {
+        let n = at_most(wide8(switches.count), PowerNetwork::MAX_SWITCHES_ON_BRANCH);
+        let mut moves = self;
+        let mut i = 0usize;
+        while i < n {
+            moves = moves.with(switches.ids[i], opens);
+            i += 1;
+        }
+        moves
+    }
 }
 
-// The single moves of the pairs, one pair behind the other: of each the closing, then the opening.
+// The single moves of the pairs, one pair behind the other: of each the closings, then the openings.
 pub(crate) fn moves_of(pairs: PairList) -> MoveList
-    requires { ⌜ pairs .count ≤ 512 ⌝ }
-    ensures { λ r. ⌜ (r .count ≤ 1024) × (listed r ≡ singleMoves (movesIn pairs)) ⌝ }
+    requires { ⌜ (pairs .count ≤ 512) × (length (singleMoves (movesIn pairs)) ≤ 512) ⌝ }
+    ensures { λ r. ⌜ (r .count ≤ 512) × (listed r ≡ singleMoves (movesIn pairs)) ⌝ }
 {
     let n = wide16(pairs.count);
     let mut moves = MoveList::new();
     let mut i = 0usize;
     while i < n {
         moves = moves
-            .with(pairs.closes[i], false)
-            .with(pairs.opens[i], true);
+            .with_ids(pairs.closes[i], false)
+            .with_ids(pairs.opens[i], true);
         i += 1;
     }
     moves
@@ -87,7 +106,7 @@ fn operation(id: u16, opens: bool) -> SwitchOperation
 
 // A line for each move behind those done, in order.
 pub(crate) fn write_remaining(out: &mut [u8], moves: MoveList, done: usize)
-    requires { ⌜ (moves .count ≤ 1024) × (done ≤ moves .count) × (operationLength * moves .count ≤ operationLength * done + length (now out)) ⌝ }
+    requires { ⌜ (moves .count ≤ 512) × (done ≤ moves .count) × (operationLength * moves .count ≤ operationLength * done + length (now out)) ⌝ }
     ensures { λ _. ⌜ now (out .exit) ≡ written (operationsText (drop done (listed moves))) (now (out .entry)) ⌝ }
 {
     let n = wide16(moves.count) - done;
@@ -102,7 +121,7 @@ pub(crate) fn write_remaining(out: &mut [u8], moves: MoveList, done: usize)
 
 // A line for each move done: it is inverted, and the last one comes first.
 pub(crate) fn write_back(out: &mut [u8], moves: MoveList, done: usize)
-    requires { ⌜ (moves .count ≤ 1024) × (done ≤ moves .count) × (operationLength * done ≤ length (now out)) ⌝ }
+    requires { ⌜ (moves .count ≤ 512) × (done ≤ moves .count) × (operationLength * done ≤ length (now out)) ⌝ }
     ensures { λ _. ⌜ now (out .exit) ≡ written (operationsText (goingBack (take done (listed moves)))) (now (out .entry)) ⌝ }
 {
     let mut i = 0usize;

@@ -18,7 +18,7 @@ use Rattle.searches.specs.declared.start.Start.{Start}
 use Rattle.searches.specs.Results.{Best, Result, reduction}
 use Rattle.searches.specs.States.{stateOf}
 
--- where every search starts, by the feeder's rows: of a network that has passed its test it is the base with its live branches, its radiality and its loss (StartLaws)
+-- where every search starts, by the feeder's rows: of a network that has passed its test it is the base with its radiality and its loss (StartLaws)
 unfoldable pub startOf : PowerNetwork → Start
 startOf n =
     let base = configurationOf (baseState (recordsOf n)) in
@@ -27,7 +27,6 @@ startOf n =
       graph = feederGraph n;
       loads = loadsOf n;
       base = base;
-      live = flags;
       radial = rowRadial (feederGraph n) flags;
       loss = liveLoss (feederGraph n) (loadsOf n) (n .branches) (n .«base_mva») flags;
     }

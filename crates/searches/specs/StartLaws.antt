@@ -1,4 +1,4 @@
--- Of a network that has passed its test, where a search starts is document 01's base with its live branches, its radiality and its loss.
+-- Of a network that has passed its test, where a search starts is document 01's base with its radiality and its loss.
 use mathlib.Core.Path.{_≡_, refl, ap}
 use lib.ListN.{length}
 use Rattle.network.specs.declared.topology.PowerNetwork.{PowerNetwork}
@@ -6,6 +6,7 @@ use Rattle.network.specs.Records.{Network, recordsOf}
 use Rattle.network.specs.Answers.{accepted}
 use Rattle.network.specs.Check.{checkRecords}
 use Rattle.states.specs.Listed.{state-accepted}
+use Rattle.states.specs.Configuration.{configurationOf}
 use Rattle.states.specs.Live.{baseState}
 use Rattle.feeders.specs.Feeder.{radialIn}
 use Rattle.feeders.specs.FeederRows.{liveFlags}
@@ -18,17 +19,14 @@ use Rattle.searches.specs.Given.{Given, Base}
 use Rattle.searches.specs.SearchValues.{startOf}
 use Rattle.searches.specs.StateRows.{flags-loss}
 
+-- the flags from which both are taken are those of the base
+base-flags : (N : Network) → checkRecords N ≡ accepted tt → liveFlags N (configurationOf (baseState N) .switches) ≡ liveFlags N (baseState N)
+base-flags N ok = state-flags N (baseState N) 0 ok (state-accepted N (baseState N) 0 .1 (base-good N)) _ _ refl refl
+
 module _ (n : PowerNetwork) (sized : length (n .buses) ≡ 256) (ok : checkRecords (recordsOf n) ≡ accepted tt) {start : Start} (e : start ≡ startOf n) where
-  abbrev N : Network
-  N = recordsOf n
-
-  pub start-live : start .live ≡ liveFlags N (baseState N)
+  pub start-radial : start .radial ≡ radialIn (recordsOf n) (baseState (recordsOf n))
   unfolding startOf
-  start-live = state-flags N (baseState N) 0 ok (state-accepted N (baseState N) 0 .1 (base-good N)) _ _ refl (ap (λ s. s .live) e)
-
-  pub start-radial : start .radial ≡ radialIn N (baseState N)
-  unfolding startOf
-  start-radial = flags-radial n sized ok (baseState N) _ _ refl (rw e at start-live) _ (ap (λ s. s .radial) e)
+  start-radial = flags-radial n sized ok (baseState (recordsOf n)) _ _ refl (base-flags (recordsOf n) ok) _ (ap (λ s. s .radial) e)
 
 -- its supply has passed too
 module _ (n : PowerNetwork) (sized : length (n .buses) ≡ 256) (tested : checkNetwork (recordsOf n) ≡ accepted tt) {start : Start} (e : start ≡ startOf n) where
@@ -39,5 +37,5 @@ module _ (n : PowerNetwork) (sized : length (n .buses) ≡ 256) (tested : checkN
   pub start-base : Base n (start .base) (start .loss)
   unfolding startOf
   start-base =
-      let live = start-live n sized (network-records (recordsOf n) tested) e in
-      (ap (λ s. s .base) e, flags-loss n sized (rw e at start-given) (baseState (recordsOf n)) (base-radial (recordsOf n) tested) (rw e at live) _ (ap (λ s. s .loss) e))
+      let live = base-flags (recordsOf n) (network-records (recordsOf n) tested) in
+      (ap (λ s. s .base) e, flags-loss n sized (rw e at start-given) (baseState (recordsOf n)) (base-radial (recordsOf n) tested) live _ (ap (λ s. s .loss) e))

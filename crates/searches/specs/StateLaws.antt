@@ -19,6 +19,7 @@ use Rattle.states.specs.Live.{live, baseState}
 use Rattle.states.specs.LiveLaws.{live-configuration}
 use Rattle.feeders.specs.FeederRows.{liveFlags}
 use Rattle.states.specs.Switches.{byte, swapped, toggled}
+use Rattle.states.specs.OpenCounts.{openCount, count-same}
 use Rattle.states.specs.Listed.{switches-listed, few-switches}
 use Rattle.searches.specs.States.{stateOf}
 use Rattle.searches.specs.Given.{Held}
@@ -45,6 +46,10 @@ module _ (n : PowerNetwork) where
         let long = held-long h l in
         ap (λ d. table (live (recordsOf n) (d .switches)) 512) h
         ∙ table-cong _ _ 512 (λ k m. live-configuration (recordsOf n) (stateOf n c) k (long ∙ sym (switches-listed n)) (omega arith))
+
+    -- what `open_counts` answers are the counts of the state
+    pub counts-listed : table (openCount (recordsOf n) (c .switches)) 512 ≡ table (openCount (recordsOf n) (stateOf n c)) 512
+    counts-listed = table-cong _ _ 512 (λ k m. count-same (recordsOf n) (c .switches) (stateOf n c) k (λ i l. sym (byte-at i (omega (arith, switches-listed n)))))
 
   -- a configuration holds its state
   pub state-held : (s : List ℕ) → length s ≡ n .«switch_count» → n .«switch_count» ≤ 512 → stateOf n (configurationOf s) ≡ s

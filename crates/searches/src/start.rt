@@ -13,17 +13,16 @@ use states::configuration::NetworkConfiguration;
 use states::configuration::build_base_configuration;
 use states::configuration::live_branches;
 
-// Where every search starts: the feeder's rows and loads, and its base with the live branches, the radiality and the loss.
+// Where every search starts: the feeder's rows and loads, and its base with the radiality and the loss.
 pub struct Start {
     pub graph: Graph,
     pub loads: Loads,
     pub base: NetworkConfiguration,
-    pub live: [bool; PowerNetwork::MAX_BRANCHES],
     pub radial: bool,
     pub loss: f64,
 }
 
-// Where every search of this network starts; made once a call. Of a network that has passed its test that is document 01's base with its live branches, radiality and loss (specs/StartLaws).
+// Where every search of this network starts; made once a call. Of a network that has passed its test that is document 01's base with its radiality and loss (specs/StartLaws).
 pub fn start_of(network: PowerNetwork) -> Start
     ensures { λ r. ⌜ r ≡ startOf network ⌝ }
 {
@@ -38,7 +37,6 @@ pub fn start_of(network: PowerNetwork) -> Start
         graph,
         loads,
         base,
-        live,
         radial,
         loss,
     }

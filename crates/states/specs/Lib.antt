@@ -4,4 +4,5 @@ pub mod LiveLaws
 pub mod Switches
 pub mod Listed
 pub mod LiveBytes
+pub mod OpenCounts
 pub mod BaseLaws

@@ -1,8 +1,8 @@
--- What is live in a state, said by the bytes of the switches on a branch; what is live after a switch has moved; and that a branch has one switch.
+-- What is live in a state, said by the bytes of the switches on a branch, and what is live after a switch has moved.
 use mathlib.Core.Path.{_≡_, sym, ap, _∙_}
 use mathlib.Core.Logic.{_⊎_, inl, inr, _≢_}
 use mathlib.Core.Bool.{true, false, not, _&&_, or-true, false≢true}
-use mathlib.Core.List.{List, [], _∷_, map}
+use mathlib.Core.List.{List, [], _∷_}
 use Prim.Native.Nat.{ℕ, zero, suc, _≤_, _<_}
 use native.Mathlib.Decide.{decLt}
 use native.Mathlib.Omega.{arith}
@@ -12,11 +12,7 @@ use lib.Seq.{getD-set-same, getD-set-other}
 use borrow.Author.Tests.{eq-eqb, eqb-true, not-true}
 use Rattle.numbers.specs.Tests.{both, either, which, clash, not-so, same-test}
 use Rattle.network.specs.declared.switch.Switch.{Switch}
-use Rattle.numbers.specs.Choose.{indexOf}
 use Rattle.network.specs.Records.{Network, noBranch, noSwitch}
-use Rattle.network.specs.Limits.{on}
-use Rattle.network.specs.Inside.{Inside}
-use Rattle.network.specs.Positions.{index-own, one-on-branch}
 use Rattle.states.specs.Live.{live, openOn}
 use Rattle.states.specs.Switches.{State, byte, branchOf, inService}
 
@@ -82,7 +78,7 @@ module _ (N : Network) (s t : State) (k : ℕ) where
   live-less h l = let p = live-so N t k l in live-if N s k (p .0) (λ i o b. p .1 i o (h i o b))
 
   -- where no switch of branch k moves, the branch is live or not as before
-  live-same : ((i : ℕ) → On N k i → byte s i ≡ byte t i) → live N s k ≡ live N t k
+  pub live-same : ((i : ℕ) → On N k i → byte s i ≡ byte t i) → live N s k ≡ live N t k
   live-same h = same-test _ _
       (λ l. let p = live-so N s k l in live-if N t k (p .0) (λ i o b. p .1 i o (h i o ∙ b)))
       (live-less (λ i o b. sym (h i o) ∙ b))
@@ -99,28 +95,8 @@ module _ (N : Network) (s : State) (k i : ℕ) (o : On N k i) where
   pub moved-other : (b x : ℕ) → x ≢ k → live N (set s i b) x ≡ live N s x
   moved-other b x n = live-same N (set s i b) s x (λ j p. getD-set-other s i j b 0 (λ e. n (sym (p .here) ∙ ap (branchOf N) e ∙ o .here)))
 
-  module _ (long : length s ≡ length (N .switches)) where
-    pub opened-dead : live N (set s i 1) k ≡ false
-    opened-dead = not-so _ (λ h. live-so N (set s i 1) k h .1 i o (getD-set-same s i 1 0 (omega (arith, o .listed))))
-
-    module _ (alone : (j : ℕ) → On N k j → j ≡ i) (served : inService N k ≡ true) where
-      pub closed-live : live N (set s i 0) k ≡ true
-      closed-live = live-if N (set s i 0) k served (λ j p b. absurd (omega (arith, b, only j p)))
-        where
-          only : (j : ℕ) → On N k j → byte (set s i 0) j ≡ 0
-          only j p = rw (alone j p) (getD-set-same s i 0 0 (omega (arith, o .listed)))
-
-      -- the one switch of a branch in service that is not live is open
-      pub byte-open : live N s k ≡ false → byte s i ≡ 1
-      byte-open h = let (j, p, b) = live-not N s k served h in rw (alone j p) at b
+  pub opened-dead : length s ≡ length (N .switches) → live N (set s i 1) k ≡ false
+  opened-dead long = not-so _ (λ h. live-so N (set s i 1) k h .1 i o (getD-set-same s i 1 0 (omega (arith, o .listed))))
 
   pub byte-closed : byte s i ≤ 1 → live N s k ≡ true → byte s i ≡ 0
   byte-closed b h = let n : byte s i ≢ 1 = live-so N s k h .1 i o in omega arith
-
--- "second switch on a branch" is refused: the switch on a branch is found where it stands, and there is one
-module _ (N : Network) (inside : Inside N) where
-  pub on-found : {k i : ℕ} → On N k i → indexOf k (map on (N .switches)) ≡ i
-  on-found o = rw (← o .here) (index-own on (N .switches) (inside .alone) _ noSwitch (o .listed))
-
-  pub one-switch : {k i j : ℕ} → On N k i → On N k j → i ≡ j
-  one-switch o p = one-on-branch N inside _ _ (o .listed) (p .listed) (o .here ∙ sym (p .here))

@@ -10,6 +10,7 @@ ghost use Rattle.network.specs.Answers.{answerOf};
 ghost use Rattle.states.specs.Configuration.{configurationOf};
 ghost use Rattle.states.specs.Live.{stateByte, checkState, openOn, live, baseState};
 ghost use Rattle.states.specs.LiveLaws.{liveBy};
+ghost use Rattle.states.specs.OpenCounts.{openCount};
 ghost use Rattle.network.specs.Records.{noBranch, noSwitch, listed, recordsOf};
 use network::branch::Branch;
 use network::error::Verdict;
@@ -173,4 +174,30 @@ pub fn live_branches(
     let branches = network.branches;
     let opened = open_branches(switches, network.switch_count as usize, configuration);
     live_list(branches, network.branch_count as usize, &opened)
+}
+
+// For each branch position how many of the switches on it are open in the state.
+pub fn open_counts(
+    network: PowerNetwork,
+    configuration: NetworkConfiguration,
+) -> [u16; PowerNetwork::MAX_BRANCHES]
+    ensures { λ r. ⌜ r ≡ table (openCount (recordsOf network) (configuration .switches)) 512 ⌝ }
+{
+    let n = at_most(
+        network.switch_count as usize,
+        NetworkConfiguration::MAX_SWITCHES,
+    );
+    let mut counts = [0u16; PowerNetwork::MAX_BRANCHES];
+    let mut i: usize = 0;
+    while i < n {
+        let on = wide16(network.switches[i].branch_idx);
+        let byte = configuration.switches[i];
+        if byte == NetworkConfiguration::OPEN {
+            if on < PowerNetwork::MAX_BRANCHES {
+                counts[on] += 1;
+            }
+        }
+        i += 1;
+    }
+    counts
 }

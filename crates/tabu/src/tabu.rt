@@ -38,6 +38,7 @@ use searches::start::Start;
 use searches::start::start_of;
 use states::configuration::NetworkConfiguration;
 use states::configuration::live_branches;
+use states::configuration::open_counts;
 
 // A move that can be made: the state after it, its loss, and the id of the switch that it moves. Where none was found, the state before.
 struct Candidate {
@@ -142,26 +143,37 @@ fn no_candidate(configuration: NetworkConfiguration) -> Candidate
     }
 }
 
-// Is this an operable switch on an out-of-service branch?
-fn is_unserved(switch: Switch, in_service: bool) -> bool
-    ensures { λ r. ⌜ r ≡ (switch .«can_operate» && not «in_service») ⌝ }
+// Does a switch decide whether its branch is live? It does where the branch is in service and no other switch on it is open: then as many are open as its own
+// byte says.
+fn decides_branch(in_service: bool, open_count: u16, byte: u8) -> bool
+    ensures { λ r. ⌜ r ≡ («in_service» && eqb «open_count» byte) ⌝ }
 {
-    switch.can_operate && !in_service
+    in_service && open_count == byte as u16
 }
 
-// A round from a radial state. Only a switch on an out-of-service branch leaves it radial, and the loss as it is.
+// Is this an operable switch whose toggle makes no branch live or dead?
+fn is_idle(switch: Switch, decides: bool) -> bool
+    ensures { λ r. ⌜ r ≡ (switch .«can_operate» && not decides) ⌝ }
+{
+    switch.can_operate && !decides
+}
+
+// A round from a radial state. Only a toggle that makes no branch live or dead leaves it radial, and the loss as it is.
 fn best_from_radial(network: PowerNetwork, search: TabuSearch) -> Candidate
     requires { ⌜ (checkRecords (recordsOf network) ≡ accepted tt) × HeldList (search .barred) ⌝ }
     ensures { λ r. ⌜ ((x : Tabu) → Stands network search x → search .radial ≡ true → r ≡ candidateOf (search .configuration) (bestMove (recordsOf network) x)) ⌝ }
 {
-    let count = wide16(network.switch_count);
     let configuration = search.configuration;
+    let counts = open_counts(network, configuration);
+    let count = wide16(network.switch_count);
     let mut best = no_candidate(configuration);
     let mut i = 0usize;
     while i < count {
         let switch = network.switches[i];
         let on = wide16(switch.branch_idx);
-        if is_unserved(switch, network.branches[on].status) {
+        let byte = configuration.switches[i];
+        let decides = decides_branch(network.branches[on].status, counts[on], byte);
+        if is_idle(switch, decides) {
             best = see_toggle(search, best, i, switch.id, search.loss);
         }
         i += 1;
@@ -169,14 +181,14 @@ fn best_from_radial(network: PowerNetwork, search: TabuSearch) -> Candidate
     best
 }
 
-// Is this an operable switch on a branch in service?
-fn is_served(switch: Switch, in_service: bool) -> bool
-    ensures { λ r. ⌜ r ≡ (switch .«can_operate» && «in_service») ⌝ }
+// Is this an operable switch whose toggle makes its branch live or dead?
+fn is_deciding(switch: Switch, decides: bool) -> bool
+    ensures { λ r. ⌜ r ≡ (switch .«can_operate» && decides) ⌝ }
 {
-    switch.can_operate && in_service
+    switch.can_operate && decides
 }
 
-// The live branches after the toggle of a switch on a branch in service.
+// The live branches after the toggle of a switch that decides whether its branch is live.
 fn toggled_live(
     live: [bool; PowerNetwork::MAX_BRANCHES],
     on: usize,
@@ -190,7 +202,7 @@ fn toggled_live(
     toggled
 }
 
-// A round from a state that is not radial. Only a switch on a branch in service can make it so.
+// A round from a state that is not radial. Only a toggle that makes a branch live or dead can make it so.
 fn best_from_other(
     network: PowerNetwork,
     graph: Graph,
@@ -202,6 +214,7 @@ fn best_from_other(
 {
     let configuration = search.configuration;
     let live = live_branches(network, configuration);
+    let counts = open_counts(network, configuration);
     let branches = network.branches;
     let base_mva = network.base_mva;
     let count = wide16(network.switch_count);
@@ -210,8 +223,10 @@ fn best_from_other(
     while i < count {
         let switch = network.switches[i];
         let on = wide16(switch.branch_idx);
-        if is_served(switch, network.branches[on].status) {
-            let toggled = toggled_live(live, on, configuration.switches[i]);
+        let byte = configuration.switches[i];
+        let decides = decides_branch(network.branches[on].status, counts[on], byte);
+        if is_deciding(switch, decides) {
+            let toggled = toggled_live(live, on, byte);
             if is_radial(graph, toggled) {
                 let loss = live_loss(graph, loads, branches, base_mva, toggled);
                 best = see_toggle(search, best, i, switch.id, loss);

@@ -1,6 +1,7 @@
-// What the letter of a case does to the records once they are read: A (65) to P (80) give them a fault (O, an eleventh tie, with method 02 or a supply only), Q (81) and R (82) put
-// records behind the counts that would be refused if they were listed, R with fewer listed than were read, S (83) lists more of each kind, T (84) gives the first of
-// each kind values from the ends of their ranges. U (85) makes 3 the number of the supply, V (86) says that there is one, W (87) that there is none.
+// What the letter of a case does to the records once they are read: A (65) to P (80) give them a fault (O, an eleventh tie, with method 02 or a supply only), but for M (77), a second
+// switch on a branch; X (88) is a third. Q (81) and R (82) put records behind the counts that would be refused if they were listed, R with fewer listed than were read, S (83) lists
+// more of each kind, T (84) gives the first of each kind values from the ends of their ranges. U (85) makes 3 the number of the supply, V (86) says that there is one, W (87) that
+// there is none.
 use network::branch::Branch;
 use network::bus::Bus;
 use network::bus::Power;
@@ -33,6 +34,7 @@ pub(crate) fn changed(mut network: PowerNetwork, change: u8) -> PowerNetwork {
         85 => network.supply = 3,
         86 => network.has_supply = true,
         87 => network.has_supply = false,
+        88 => return three_on_a_branch(network),
         _ => return network,
     }
     network
@@ -64,6 +66,14 @@ fn switch(id: u16, branch_idx: u16) -> Switch {
         normally_open: true,
         can_operate: true,
     }
+}
+
+// The triangle's first switch is on branch 1; the second joins it there, and a third is listed.
+fn three_on_a_branch(mut network: PowerNetwork) -> PowerNetwork {
+    network.switches[1] = switch(11, 1);
+    network.switches[2] = switch(12, 1);
+    network.switch_count = 3;
+    network
 }
 
 // In the third bus and in the first branch.

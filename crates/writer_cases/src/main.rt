@@ -139,10 +139,10 @@ fn print_cases(input: &[u8]) {
 }
 
 // Room for all cases.
-fn buffer() -> [u8; 212992]
-    ensures { λ r. ⌜ 212992 ≡ length r ⌝ }
+fn buffer() -> [u8; 278528]
+    ensures { λ r. ⌜ 278528 ≡ length r ⌝ }
 {
-    [0; 212992]
+    [0; 278528]
 }
 
 fn main() {

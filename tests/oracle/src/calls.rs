@@ -2,17 +2,17 @@
 //! operations and plans between any two states, plans cut off, the text of the records. A question is a case of the program `call_cases`
 //! (crates/call_cases/src/calls.rt), its answer what that program is to print.
 
-use crate::cases::{Case, Cases};
+use crate::cases::{Case, Cases, LONG_PAIRS, LOSSES_OF_TWO, STATES_OF_TWO, TEXTS_OF_TWO};
 use crate::compare::Right;
 use crate::driver::Original;
 use crate::feeder::Feeder;
 use crate::random::Random;
 use crate::reckoning::form::{self, Form};
-use crate::reckoning::plan::{self, plan, well_formed};
+use crate::reckoning::plan::{self, plan, well_formed, Pair};
 use crate::reckoning::{judge, reader, resume, searches, Network, Refusal};
 use crate::states::{any_cut_plan, any_plan, any_state, more_closed, near, OPERATION_LENGTH};
 use crate::wrong_forms::Mistake;
-use crate::{damage, forms, shapes, supplied, supply};
+use crate::{damage, ends, forms, shapes, supplied, supply, wrong_ends};
 
 /// One question of a program under test.
 pub struct Question {
@@ -56,6 +56,8 @@ struct Answer {
     result: String,
     fields: String,
     written: Vec<String>,
+    /// The plan, where one was asked for.
+    pairs: Vec<Pair>,
 }
 
 const ANSWERED: &str = "answered";
@@ -64,7 +66,7 @@ const ANSWERED: &str = "answered";
 struct Printed {
     name: String,
     output: String,
-    result: String,
+    results: Vec<(String, usize)>,
 }
 
 /// What it is to print for the questions of one run.
@@ -91,7 +93,7 @@ impl Right for Run {
     }
 
     fn results(&self) -> Vec<(String, usize)> {
-        self.0.iter().map(|printed| (printed.result.clone(), 1)).collect()
+        self.0.iter().flat_map(|printed| printed.results.clone()).collect()
     }
 }
 
@@ -106,7 +108,8 @@ pub const FULL_QUEUE_QUESTIONS: &str = "a full queue: questions";
 pub fn full_queue_questions(count: usize, seed: u64) -> impl Iterator<Item = Vec<u8>> + Send {
     (0..count).map(move |number| {
         let random = &mut Random::new(seed, FULL_QUEUE_QUESTIONS, number);
-        let text = shapes::full_queue(random, number).text();
+        let feeder = shapes::full_queue(random, number);
+        let text = ends::mostly_two(random, feeder).text();
         let network = reader::read(&text).expect("shapes are acceptable");
         let present = if number % 4 == 3 { any_state(random, &network) } else { more_closed(random, &network) };
         let (name, call) = (format!("S{number}"), Call::State);
@@ -125,7 +128,8 @@ pub fn form_questions(count: usize, seed: u64) -> impl Iterator<Item = Vec<u8>> 
     });
     let drawn = (0..count).map(move |number| {
         let random = &mut Random::new(seed, FORM_QUESTIONS, number);
-        let text = shapes::loops_and_islands(random, number).text();
+        let feeder = shapes::loops_and_islands(random, number);
+        let text = ends::mostly_two(random, feeder).text();
         let network = reader::read(&text).expect("shapes are acceptable");
         asked(random, CALLS[(number % 4 == 3) as usize], number, text, &network)
     });
@@ -200,6 +204,7 @@ fn on_any_feeder(random: &mut Random, listed: Listed, number: usize) -> Vec<u8> 
         call if call != Call::Best && random.percent(2) => full_size(random, call),
         _ => (shapes::SHAPES[random.below(shapes::SHAPES.len())].make)(random),
     };
+    let feeder = ends::mostly_two(random, feeder);
     let text = if random.percent(3) { damage::damaged(random) } else { feeder.text() };
     let network = reader::read(&text).or(reader::read(&feeder.text())).expect("shapes are acceptable");
     asked(random, listed, number, text, &network)
@@ -226,10 +231,14 @@ fn on_any_feeder_with_line(random: &mut Random, listed: Listed, number: usize) -
     asked(random, listed, number, text, &network)
 }
 
-/// Long plans move switches that are locked in the others.
+/// Long plans move switches that are locked in the others. Half of the feeders have 256 branches with two switches each.
 fn full_size(random: &mut Random, call: Call) -> Feeder {
     let operable = if call == Call::CutPlan && random.percent(75) { usize::MAX } else { 10 };
-    shapes::full_size(random, 0, operable, 100)
+    if random.percent(50) {
+        shapes::full_size_of_two(random, 0, operable, 100)
+    } else {
+        shapes::full_size(random, 0, operable, 100)
+    }
 }
 
 fn asked(random: &mut Random, listed: Listed, number: usize, text: Vec<u8>, network: &Network) -> Vec<u8> {
@@ -285,13 +294,41 @@ impl Question {
 
     /// With a mistake about the forms of states, or with none.
     fn printed_with(&self, mistake: Option<Mistake>) -> Printed {
-        let answer = self.network().and_then(|network| self.answer(&network, mistake));
+        let network = self.network();
+        let answer = network.as_ref().map_err(|refusal| *refusal).and_then(|network| self.answer(network, mistake));
+        let two = network.is_ok_and(|network| network.has_two_on_branch());
+        let mut results = if two { two_results(self, answer.as_ref().ok()) } else { Vec::new() };
         let (result, fields, written) = match answer {
             Ok(answer) => (answer.result, answer.fields, answer.written),
             Err(Refusal { number, place }) => (format!("refused {number}"), self.refusal(number, place), Vec::new()),
         };
+        results.push((format!("{}: {result}", self.listed().2), 1));
         let (name, output) = (self.name.clone(), self.output(&fields, &written));
-        Printed { name, output, result: format!("{}: {result}", self.listed().2) }
+        Printed { name, output, results }
+    }
+
+    /// Whether it asks for a plan, whole or cut off.
+    pub fn asks_for_plan(&self) -> bool {
+        matches!(self.call, Call::Plan | Call::CutPlan)
+    }
+
+    /// What is printed for a plan, whole or cut off, with a mistake about two switches on a branch.
+    pub fn output_of_plan(&self, mistake: wrong_ends::Mistake) -> String {
+        let answer = self.network().and_then(|network| {
+            let pairs = mistake.plan(&network, &self.present, &self.wanted)?;
+            let (count, written) = match self.call {
+                Call::Plan => (pairs.len(), vec![mistake.lines(&network, &pairs)]),
+                _ => {
+                    let lists = mistake.resume(&pairs, self.count)?;
+                    (lists[0].len(), lists.iter().map(|list| resume::lines(&network, list)).collect())
+                }
+            };
+            self.fitting(counted(count, written))
+        });
+        match answer {
+            Ok(answer) => self.output(&answer.fields, &answer.written),
+            Err(Refusal { number, place }) => self.output(&self.refusal(number, place), &[]),
+        }
     }
 
     pub fn output_with(&self, mistake: Mistake) -> String {
@@ -326,9 +363,30 @@ impl Question {
             Call::Text => text_answer(changed(&self.text, self.change)),
             Call::CutPlan => cut_plan_answer(network, self)?,
         };
+        self.fitting(answer)
+    }
+
+    /// "13, lent slice shorter than the answer."
+    fn fitting(&self, answer: Answer) -> Result<Answer, Refusal> {
         refused_unless(answer.written.iter().zip(&self.rooms).all(|(written, &room)| written.len() <= room), 13, 0)?;
         Ok(answer)
     }
+}
+
+/// What is counted of a question on a feeder with two switches on a branch: its states, and an answered plan by its longest pair.
+fn two_results(question: &Question, answer: Option<&Answer>) -> Vec<(String, usize)> {
+    let states = [&question.present, &question.wanted].into_iter().filter(|state| !state.is_empty()).count();
+    let longest = answer.and_then(|answer| answer.pairs.iter().map(Pair::moves).max()).unwrap_or(0);
+    let compared = question.call == Call::State && answer.is_some();
+    let counts = [
+        (TEXTS_OF_TWO, 1),
+        (STATES_OF_TWO, states),
+        (LOSSES_OF_TWO, compared as usize),
+        ("two switches on a branch: plans with pairs of two moves alone", (longest == 2) as usize),
+        (LONG_PAIRS, (longest > 2) as usize),
+        ("two switches on a branch: plans with a pair of four moves", (longest > 3) as usize),
+    ];
+    counts.into_iter().filter(|(_, count)| *count > 0).map(|(name, count)| (name.to_string(), count)).collect()
 }
 
 fn refused_unless(holds: bool, number: u8, place: u16) -> Result<(), Refusal> {
@@ -356,7 +414,8 @@ fn state_answer(network: &Network, state: &[u8], mistake: Option<Mistake>) -> Re
         _ => (format!("{:016x}", supply::loss(network, state).to_bits()), ""),
     };
     let fields = format!(" {:02x} {:08x} {loss}", radial as u8, form::number(fields));
-    Ok(Answer { result: format!("{ANSWERED}, {}{refused}", form.name()), fields, written: Vec::new() })
+    let result = format!("{ANSWERED}, {}{refused}", form.name());
+    Ok(Answer { result, fields, written: Vec::new(), pairs: Vec::new() })
 }
 
 /// The fields of the 81 line, then those of the 84 line.
@@ -369,6 +428,7 @@ fn best_answer(network: &Network, mistake: Option<Mistake>) -> Answer {
         result: format!("{ANSWERED}, {}", form.name()),
         fields: fields.chain([format!(" {islands:04x} {branch:04x}")]).collect(),
         written: vec![digits(&answer.best)],
+        pairs: Vec::new(),
     }
 }
 
@@ -382,21 +442,22 @@ fn operations_answer(network: &Network, present: &[u8], wanted: &[u8]) -> Result
 fn plan_answer(network: &Network, present: &[u8], wanted: &[u8]) -> Result<Answer, Refusal> {
     let pairs = plan(network, present, wanted, usize::MAX)?;
     assert_eq!(judge::fault(network, present, wanted, &pairs), None, "the judge refuses the reckoning's plan");
-    Ok(counted(pairs.len(), vec![plan::lines(network, &pairs)]))
+    Ok(Answer { pairs: pairs.clone(), ..counted(pairs.len(), vec![plan::lines(network, &pairs)]) })
 }
 
 /// The plan is judged at every count, also where this one is refused.
 fn cut_plan_answer(network: &Network, question: &Question) -> Result<Answer, Refusal> {
     let Question { present, wanted, count, .. } = question;
-    let moves = resume::moves(&plan(network, present, wanted, usize::MAX)?);
+    let pairs = plan(network, present, wanted, usize::MAX)?;
+    let moves = resume::moves(&pairs);
     let fault = judge::fault_of_moves(network, present, wanted, &moves);
     assert_eq!(fault, None, "the judge refuses the moves of the reckoning's plan");
     let lists = resume::resume(&moves, *count)?;
-    Ok(counted(lists[0].len(), lists.iter().map(|list| resume::lines(network, list)).collect()))
+    Ok(Answer { pairs, ..counted(lists[0].len(), lists.iter().map(|list| resume::lines(network, list)).collect()) })
 }
 
 fn counted(count: usize, written: Vec<String>) -> Answer {
-    Answer { result: ANSWERED.to_string(), fields: format!(" {count:04x}"), written }
+    Answer { result: ANSWERED.to_string(), fields: format!(" {count:04x}"), written, pairs: Vec::new() }
 }
 
 /// An accepted text is the only one of its records.

@@ -2,7 +2,7 @@
 
 use crate::feeder::Feeder;
 use crate::random::Random;
-use crate::{damage, forms, limits, shapes, short};
+use crate::{damage, ends, forms, limits, shapes, short};
 
 pub struct Case {
     pub kind: &'static str,
@@ -26,6 +26,34 @@ pub struct Size {
     pub cut_plans: usize,
     /// The same with the 05 line.
     pub with_line: WithLine,
+    pub least: Least,
+}
+
+/// What is counted of feeders with two switches on a branch: answered texts; states of questions, those whose radiality and loss are asked for; plans with a
+/// pair that moves three or four.
+pub const TEXTS_OF_TWO: &str = "two switches on a branch";
+pub const STATES_OF_TWO: &str = "two switches on a branch: states";
+pub const LOSSES_OF_TWO: &str = "two switches on a branch: states with radiality, form and loss";
+pub const LONG_PAIRS: &str = "two switches on a branch: plans with a pair of three or four moves";
+
+/// How much of a set is to have two switches on a branch: answered texts; states of questions, those with radiality and loss among them; plans with
+/// a pair that moves three or four.
+#[derive(Clone, Copy)]
+pub struct Least {
+    texts: usize,
+    states: usize,
+    losses: usize,
+    long_pairs: usize,
+}
+
+impl Least {
+    pub fn texts(self) -> Vec<(&'static str, usize)> {
+        vec![(TEXTS_OF_TWO, self.texts)]
+    }
+
+    pub fn questions(self) -> Vec<(&'static str, usize)> {
+        vec![(STATES_OF_TWO, self.states), (LOSSES_OF_TWO, self.losses), (LONG_PAIRS, self.long_pairs)]
+    }
 }
 
 #[derive(Clone, Copy)]
@@ -60,6 +88,7 @@ impl Size {
                     questions: 2_000,
                     cut_plans: 330,
                 },
+                least: Least { texts: 10_000, states: 20_000, losses: 3_500, long_pairs: 1_000 },
             }),
             "large" => Some(Size {
                 each_shape: 10_000,
@@ -80,6 +109,7 @@ impl Size {
                     questions: 50_000,
                     cut_plans: 8_300,
                 },
+                least: Least { texts: 200_000, states: 200_000, losses: 35_000, long_pairs: 10_000 },
             }),
             _ => None,
         }
@@ -92,17 +122,21 @@ pub fn cases(size: Size, seed: u64) -> Cases {
         .chain(named("strings of up to 3 bytes", short::strings()))
         .chain(named("one byte away from the triangle", short::one_byte_away()))
         .chain(named("all feeders of up to 2 buses and 2 branches", short::two_buses().map(|f| f.text())))
+        .chain(named(TWO_SWITCHES, short::two_switches().map(|f| f.text())))
         .chain(named("triangles with small loads", short::triangle_values().map(|f| f.text())));
     let seeded = three_buses(size.three_buses, seed)
         .chain(every_shape(size.each_shape, seed))
         .chain(seeded("damaged copies", size.damaged, seed, damage::damaged))
         .chain(full_size(size.full, seed))
+        .chain(full_size_of_two(size.full, seed))
         .chain(full_size_not_radial(seed))
         .chain(full_queue(size.full_queue, seed))
         .chain(named("loops and islands, named", forms::named().into_iter().map(|(_, feeder, _)| feeder.text())))
         .chain(loops_and_islands(size.loops_and_islands, seed));
     Box::new(fixed.chain(seeded))
 }
+
+pub const TWO_SWITCHES: &str = "two switches on a branch, up to 2 buses and 2 branches";
 
 pub fn named(kind: &'static str, texts: impl Iterator<Item = Vec<u8>> + Send) -> impl Iterator<Item = Case> + Send {
     texts.map(move |text| Case { kind, text })
@@ -117,13 +151,14 @@ pub fn seeded(
     (0..count).map(move |number| Case { kind, text: make(&mut Random::new(seed, kind, number)) })
 }
 
-/// Feeders of three buses and up to three branches, drawn from the whole list of them.
+/// Feeders of three buses and up to three branches, drawn from the whole lists of them, one in three with one switch at most on a branch.
 fn three_buses(count: usize, seed: u64) -> impl Iterator<Item = Case> + Send {
     const KIND: &str = "feeders of 3 buses";
     (0..count).map(move |number| {
         let mut random = Random::new(seed, KIND, number);
         let branches = random.pick(&[2, 3, 3, 3]);
-        let feeder = short::numbered(3, branches, random.below(short::how_many(3, branches)));
+        let switches = if number % 3 == 0 { short::AT_MOST_ONE } else { short::AT_MOST_TWO };
+        let feeder = short::numbered(3, branches, switches, random.below(short::how_many(3, branches, switches)));
         Case { kind: KIND, text: feeder.text() }
     })
 }
@@ -131,13 +166,15 @@ fn three_buses(count: usize, seed: u64) -> impl Iterator<Item = Case> + Send {
 fn every_shape(count: usize, seed: u64) -> impl Iterator<Item = Case> + Send {
     shapes::SHAPES.iter().flat_map(move |shape| {
         (0..count).map(move |number| {
-            let feeder: Feeder = (shape.make)(&mut Random::new(seed, shape.name, number));
-            Case { kind: shape.name, text: feeder.text() }
+            let random = &mut Random::new(seed, shape.name, number);
+            let feeder = (shape.make)(random);
+            Case { kind: shape.name, text: ends::mostly_two(random, feeder).text() }
         })
     })
 }
 
 const FULL_SIZE: &str = "256 buses, 512 branches, 512 switches";
+const FULL_SIZE_OF_TWO: &str = "256 buses, 384 branches, 512 switches";
 
 /// Radial bases: each method with ten operable ties; then exchanges with more, which take the original seconds.
 fn full_size(count: usize, seed: u64) -> impl Iterator<Item = Case> + Send {
@@ -159,6 +196,17 @@ fn full_size(count: usize, seed: u64) -> impl Iterator<Item = Case> + Send {
     })
 }
 
+/// The same with two switches on each of some 256 branches.
+fn full_size_of_two(count: usize, seed: u64) -> impl Iterator<Item = Case> + Send {
+    const SEARCHES: [(u8, usize, u16); 6] = [(0, 10, 3), (1, 10, 2), (2, 10, 1), (0, 40, 2), (0, 257, 1), (1, 257, 1)];
+    (0..count).map(move |number| {
+        let (method, operable, iterations) = SEARCHES[number % SEARCHES.len()];
+        let random = &mut Random::new(seed, "full size, two switches", number);
+        let feeder = shapes::full_size_of_two(random, method, operable, iterations);
+        Case { kind: FULL_SIZE_OF_TWO, text: feeder.text() }
+    })
+}
+
 /// Bases from which tabu and the exhaustive search move switches: a radial one is their answer.
 fn full_size_not_radial(seed: u64) -> impl Iterator<Item = Case> + Send {
     const MAKE: [fn(&mut Random) -> Feeder; 2] =
@@ -173,8 +221,9 @@ pub const FULL_QUEUE: &str = "a full queue";
 
 fn full_queue(count: usize, seed: u64) -> impl Iterator<Item = Case> + Send {
     (0..count).map(move |number| {
-        let feeder = shapes::full_queue(&mut Random::new(seed, FULL_QUEUE, number), number);
-        Case { kind: FULL_QUEUE, text: feeder.text() }
+        let random = &mut Random::new(seed, FULL_QUEUE, number);
+        let feeder = shapes::full_queue(random, number);
+        Case { kind: FULL_QUEUE, text: ends::mostly_two(random, feeder).text() }
     })
 }
 
@@ -182,7 +231,8 @@ pub const LOOPS_AND_ISLANDS: &str = "loops and islands, 1 to 256 buses";
 
 fn loops_and_islands(count: usize, seed: u64) -> impl Iterator<Item = Case> + Send {
     (0..count).map(move |number| {
-        let feeder = shapes::loops_and_islands(&mut Random::new(seed, LOOPS_AND_ISLANDS, number), number);
-        Case { kind: LOOPS_AND_ISLANDS, text: feeder.text() }
+        let random = &mut Random::new(seed, LOOPS_AND_ISLANDS, number);
+        let feeder = shapes::loops_and_islands(random, number);
+        Case { kind: LOOPS_AND_ISLANDS, text: ends::mostly_two(random, feeder).text() }
     })
 }

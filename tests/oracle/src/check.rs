@@ -1,7 +1,9 @@
-//! Document 01's worked examples on the original, those of document 02's Points 2, 4 and 5, and document 01's steps against the original.
+//! Document 01's worked examples on the original, those of document 02's Points 2, 4, 5 and 6, and document 01's steps against the original.
 
 use crate::cases::{Case, Cases};
+use crate::compare::Tally;
 use crate::driver::Original;
+use crate::ends::triangle_of_four;
 use crate::expected::{expected, Expected};
 use crate::feeder::{triangle, Feeder, OPERABLE, TIE};
 use crate::forms::{self, joined};
@@ -12,9 +14,9 @@ use crate::reckoning::{judge, plan, reader, resume, Network, Refusal, CLOSED, OP
 use crate::shapes::SHAPES;
 use crate::supply;
 
-/// Document 01's four lines, and document 02's "840000FFFF for the triangle".
+/// Document 01's lines, document 02's "840000FFFF for the triangle", and the frame 86 in place of 83.
 pub const TRIANGLE: &str =
-    "810140100000000000003FF00000000000004052C00000000000000201\n840000FFFF\n82000A00\n82000B01\n83000B000A\n";
+    "810140100000000000003FF00000000000004052C00000000000000201\n840000FFFF\n82000A00\n82000B01\n8601000B01000A\n";
 
 /// The triangle's five lines, the section Triangle's marked cases, the refusal table's examples, the 05 line's, and the forms of states.
 pub fn worked_examples() -> bool {
@@ -24,7 +26,7 @@ pub fn worked_examples() -> bool {
         failed += !holds as usize;
     };
     check(
-        "triangle prints document 01's four lines and the 84 line",
+        "triangle prints document 01's lines, the 84 line and the 86 line",
         expected(&triangle().text()).output() == TRIANGLE,
     );
     for (name, feeder, state, form, loss) in states() {
@@ -49,7 +51,8 @@ pub fn worked_examples() -> bool {
     for (name, found, line) in plan_refusals() {
         check(name, found.is_err_and(|refusal| refusal.line() == line));
     }
-    for (name, holds) in cut_plans() {
+    check("a set without two switches on a branch is too small", Tally::default().too_few(&[("none", 1)]).len() == 1);
+    for (name, holds) in cut_plans().into_iter().chain(two_on_a_branch()) {
         check(name, holds);
     }
     failed == 0
@@ -144,7 +147,10 @@ fn refusals() -> Vec<(&'static str, Vec<u8>, &'static str)> {
         ("5: pd 7FF0000000000000", changed(|f| f.buses[0].pd = f64::INFINITY), "8F050002\n"),
         ("6: end 0009 of buses 1 to 3", changed(|f| f.branches[1].to = 9), "8F060006\n"),
         ("7: bus 0001 again", changed(|f| f.buses[1].id = 1), "8F070003\n"),
-        ("8: two switches on 0000", changed(|f| f.switches.iter_mut().for_each(|s| s.branch = 0)), "8F080009\n"),
+        ("8: three switches on 0000", three_on_branch(14), "8F08000A\n"),
+        ("7 before 8: a third with an id twice", three_on_branch(10), "8F07000A\n"),
+        ("8 before 9: the eleventh tie as a third", eleventh_on(0), "8F080013\n"),
+        ("9: the eleventh tie", eleventh_on(5), "8F090013\n"),
         ("9: eleven ties", ties(11), "8F090018\n"),
         ("ten ties pass", ties(10), none_lost),
     ]
@@ -153,6 +159,24 @@ fn refusals() -> Vec<(&'static str, Vec<u8>, &'static str)> {
 fn buses(count: u16) -> Vec<u8> {
     let mut feeder = Feeder { base_mva: 1.0, method: 0, iterations: 0, ..Feeder::default() };
     (0..count).for_each(|id| feeder.bus(id, 0.0));
+    feeder.text()
+}
+
+/// The triangle with all its switches and one more, of that id, on branch 0.
+fn three_on_branch(id: u16) -> Vec<u8> {
+    let mut feeder = triangle();
+    feeder.switch(id, 0, OPERABLE);
+    feeder.switches.iter_mut().for_each(|s| s.branch = 0);
+    feeder.text()
+}
+
+/// One bus with six branches to itself, ten ties two by two, and an eleventh on that branch, exhaustive.
+fn eleventh_on(branch: usize) -> Vec<u8> {
+    let mut feeder = Feeder { base_mva: 1.0, method: 2, iterations: 0, ..Feeder::default() };
+    feeder.bus(1, 0.0);
+    (0..6).for_each(|_| feeder.branch(1, 1, 0.0));
+    (0..10).for_each(|i| feeder.switch(i, usize::from(i) / 2, TIE));
+    feeder.switch(10, branch, TIE);
     feeder.text()
 }
 
@@ -175,12 +199,12 @@ fn plan_refusals() -> Vec<PlanCase> {
     let locked = network(&with_lock);
     let (base, exchanged, closed, bad) = ([0, 1], [1, 0], [0, 0], [2, 0]);
     vec![
-        ("10: present state 02", plan::plan(&open, &bad, &base, 9), "8F0A0000\n"),
-        ("10: wanted state 02, present not radial", plan::plan(&open, &closed, &bad, 9), "8F0A0001\n"),
-        ("11: present, triangle all closed", plan::plan(&open, &closed, &base, 9), "8F0B0000\n"),
+        ("10: present state 02", plan::plan(&open, &bad, &base, 99), "8F0A0000\n"),
+        ("10: wanted state 02, present not radial", plan::plan(&open, &closed, &bad, 99), "8F0A0001\n"),
+        ("11: present, triangle all closed", plan::plan(&open, &closed, &base, 99), "8F0B0000\n"),
         ("11: wanted, triangle all closed", plan::plan(&locked, &base, &closed, 0), "8F0B0001\n"),
         ("12: switch 10 locked", plan::plan(&locked, &base, &exchanged, 0), "8F0C000A\n"),
-        ("13: no room for a pair", plan::plan(&open, &base, &exchanged, 0), "8F0D0000\n"),
+        ("13: no room for a pair", plan::plan(&open, &base, &exchanged, 14), "8F0D0000\n"),
     ]
 }
 
@@ -188,7 +212,7 @@ fn plan_refusals() -> Vec<PlanCase> {
 fn cut_plans() -> Vec<(&'static str, bool)> {
     let network = network(&triangle());
     let (base, exchanged) = ([CLOSED, OPEN], [OPEN, CLOSED]);
-    let moves = resume::moves(&plan::plan(&network, &base, &exchanged, 1).expect("the triangle has a plan"));
+    let moves = resume::moves(&plan::plan(&network, &base, &exchanged, 15).expect("the triangle has a plan"));
     let lists = |count| {
         let lines = |lists: [Vec<Move>; 2]| lists.map(|list| resume::lines(&network, &list).replace('\n', " "));
         resume::resume(&moves, count).map(lines)
@@ -210,12 +234,57 @@ fn cut_plans() -> Vec<(&'static str, bool)> {
         (
             "the judge: both closings first",
             two_pairs([0, 2, 1, 3])
-                .is_some_and(|fault| fault == "2 moves done: the live branches are not as many as the buses"),
+                .is_some_and(|fault| fault == "1 moves done: the live branches are not one fewer than the buses"),
         ),
         (
             "the judge: openings exchanged",
             two_pairs([0, 3, 2, 1]).is_some_and(|fault| fault == "2 moves done: a bus is cut off"),
         ),
+    ]
+}
+
+/// Document 02's Point 6: the triangle with two ties, 12 and 11, on branch 2, and on branch 1 section 10 and the locked section 13.
+fn two_on_a_branch() -> Vec<(&'static str, bool)> {
+    let with = |method| Feeder { method, ..triangle_of_four() };
+    let network = network(&with(0));
+    let (base, exchanged, both) = ([1, 0, 1, 0], [0, 1, 0, 0], [0, 1, 0, 1]);
+    let plan = |wanted: &[u8], room| plan::plan(&network, &base, wanted, room);
+    let pairs = plan(&exchanged, 19).unwrap_or_default();
+    let moves = resume::moves(&pairs);
+    let listed = |moves: &[Move]| resume::lines(&network, moves).replace('\n', " ");
+    let back = resume::resume(&moves, 3).map(|[_, back]| listed(&back));
+    let form_after = |count: usize| {
+        let mut state = base;
+        moves[..count].iter().for_each(|one| state[one.switch] = one.byte);
+        form::form(&network, &network.live(&state))
+    };
+    let looped = Form::Loop { branch: 2, islands: 0 };
+    let refused = |found: Result<Vec<plan::Pair>, Refusal>, line| found.is_err_and(|refusal| refusal.line() == line);
+    let stays = |method, end: &str| {
+        let answer = format!("8101401000000000000040100000000000000000000000000000{end}\n840000FFFF\n");
+        expected(&with(method).text()).output() == answer
+    };
+    let mut fifth = with(0);
+    fifth.switch(14, 2, OPERABLE);
+    vec![
+        (
+            "two ties of one branch are closed, one of two sections opened",
+            plan::lines(&network, &pairs) == "8602000C000B01000A\n",
+        ),
+        ("its three moves", listed(&moves) == "82000C01 82000B01 82000A00 "),
+        ("its moves back", back == Ok("82000A01 82000B00 82000C00 ".to_string())),
+        (
+            "a tree but at count 2, there a loop",
+            [0, 1, 2, 3].map(form_after) == [Form::Tree, Form::Tree, looped, Form::Tree],
+        ),
+        ("the judge passes its moves", judge::fault_of_moves(&network, &base, &exchanged, &moves).is_none()),
+        ("the judge passes its pair", judge::fault(&network, &base, &exchanged, &pairs).is_none()),
+        ("13: a byte short", refused(plan(&exchanged, 18), "8F0D0000\n")),
+        ("12: switch 13 locked and to be moved", refused(plan(&both, 0), "8F0C000D\n")),
+        ("exchange: the base, 1 round, converged", stays(0, "000101")),
+        ("tabu: the base, 100", stays(1, "006401")),
+        ("exhaustive: the base, count 3", stays(2, "000301")),
+        ("8: a fifth switch, the third on branch 2", expected(&fifth.text()).output() == "8F08000C\n"),
     ]
 }
 
@@ -228,14 +297,14 @@ fn two_pairs(order: [usize; 4]) -> Option<String> {
         feeder.switch(10 + k as u16, k, OPERABLE);
     }
     let (network, present, wanted) = (network(&feeder), [0, 0, 1, 1], [1, 1, 0, 0]);
-    let moves = resume::moves(&plan::plan(&network, &present, &wanted, 2).expect("the row has a plan"));
+    let moves = resume::moves(&plan::plan(&network, &present, &wanted, 30).expect("the row has a plan"));
     judge::fault_of_moves(&network, &present, &wanted, &order.map(|at| moves[at]))
 }
 
 /// The reckoned steps, loss, radiality and forms (each two ways) against the original on every accepted text of a set; the same steps with the
 /// original's loss, which give the answers with a supply; the reader's verdict against what it must be whatever the text.
 pub fn agree(cases: Cases) -> bool {
-    let (mut agreed, mut supplied, mut refused) = (0, 0, 0);
+    let (mut agreed, mut supplied, mut two, mut refused) = (0, 0, 0, 0);
     for case in cases {
         let right = expected(&case.text);
         if !verdict_holds(&case, &right) {
@@ -262,9 +331,10 @@ pub fn agree(cases: Cases) -> bool {
         }
         agreed += 1;
         supplied += network.supply.is_some() as usize;
+        two += network.has_two_on_branch() as usize;
     }
     println!(
-        "{refused} refused texts; {agreed} accepted texts, {supplied} with a supply: document 01's steps and the original agree"
+        "{refused} refused texts; {agreed} accepted texts, {supplied} with a supply, {two} with two switches on a branch: document 01's steps and the original agree"
     );
     true
 }

@@ -1,12 +1,13 @@
 //! Runs a program under test on every case of a set, a text of `feeder` or some questions of `call_cases`, and holds its
 //! output against the expected one.
 
-use crate::cases::{Case, Cases};
+use crate::cases::{Case, Cases, TEXTS_OF_TWO};
 use crate::expected::{Answered, Expected};
 use crate::program::Running;
 use crate::reckoning::form::{parallel, Form};
+use crate::reckoning::{judge, Network};
 use crate::supplied;
-use std::collections::BTreeMap;
+use std::collections::{BTreeMap, BTreeSet};
 use std::sync::atomic::{AtomicBool, Ordering};
 use std::sync::Mutex;
 use std::time::Duration;
@@ -54,6 +55,13 @@ impl Tally {
         self.kinds.iter().map(|(_, count)| count).sum()
     }
 
+    /// What was counted too seldom, against how often it is to be at least.
+    pub fn too_few(&self, least: &[(&'static str, usize)]) -> Vec<String> {
+        let counted = |name: &str| self.results.get(name).copied().unwrap_or(0);
+        let missing = least.iter().filter(|(name, least)| counted(name) < *least);
+        missing.map(|(name, least)| format!("{name}: {}, at least {least} are wanted", counted(name))).collect()
+    }
+
     /// How many are of the kinds with the 05 line.
     fn with_line(&self) -> usize {
         self.kinds.iter().filter(|(kind, _)| kind.starts_with(supplied::LINE)).map(|(_, count)| count).sum()
@@ -85,6 +93,9 @@ fn answer_results(answered: &Answered) -> Vec<(String, usize)> {
     let method = ["exchange", "tabu", "exhaustive"][usize::from(answered.network.method)];
     let base = if answered.pairs.is_some() { "radial base" } else { "base not radial" };
     let mut results = vec![(format!("answered, {method}, {base}"), 1)];
+    if answered.network.has_two_on_branch() {
+        results.extend(two_results(&answered.network, method).into_iter().map(|name| (name, 1)));
+    }
     results.extend(form_results(answered).into_iter().map(|name| (format!("best state: {name}"), 1)));
     if answered.best != answered.network.base() {
         results.push((format!("answered, {method}, {base}: switches moved"), 1));
@@ -95,6 +106,24 @@ fn answer_results(answered: &Answered) -> Vec<(String, usize)> {
         results.extend([(several.to_string(), 1), ("pairs judged".to_string(), pairs)]);
     }
     results
+}
+
+/// What is counted of a feeder with two switches on a branch: what its base is, and which two it has.
+fn two_results(network: &Network, method: &str) -> Vec<String> {
+    let base = judge::form(network, &network.live(&network.base())).name();
+    let mut kinds = BTreeSet::new();
+    let all = || network.switches.iter().enumerate();
+    for (at, first) in all() {
+        let Some((other, second)) = all().skip(at + 1).find(|(_, s)| s.branch == first.branch) else { continue };
+        let ties = [first, second].iter().filter(|s| s.normally_open).count();
+        let locked = [first, second].iter().filter(|s| !s.can_operate).count();
+        kinds.insert(["two sections", "tie and section", "two ties"][ties]);
+        kinds.insert(["both operable", "one locked", "both locked"][locked]);
+        kinds.insert(if network.branches[first.branch].in_service { "in service" } else { "out of service" });
+        kinds.insert(if other > at + 1 { "others between them" } else { "side by side" });
+    }
+    let kinds = kinds.into_iter().map(|kind| format!("{TEXTS_OF_TWO}: {kind}"));
+    [TEXTS_OF_TWO.to_string(), format!("{TEXTS_OF_TWO}, {method}, base: {base}")].into_iter().chain(kinds).collect()
 }
 
 /// What the best state is; of a loop also which branch closes it.
@@ -115,11 +144,12 @@ fn form_results(answered: &Answered) -> Vec<&'static str> {
     results
 }
 
-/// What is compared, by its name, and what is expected of a case.
+/// What is compared, by its name, what is expected of a case, and how often some results are to be counted at least.
 pub struct Compared<R> {
     pub name: &'static str,
     pub cases: Cases,
     pub expected: fn(&[u8]) -> R,
+    pub least: Vec<(&'static str, usize)>,
 }
 
 struct Difference {
@@ -132,7 +162,7 @@ struct Difference {
 
 /// Whether all cases got their expected output; the counts and the first difference are printed.
 pub fn compare<R: Right>(compared: Compared<R>, program: &[String], workers: usize) -> bool {
-    let Compared { name, cases, expected } = compared;
+    let Compared { name, cases, expected, least } = compared;
     let queue = Mutex::new(cases.enumerate());
     let tally = Mutex::new(Tally::default());
     let first = Mutex::new(None);
@@ -153,7 +183,9 @@ pub fn compare<R: Right>(compared: Compared<R>, program: &[String], workers: usi
         None => {
             let with_line = tally.with_line();
             println!("{} {name} and {with_line} with the 05 line compared, no difference", tally.total() - with_line);
-            true
+            let too_few = tally.too_few(&least);
+            too_few.iter().for_each(|line| println!("TOO FEW  {line}"));
+            too_few.is_empty()
         }
         Some(difference) => {
             report(name, &difference);

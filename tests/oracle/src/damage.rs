@@ -2,16 +2,17 @@
 
 use crate::random::Random;
 use crate::shapes::SHAPES;
-use crate::supplied;
+use crate::{ends, supplied};
 
 type Damage = fn(&mut Random, &mut Vec<Vec<u8>>);
 
 /// Each works on the lines of a text, line feeds included.
 #[rustfmt::skip]
-const DAMAGES: [Damage; 22] = [
+const DAMAGES: [Damage; 23] = [
     other_byte, other_digit, lower_case, byte_removed, byte_put_in, line_dropped, line_doubled, lines_swapped,
     carriage_return, no_last_line_feed, line_made_long, surplus_line, count_changed, method_or_iterations, float_changed,
     id_repeated, field_copied, cut_short, line_feed_put_in, line_of_another_kind, branch_of_another_switch, more_ties,
+    switch_added,
 ];
 
 /// The shapes of small feeders stand first.
@@ -19,7 +20,8 @@ const GOOD: usize = 10;
 
 /// A good text with one to three damages. Some stay acceptable.
 pub fn damaged(random: &mut Random) -> Vec<u8> {
-    let mut lines = lines((SHAPES[random.below(GOOD)].make)(random).text());
+    let feeder = (SHAPES[random.below(GOOD)].make)(random);
+    let mut lines = lines(ends::mostly_two(random, feeder).text());
     damage(random, &mut lines);
     lines.concat()
 }
@@ -204,6 +206,18 @@ fn field_between(random: &mut Random, lines: &mut [Vec<u8>], from: usize, to: us
 fn branch_of_another_switch(random: &mut Random, lines: &mut Vec<Vec<u8>>) {
     let switches = lines.iter().position(|line| line.starts_with(b"04")).unwrap_or(0);
     field_between(random, &mut lines[switches..], 6, 6);
+}
+
+/// A copy of a switch line with another id, counted in the head: the second on its branch, or the third.
+fn switch_added(random: &mut Random, lines: &mut Vec<Vec<u8>>) {
+    let switches: Vec<usize> = (0..lines.len()).filter(|&at| lines[at].starts_with(b"04")).collect();
+    if switches.is_empty() {
+        return;
+    }
+    let mut line = lines[random.pick(&switches)].clone();
+    put(&mut line, 2, &format!("{:04X}", random.next() as u16));
+    lines.insert(random.pick(&switches) + random.below(2), line);
+    put(&mut lines[0], 10, &format!("{:04X}", switches.len() + 1));
 }
 
 /// Nearly every switch normally open, operable or not, with the exhaustive method.

@@ -1,5 +1,5 @@
 //! What `feeder` is to print: the original's 81 and 82 lines (with a supply, those of the steps with its loss), the reckoning's 84
-//! line between them and its 83 lines, or its one 8F line.
+//! line between them and its 86 lines, or its one 8F line.
 
 use crate::driver::Original;
 use crate::reckoning::form::{self, with_form, Form, ANSWER_LENGTH};
@@ -87,27 +87,32 @@ impl Answered {
         };
         if self.pairs.is_some() {
             let Some(printed) = self.printed_pairs(rest) else {
-                return Some("what follows the 82 lines is no list of 83 lines with listed ids".to_string());
+                return Some("what follows the 82 lines is no list of 86 lines with listed ids".to_string());
             };
             if let Some(fault) = judge::fault(&self.network, &self.network.base(), &self.best, &printed) {
                 return Some(format!("the judge of plans: {fault}"));
             }
         }
-        (rest != self.plan_lines().as_bytes()).then(|| "the 83 lines are not the reckoning's".to_string())
+        (rest != self.plan_lines().as_bytes()).then(|| "the 86 lines are not the reckoning's".to_string())
     }
 
-    /// The pairs of the printed 83 lines, by the ids of the list.
+    /// The pairs of the printed 86 lines, by the ids of the list.
     fn printed_pairs(&self, rest: &[u8]) -> Option<Vec<Pair>> {
-        let text = std::str::from_utf8(rest).ok()?;
-        let position = |line: &str, at: usize| {
-            let id = u16::from_str_radix(line.get(at..at + 4)?, 16).ok()?;
-            self.network.switches.iter().position(|s| s.id == id)
+        std::str::from_utf8(rest).ok()?.lines().map(|line| self.printed_pair(line.strip_prefix("86")?)).collect()
+    }
+
+    fn printed_pair(&self, fields: &str) -> Option<Pair> {
+        let mut rest = fields;
+        let mut field = |length: usize| {
+            let (field, behind) = rest.split_at_checked(length)?;
+            rest = behind;
+            u16::from_str_radix(field, 16).ok()
         };
-        text.lines()
-            .map(|line| {
-                line.strip_prefix("83").filter(|ids| ids.len() == 8)?;
-                Some(Pair { closed: position(line, 2)?, opened: position(line, 6)? })
-            })
-            .collect()
+        let position = |id: u16| self.network.switches.iter().position(|s| s.id == id);
+        let [closed, opened] = [(); 2].map(|()| {
+            let count = field(2)?;
+            (0..count).map(|_| position(field(4)?)).collect::<Option<Vec<usize>>>()
+        });
+        rest.is_empty().then_some(Pair { closed: closed?, opened: opened? })
     }
 }

@@ -93,7 +93,7 @@ fn of_solve() -> Vec<Finding> {
             says: "switch_operations: \"List of switch operations that transform the base config to the best\"",
             does: "in switch order: carried out one by one it may open before it closes (document 01's triangle)",
             feeder: triangle(),
-            prints: "810140100000000000003FF00000000000004052C00000000000000201\n840000FFFF\n82000A00\n82000B01\n83000B000A\n",
+            prints: "810140100000000000003FF00000000000004052C00000000000000201\n840000FFFF\n82000A00\n82000B01\n8601000B01000A\n",
         },
     ]
 }
@@ -112,7 +112,7 @@ fn of_exchange() -> Vec<Finding> {
             says: "BranchExchange: \"open the highest-loss branch in the created loop\"; branch_exchange_step, 3: \"Find the branch in the loop with the highest loss sensitivity\"",
             does: "at flat voltage every sensitivity is zero and the sort keeps the path's order: branch 0 (it loses 0.8) is opened for a loss of 1.4; branch 1 (it loses 1) would give 0.3",
             feeder: triangle_of([0.2, 1.0, 0.1]),
-            prints: "81013FFCCCCCCCCCCCCD3FF6666666666666403638E38E38E390000201\n840000FFFF\n82000100\n82000301\n8300030001\n",
+            prints: "81013FFCCCCCCCCCCCCD3FF6666666666666403638E38E38E390000201\n840000FFFF\n82000100\n82000301\n86010003010001\n",
         },
         Finding {
             says: "\"Take the first improving exchange and break (Merlin-Back style)\"; BranchExchange: \"(fast, locally optimal)\"",
@@ -131,7 +131,7 @@ fn of_a_round() -> Vec<Finding> {
             says: "branch_exchange_step, 4: \"apply the exchange and return\"; best_improvement",
             does: "all ties are tried and the last improving one wins, neither the first nor the best: tie 3 (loss 0.75) goes before tie 2 (0.5)",
             feeder: side_by_side(0, 1, &[1.0, 0.5, 0.75], &[(0, OPERABLE), (1, OPERABLE | TIE), (2, OPERABLE | TIE)]),
-            prints: "81013FF00000000000003FE80000000000004039000000000000000100\n840000FFFF\n82000100\n82000301\n8300030001\n",
+            prints: "81013FF00000000000003FE80000000000004039000000000000000100\n840000FFFF\n82000100\n82000301\n86010003010001\n",
         },
         Finding {
             says: "branch_exchange_step, 1: \"Temporarily close it → creates one loop in the graph\"; find_loop_branches_closed_tie: \"the unique loop\"",
@@ -253,7 +253,7 @@ fn on_records() -> Vec<RecordFinding> {
         ("a total load of 1e-13 MW: reserve_margin", "inf", small_load()),
     ];
     findings.extend(on_floats());
-    findings.extend(on_two_switches());
+    findings.extend(on_three_switches());
     findings
 }
 
@@ -270,11 +270,11 @@ fn on_floats() -> [RecordFinding; 3] {
     ]
 }
 
-fn on_two_switches() -> [RecordFinding; 2] {
-    let switches = || vec![switch(1, 0, false), switch(2, 0, false), switch(3, 1, true)];
+fn on_three_switches() -> [RecordFinding; 2] {
+    let switches = || vec![switch(1, 0, false), switch(2, 0, false), switch(3, 1, true), switch(4, 0, false)];
     let mut network = network(&[1, 2], &[(1, 2), (1, 2)], 1.0);
     network.branches[0].r = 1.0;
-    let radial = [vec![3], vec![1, 3], vec![2, 3]]
+    let radial = [vec![3], vec![1, 3], vec![2, 3], vec![3, 4]]
         .map(|open| verify_radiality(&network, &opening(open), &switches()).to_string());
     let result = solver(ReconfigAlgorithm::BranchExchange, switches()).solve(&network);
     let operations = result.map_or(vec![], |result| result.switch_operations);
@@ -282,8 +282,8 @@ fn on_two_switches() -> [RecordFinding; 2] {
         operations.iter().map(|operation| format!("{:?} {}", operation.action, operation.switch_id)).collect();
     [
         (
-            "switches 1 and 2 on a branch, beside it a tie 3: radial with 3 open, 1 and 3, 2 and 3",
-            "true, false, false",
+            "switches 1, 2 and 4 on a branch, beside it a tie 3: radial with 3 open, 1 and 3, 2 and 3, 4 and 3",
+            "true, false, false, false",
             radial.join(", "),
         ),
         ("the same, exchange: operations", "Open 1, Close 3", moved.join(", ")),

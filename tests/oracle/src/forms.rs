@@ -15,7 +15,10 @@ pub fn joined(buses: u16, ends: &[(u16, u16)]) -> Feeder {
 }
 
 pub fn named() -> Vec<Named> {
-    [islands(), loops(), loops_and_islands(), not_live(), of_256_buses()].into_iter().flatten().collect()
+    [islands(), loops(), loops_and_islands(), not_live(), two_on_a_branch(), of_256_buses()]
+        .into_iter()
+        .flatten()
+        .collect()
 }
 
 fn islands() -> Vec<Named> {
@@ -69,6 +72,32 @@ fn not_live() -> Vec<Named> {
         ("a parallel open, a branch out of service: islands 1", both, [1, NO_BRANCH]),
         ("an island that the exhaustive search joins: a tree", tie, [0, NO_BRANCH]),
         ("parallels of which tabu opens one: a tree", section, [0, NO_BRANCH]),
+    ]
+}
+
+/// A ring whose last branch has two switches, and two buses joined by a branch with two, with these flags in the order of the list.
+fn two_on_a_branch() -> Vec<Named> {
+    let ring = |first, second| {
+        let mut feeder = joined(3, &[(1, 2), (2, 3), (1, 3)]);
+        (feeder.switch(2, 2, first), feeder.switch(1, 2, second));
+        feeder
+    };
+    let apart = |method, first, second| {
+        let mut feeder = Feeder { method, iterations: 1, ..joined(2, &[(1, 2)]) };
+        (feeder.switch(2, 0, first), feeder.switch(1, 0, second));
+        feeder
+    };
+    vec![
+        ("a ring with two closed switches on its last branch: loop 2", ring(OPERABLE, 0), [0, 2]),
+        ("the first of them open: a tree", ring(TIE, OPERABLE), [0, NO_BRANCH]),
+        ("the second of them open: a tree", ring(OPERABLE, TIE), [0, NO_BRANCH]),
+        ("both open: a tree", ring(TIE, TIE), [0, NO_BRANCH]),
+        ("two ties on the one branch, which the exhaustive search closes: a tree", apart(2, TIE, TIE), [0, NO_BRANCH]),
+        (
+            "two ties on it, of which tabu closes none: islands 1",
+            apart(1, OPERABLE | TIE, OPERABLE | TIE),
+            [1, NO_BRANCH],
+        ),
     ]
 }
 

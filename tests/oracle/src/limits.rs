@@ -1,6 +1,7 @@
 //! Fixed texts: both sides of every limit, the refusal table's examples, document 01's triangle and its relatives, and
 //! lines with several faults at once.
 
+use crate::ends;
 use crate::feeder::{head_line, joined, triangle, BranchLine, Feeder, OPERABLE, TIE};
 use crate::random::Random;
 use crate::shapes::full_size;
@@ -18,6 +19,7 @@ pub fn texts() -> Vec<Vec<u8>> {
     texts.extend(out_of_service());
     texts.extend(tie_counts());
     texts.extend(parallel_ties());
+    texts.extend(ends::texts());
     texts.extend(long_texts());
     texts
 }

@@ -6,6 +6,7 @@ mod check;
 mod compare;
 mod damage;
 mod driver;
+mod ends;
 mod expected;
 mod feeder;
 mod findings;
@@ -25,6 +26,7 @@ mod supply;
 mod values;
 mod wrong;
 mod wrong_calls;
+mod wrong_ends;
 mod wrong_forms;
 
 use cases::Size;
@@ -61,16 +63,19 @@ fn main() -> ExitCode {
         ["expected"] => print(expected::expected(&input()).output().as_bytes()),
         ["solve"] => print(&records::solve(&input())),
         ["compare", size, seed, _, ..] => {
-            let texts = Compared { name: "texts", cases: set(size, seed), expected: expected::expected };
+            let least = named(size).least.texts();
+            let texts = Compared { name: "texts", cases: set(size, seed), expected: expected::expected, least };
             compare::compare(texts, &arguments[3..], workers())
         }
         ["compare-calls", size, seed, _, ..] => {
-            let questions = Compared { name: "questions", cases: questions(size, seed), expected: calls::expected };
+            let least = named(size).least.questions();
+            let questions =
+                Compared { name: "questions", cases: questions(size, seed), expected: calls::expected, least };
             compare::compare(questions, &arguments[3..], workers())
         }
         ["compare-written", size, seed, _, ..] => {
-            let texts =
-                Compared { name: "texts written back", cases: written_back(size, seed), expected: calls::expected };
+            let (cases, least) = (written_back(size, seed), Vec::new());
+            let texts = Compared { name: "texts written back", cases, expected: calls::expected, least };
             compare::compare(texts, &arguments[3..], workers())
         }
         ["check"] => check::worked_examples(),

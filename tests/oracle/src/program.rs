@@ -8,7 +8,7 @@ use std::time::{Duration, Instant};
 const LIMIT: Duration = Duration::from_secs(120);
 /// What a pipe takes without a reader.
 const PIPE: usize = 60_000;
-/// No more of an output is read. The longest right one to a text has 7,483 bytes; one to questions is about as long as they are.
+/// No more of an output is read. The longest right one to a text has 8,511 bytes; one to questions is about as long as they are.
 const LONGEST_OUTPUT: u64 = 300_000;
 
 /// The running child of one worker, for the watch to stop.

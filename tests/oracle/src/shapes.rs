@@ -1,5 +1,6 @@
 //! Seeded feeders of every shape. Each is acceptable, whatever the seed.
 
+use crate::ends;
 use crate::feeder::{Feeder, OPERABLE, TIE};
 use crate::random::Random;
 use crate::values::Values;
@@ -421,15 +422,29 @@ pub fn full_size(random: &mut Random, method: u8, operable: usize, iterations: u
     let mix = Mix { ties: 257, unswitched: 0, style: random.below(3), ..Mix::plain(random, 256, 256) };
     let mut feeder = mix.feeder_of(random, Values::Plain);
     (feeder.method, feeder.iterations) = (method, iterations);
+    limit_ties(&mut feeder, operable);
+    feeder
+}
+
+/// The same with 384 branches, of which some 256 have two switches each.
+pub fn full_size_of_two(random: &mut Random, method: u8, operable: usize, iterations: u16) -> Feeder {
+    let mix = Mix { ties: 129, unswitched: 50, style: random.below(3), ..Mix::plain(random, 256, 256) };
+    let feeder = mix.feeder_of(random, Values::Plain);
+    let mut feeder = ends::all_with_two(random, feeder);
+    (feeder.method, feeder.iterations) = (method, iterations);
+    limit_ties(&mut feeder, operable);
+    feeder
+}
+
+fn limit_ties(feeder: &mut Feeder, operable: usize) {
     let mut ties = 0;
     for switch in feeder.switches.iter_mut().filter(|s| s.flags & TIE != 0) {
         ties += 1;
         if ties > operable {
-            switch.flags = if method == 2 { 0 } else { TIE };
-            feeder.branches[usize::from(switch.branch)].status = (method != 2) as u8;
+            switch.flags = if feeder.method == 2 { 0 } else { TIE };
+            feeder.branches[usize::from(switch.branch)].status = (feeder.method != 2) as u8;
         }
     }
-    feeder
 }
 
 /// The largest network with one loop in its base, for tabu: it opens a switch of the loop and from there moves switches of

@@ -1,12 +1,11 @@
 //! States of a network, good and faulty, and lengths around the one that fits.
 
 use crate::random::Random;
-use crate::reckoning::plan::{plan, radial};
+use crate::reckoning::plan::{length, plan, radial, Pair};
 use crate::reckoning::{Network, CLOSED, OPEN};
 
-/// Bytes of an 82 line and of an 83 line.
+/// Bytes of an 82 line.
 pub const OPERATION_LENGTH: usize = 9;
-const PAIR_LENGTH: usize = 11;
 
 /// A length at, one short of or above the one that fits, or 0.
 pub fn near(random: &mut Random, fitting: usize) -> usize {
@@ -28,7 +27,10 @@ pub fn any_state(random: &mut Random, network: &Network) -> Vec<u8> {
             state
         }
         5 | 6 => bits(random),
-        _ => radial_state(random, network).unwrap_or_else(|| bits(random)),
+        _ => {
+            let spares = random.percent(70);
+            radial_state(random, network, spares).unwrap_or_else(|| bits(random))
+        }
     }
 }
 
@@ -41,16 +43,16 @@ pub fn more_closed(random: &mut Random, network: &Network) -> Vec<u8> {
 /// A present and a wanted state, and a slice about as long as their plan.
 pub fn any_plan(random: &mut Random, network: &Network) -> (Vec<u8>, Vec<u8>, usize) {
     let (present, wanted, pairs) = any_two_states(random, network);
-    (present, wanted, near(random, PAIR_LENGTH * pairs))
+    (present, wanted, near(random, length(&pairs)))
 }
 
 /// A present and a wanted state, mostly drawn again where nothing is to be moved, how many single moves are done, and slices about as
 /// long as the remaining ones and those that go back.
 pub fn any_cut_plan(random: &mut Random, network: &Network) -> (Vec<u8>, Vec<u8>, u64, Vec<usize>) {
     let first = any_two_states(random, network);
-    let again = first.2 == 0 && random.percent(75);
+    let again = first.2.is_empty() && random.percent(75);
     let (present, wanted, pairs) = if again { any_two_states(random, network) } else { first };
-    let moves = 2 * pairs;
+    let moves = pairs.iter().map(Pair::moves).sum();
     let count = any_count(random, moves);
     let done = count.min(moves as u64) as usize;
     let rooms = [moves - done, done].map(|lines| near(random, OPERATION_LENGTH * lines));
@@ -69,29 +71,44 @@ fn any_count(random: &mut Random, moves: usize) -> u64 {
     }
 }
 
-/// A present and a wanted state, mostly radial, and how many pairs their plan has.
-fn any_two_states(random: &mut Random, network: &Network) -> (Vec<u8>, Vec<u8>, usize) {
-    let radial = |random: &mut Random| radial_state(random, network).unwrap_or_else(|| any_state(random, network));
+/// A present and a wanted state, mostly radial, and their plan, which is empty where it is refused.
+fn any_two_states(random: &mut Random, network: &Network) -> (Vec<u8>, Vec<u8>, Vec<Pair>) {
+    let spares = random.percent(70);
+    let radial =
+        |random: &mut Random| radial_state(random, network, spares).unwrap_or_else(|| any_state(random, network));
     let present = if random.percent(15) { any_state(random, network) } else { radial(random) };
     let wanted = if random.percent(15) { any_state(random, network) } else { radial(random) };
-    let pairs = plan(network, &present, &wanted, usize::MAX).map_or(0, |pairs| pairs.len());
+    let pairs = plan(network, &present, &wanted, usize::MAX).unwrap_or_default();
     (present, wanted, pairs)
 }
 
-/// A state whose live branches are a tree: fixed branches first, then those with a switch in any order.
-fn radial_state(random: &mut Random, network: &Network) -> Option<Vec<u8>> {
-    let switch_on = |k: usize| network.switches.iter().position(|s| s.branch == k);
+/// A state whose live branches are a tree: fixed branches first, then those with a switch in any order. One that finds its ends joined
+/// is dead by one switch or by both, by a locked one not where another is there and they are spared.
+fn radial_state(random: &mut Random, network: &Network, spares: bool) -> Option<Vec<u8>> {
+    let mut on = vec![Vec::new(); network.branches.len()];
+    network.switches.iter().enumerate().for_each(|(i, switch)| on[switch.branch].push(i));
     let mut order: Vec<usize> = (0..network.branches.len()).filter(|&k| network.branches[k].in_service).collect();
     random.shuffle(&mut order);
-    order.sort_by_key(|&k| switch_on(k).is_some());
+    order.sort_by_key(|&k| !on[k].is_empty());
     let mut piece: Vec<usize> = (0..network.buses.len()).collect();
     let mut state: Vec<u8> = network.switches.iter().map(|_| random.below(2) as u8).collect();
     for k in order {
         let (a, b) = (piece[network.branches[k].from], piece[network.branches[k].to]);
         piece.iter_mut().filter(|piece| **piece == a && a != b).for_each(|piece| *piece = b);
-        if let Some(i) = switch_on(k) {
-            state[i] = if a != b { CLOSED } else { OPEN };
+        on[k].iter().for_each(|&i| state[i] = CLOSED);
+        if a == b {
+            opened(random, network, &on[k], spares).into_iter().for_each(|i| state[i] = OPEN);
         }
     }
     radial(network, &network.live(&state)).then_some(state)
+}
+
+/// Some of a branch's switches, one at least where it has any.
+fn opened(random: &mut Random, network: &Network, on: &[usize], spares: bool) -> Vec<usize> {
+    let operable: Vec<usize> = on.iter().copied().filter(|&i| network.switches[i].can_operate).collect();
+    let from = if spares && !operable.is_empty() { &operable[..] } else { on };
+    match from {
+        [_, _] if random.percent(50) => vec![random.pick(from)],
+        _ => from.to_vec(),
+    }
 }

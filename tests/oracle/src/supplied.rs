@@ -4,7 +4,7 @@ use crate::cases::{named, seeded, Case, Cases, Size};
 use crate::feeder::{head_line, joined, supply_line, triangle, Feeder};
 use crate::random::Random;
 use crate::reckoning::{judge, reader};
-use crate::{damage, limits, shapes, short};
+use crate::{damage, ends, limits, shapes, short};
 
 /// How the name of each kind begins.
 pub const LINE: &str = "05 line: ";
@@ -35,6 +35,7 @@ pub fn feeder(random: &mut Random, make: fn(&mut Random) -> Feeder) -> Feeder {
         }
         feeder = make(random);
     }
+    let mut feeder = ends::mostly_two(random, feeder);
     let any = random.next() as u16;
     let listed = !feeder.buses.is_empty() && !random.percent(5);
     feeder.supply = Some(if listed { feeder.buses[random.below(feeder.buses.len())].id } else { any });
@@ -55,7 +56,8 @@ fn radial_base(feeder: &Feeder) -> bool {
 fn few_buses(random: &mut Random) -> Vec<u8> {
     let any = |random: &mut Random| {
         let (buses, branches) = random.pick(&[(1, 0), (1, 1), (2, 1), (2, 2), (3, 2), (3, 3), (3, 3), (3, 3)]);
-        short::numbered(buses, branches, random.below(short::how_many(buses, branches)))
+        let switches = random.pick(&[short::AT_MOST_ONE, short::AT_MOST_TWO, short::AT_MOST_TWO]);
+        short::numbered(buses, branches, switches, random.below(short::how_many(buses, branches, switches)))
     };
     feeder(random, any).text()
 }

@@ -4,16 +4,17 @@ use crate::cases::Cases;
 use crate::check::TRIANGLE;
 use crate::expected::{expected, Answered, Expected};
 use crate::reckoning::form::{self, with_form, Form};
-use crate::reckoning::plan::{self, Pair};
+use crate::reckoning::plan::{self, open_on, Pair};
 use crate::reckoning::searches::{Searches, Slip};
 use crate::reckoning::{judge, reader, Network, Refusal};
-use crate::{short, wrong_forms};
+use crate::{short, wrong_ends, wrong_forms};
 
 #[derive(Debug, Clone, Copy, PartialEq)]
 pub enum Mistake {
     Search(Slip),
     Reading(Reading),
     Plan(Plan),
+    Ends(wrong_ends::Mistake),
     Form(wrong_forms::Mistake),
     Print(Print),
 }
@@ -50,16 +51,17 @@ pub enum Reading {
     SurplusBeforeSupply,
     SupplyZeroIsNone,
     CutBehindLine,
+    ThirdSwitchTaken,
+    SecondSwitchRefused,
 }
 
-/// Mistakes in the 83 lines.
+/// Mistakes in the 86 lines; those with two switches on a branch are in `wrong_ends`.
 #[derive(Debug, Clone, Copy, PartialEq)]
 pub enum Plan {
     ByBranchPosition,
     PathFromToBus,
     PathOfPresentState,
     LastOnPath,
-    OpenedFirst,
     None,
     ForAnyBase,
 }
@@ -82,7 +84,7 @@ pub enum Print {
     RefusesAll,
 }
 
-const READING: [Reading; 29] = [
+const READING: [Reading; 31] = [
     Reading::LowerCaseTaken,
     Reading::CarriageReturnTaken,
     Reading::UnendedLastLineTaken,
@@ -112,13 +114,14 @@ const READING: [Reading; 29] = [
     Reading::SurplusBeforeSupply,
     Reading::SupplyZeroIsNone,
     Reading::CutBehindLine,
+    Reading::ThirdSwitchTaken,
+    Reading::SecondSwitchRefused,
 ];
-const PLAN: [Plan; 7] = [
+const PLAN: [Plan; 6] = [
     Plan::ByBranchPosition,
     Plan::PathFromToBus,
     Plan::PathOfPresentState,
     Plan::LastOnPath,
-    Plan::OpenedFirst,
     Plan::None,
     Plan::ForAnyBase,
 ];
@@ -145,8 +148,9 @@ pub fn all() -> Vec<Mistake> {
     let searches = Slip::ALL.into_iter().map(Mistake::Search);
     let reading = READING.into_iter().map(Mistake::Reading);
     let plans = PLAN.into_iter().map(Mistake::Plan);
+    let ends = wrong_ends::IN_TEXTS.into_iter().map(Mistake::Ends);
     let forms = wrong_forms::ALL.into_iter().map(Mistake::Form);
-    searches.chain(reading).chain(plans).chain(forms).chain(PRINT.into_iter().map(Mistake::Print)).collect()
+    searches.chain(reading).chain(plans).chain(ends).chain(forms).chain(PRINT.into_iter().map(Mistake::Print)).collect()
 }
 
 pub fn named(name: &str) -> Mistake {
@@ -176,10 +180,14 @@ impl Mistake {
             (Mistake::Search(slip), Expected::Answered(answered)) => match &answered.network {
                 network if network.supply.is_none() && slip.needs_line() => right.output(),
                 network if network.buses.len() < slip.needs_buses() => right.output(),
+                network if slip.needs_two_on_branch() && !network.has_two_on_branch() => right.output(),
                 network => search_output(network, slip),
             },
             (Mistake::Plan(mistake), Expected::Answered(answered)) => {
                 with_form(&answered.search, answered.form.fields()) + &mistake.lines(answered)
+            }
+            (Mistake::Ends(mistake), Expected::Answered(answered)) => {
+                with_form(&answered.search, answered.form.fields()) + &ends_lines(mistake, answered)
             }
             (Mistake::Form(mistake), Expected::Answered(answered)) => {
                 let fields = mistake.fields(&answered.network, &answered.best);
@@ -194,7 +202,18 @@ fn search_output(network: &Network, slip: Slip) -> String {
     let answer = searches.solve();
     let base = network.base();
     let pairs = plan::plan(network, &base, &answer.best, usize::MAX).unwrap_or_default();
-    with_form(&searches.lines(&answer), fields(network, &answer.best)) + &plan::lines(network, &pairs)
+    let form = form::form(network, &searches.live(&answer.best));
+    with_form(&searches.lines(&answer), form.fields()) + &plan::lines(network, &pairs)
+}
+
+/// The 86 lines with a mistake about two switches on a branch, none where the plan is refused.
+fn ends_lines(mistake: wrong_ends::Mistake, answered: &Answered) -> String {
+    let Answered { network, best, pairs, .. } = answered;
+    if pairs.as_ref().is_none_or(Vec::is_empty) {
+        return String::new();
+    }
+    let pairs = mistake.plan(network, &network.base(), best).unwrap_or_default();
+    mistake.lines(network, &pairs)
 }
 
 /// The islands and the branch of a state.
@@ -280,6 +299,7 @@ impl Reading {
             Reading::SurplusBeforeSupply if [14, 15].contains(&right.number) && lines.len() > right.place.into() => {
                 Some(Refusal { number: 2, place: right.place + 1 })
             }
+            Reading::ThirdSwitchTaken if right.number == 8 => number(0),
             Reading::OutOfServiceNotJudged if [5, 6].contains(&right.number) && out_of_service(line?) => number(0),
             _ => None,
         }
@@ -300,6 +320,7 @@ impl Reading {
                 let in_service: Vec<bool> = network.branches.iter().map(|branch| branch.in_service).collect();
                 (!judge::tree(network, &in_service)).then_some(Refusal { number: 15, place: 0 })
             }
+            Reading::SecondSwitchRefused if network.has_two_on_branch() => Some(Refusal { number: 8, place: 0 }),
             Reading::LineDemanded if network.supply.is_none() => Some(Refusal { number: 2, place: 0 }),
             Reading::NegativeZeroRefused if network.branches.iter().any(|b| negative_zero(b.r)) => {
                 Some(Refusal { number: 5, place: 0 })
@@ -345,30 +366,24 @@ impl Plan {
         match (self, &answered.pairs) {
             (Plan::ForAnyBase, None) => plan::lines(network, &matched(network, &answered.best)),
             (_, None) | (Plan::None, _) => String::new(),
-            (Plan::OpenedFirst, Some(pairs)) => {
-                let turned: Vec<Pair> = pairs.iter().map(|p| Pair { closed: p.opened, opened: p.closed }).collect();
-                plan::lines(network, &turned)
-            }
             (_, Some(_)) => plan::lines(network, &self.pairs(network, &answered.best)),
         }
     }
 
     fn pairs(self, network: &Network, wanted: &[u8]) -> Vec<Pair> {
-        let (present, goal) = (network.live(&network.base()), network.live(wanted));
+        let base = network.base();
+        let (present, goal) = (network.live(&base), network.live(wanted));
         let mut live = present.clone();
-        let mut closings: Vec<usize> = (0..wanted.len()).collect();
-        if self == Plan::ByBranchPosition {
-            closings.sort_by_key(|&i| network.switches[i].branch);
+        let mut closings: Vec<usize> = (0..goal.len()).filter(|&k| goal[k] && !present[k]).collect();
+        if self != Plan::ByBranchPosition {
+            closings.sort_by_key(|&k| network.switches.iter().position(|s| s.branch == k));
         }
-        closings.retain(|&i| goal[network.switches[i].branch] && !present[network.switches[i].branch]);
         let mut pairs = Vec::new();
-        for closed in closings {
-            let tie = network.switches[closed].branch;
+        for tie in closings {
             let walked = if self == Plan::PathOfPresentState { &present } else { &live };
             let Some(section) = self.section(network, walked, tie, &goal) else { continue };
-            let Some(opened) = network.switches.iter().position(|s| s.branch == section) else { continue };
             (live[tie], live[section]) = (true, false);
-            pairs.push(Pair { closed, opened });
+            pairs.push(Pair { closed: open_on(network, &base, tie), opened: open_on(network, wanted, section) });
         }
         pairs
     }
@@ -391,7 +406,10 @@ fn matched(network: &Network, wanted: &[u8]) -> Vec<Pair> {
     let base = network.base();
     let moved = |to: u8| (0..base.len()).filter(move |&i| wanted[i] == to);
     let closings = moved(0).filter(|&i| base[i] == 1);
-    closings.zip(moved(1).filter(|&i| base[i] == 0)).map(|(closed, opened)| Pair { closed, opened }).collect()
+    closings
+        .zip(moved(1).filter(|&i| base[i] == 0))
+        .map(|(closed, opened)| Pair { closed: vec![closed], opened: vec![opened] })
+        .collect()
 }
 
 impl Print {
@@ -478,11 +496,13 @@ pub fn all_caught(cases: Cases) -> bool {
     unseen.is_empty()
 }
 
-/// The shortest of the numbered feeders that shows a mistake, the fewest branches and buses first.
+/// The shortest of the numbered feeders that shows a mistake, the fewest branches and buses first; with two switches on a branch where none with one does.
 pub fn smallest(mistake: Mistake) -> Vec<u8> {
     let sizes = [(0, 0), (1, 0), (2, 0), (3, 0), (1, 1), (2, 1), (3, 1), (1, 2), (2, 2), (3, 2), (2, 3), (3, 3)];
-    for (buses, branches) in sizes {
-        let texts = (0..short::how_many(buses, branches)).map(|number| short::numbered(buses, branches, number).text());
+    let all = |switches: usize| sizes.map(|(buses, branches)| (buses, branches, switches));
+    for (buses, branches, switches) in all(short::AT_MOST_ONE).into_iter().chain(all(short::AT_MOST_TWO)) {
+        let numbers = 0..short::how_many(buses, branches, switches);
+        let texts = numbers.map(|number| short::numbered(buses, branches, switches, number).text());
         let shows = |text: &Vec<u8>| mistake.output(text) != expected(text).output();
         if let Some(text) = texts.filter(shows).min_by_key(Vec::len) {
             return text;

@@ -1,12 +1,12 @@
-//! Calls on plans cut off, and calls that tell what live branches are, with one mistake each, to see that the questions tell them from
-//! right ones.
+//! Calls on plans cut off, calls that tell what live branches are and plans that move two switches of a branch, with one mistake each, to see
+//! that the questions tell them from right ones.
 
 use crate::calls::{self, Question};
 use crate::cases::Size;
 use crate::reckoning::plan::{plan, Pair};
 use crate::reckoning::resume::{lines, moves, Move};
-use crate::reckoning::{Network, Refusal};
-use crate::wrong_forms;
+use crate::reckoning::{Network, Refusal, CLOSED};
+use crate::{wrong_ends, wrong_forms};
 
 #[derive(Debug, Clone, Copy, PartialEq)]
 enum Mistake {
@@ -79,7 +79,7 @@ impl Wrong {
         let Question { present, wanted, rooms, .. } = question;
         let refusal = |number| Refusal { number, place: 0 };
         let pairs = plan(network, present, wanted, usize::MAX).map_err(|first| {
-            let over = first.number == 12 && question.count > 2 * closings(network, present, wanted);
+            let over = first.number == 12 && question.count > moved(network, present, wanted);
             if over && self.has(Mistake::SixteenBeforeTwelve) {
                 refusal(16)
             } else {
@@ -87,9 +87,9 @@ impl Wrong {
             }
         })?;
         let moves = self.moves(&pairs);
-        let count = self.count(question.count);
+        let count = self.count(question.count, &pairs);
         let done = count.min(moves.len() as u64) as usize;
-        let lists = self.lists(&moves, done);
+        let lists = self.lists(&moves, done, &pairs);
         let answer = if self.has(Mistake::AnswersDone) { done } else { lists[0].len() };
         let mut texts = lists.map(|list| lines(network, &list));
         if self.has(Mistake::SlicesExchanged) {
@@ -111,9 +111,12 @@ impl Wrong {
         Ok((if short { Err(refusal(13)) } else { Ok(answer) }, texts))
     }
 
-    fn count(&self, count: u64) -> u64 {
+    fn count(&self, count: u64, pairs: &[Pair]) -> u64 {
         match self.0 {
-            Some(Mistake::CountOfPairs) => count.saturating_mul(2),
+            Some(Mistake::CountOfPairs) => {
+                let whole = usize::try_from(count).ok().and_then(|count| pairs.get(..count));
+                whole.map_or(u64::MAX, |whole| whole.iter().map(Pair::moves).sum::<usize>() as u64)
+            }
             Some(Mistake::CountOf16Bits) => count & 0xFFFF,
             Some(Mistake::CountOf32Bits) => count & 0xFFFF_FFFF,
             _ => count,
@@ -121,16 +124,23 @@ impl Wrong {
     }
 
     fn moves(&self, pairs: &[Pair]) -> Vec<Move> {
-        let mut moves = moves(pairs);
+        let mut all = moves(pairs);
         match self.0 {
-            Some(Mistake::OpeningFirst) => moves.chunks_mut(2).for_each(<[Move]>::reverse),
-            Some(Mistake::AllClosingsFirst) => moves.sort_by_key(|one| one.byte),
+            Some(Mistake::OpeningFirst) => {
+                let turned = |pair: &Pair| {
+                    let mut turned = moves(std::slice::from_ref(pair));
+                    turned.sort_by_key(|one| one.byte == CLOSED);
+                    turned
+                };
+                all = pairs.iter().flat_map(turned).collect();
+            }
+            Some(Mistake::AllClosingsFirst) => all.sort_by_key(|one| one.byte),
             _ => (),
         }
-        moves
+        all
     }
 
-    fn lists(&self, moves: &[Move], done: usize) -> [Vec<Move>; 2] {
+    fn lists(&self, moves: &[Move], done: usize, pairs: &[Pair]) -> [Vec<Move>; 2] {
         let from = if self.has(Mistake::RemainingFromTheFirst) { 0 } else { done };
         let mut back = moves[..done].to_vec();
         if !self.has(Mistake::BackNotInverted) {
@@ -138,28 +148,36 @@ impl Wrong {
         }
         match self.0 {
             Some(Mistake::BackInOrder) => (),
-            Some(Mistake::BackByPairs) => back = back.chunks(2).rev().flatten().copied().collect(),
+            Some(Mistake::BackByPairs) => {
+                let mut rest = back.into_iter();
+                let by_pairs: Vec<Vec<Move>> =
+                    pairs.iter().map(|pair| rest.by_ref().take(pair.moves()).collect()).collect();
+                back = by_pairs.into_iter().rev().flatten().collect();
+            }
             _ => back.reverse(),
         }
         [moves[from..].to_vec(), back]
     }
 }
 
-/// How many pairs a plan would have.
-fn closings(network: &Network, present: &[u8], wanted: &[u8]) -> u64 {
+/// How many switches a plan would move.
+fn moved(network: &Network, present: &[u8], wanted: &[u8]) -> u64 {
     let (before, after) = (network.live(present), network.live(wanted));
-    before.iter().zip(&after).filter(|(&before, &after)| after && !before).count() as u64
+    let moved = |i: usize, branch: usize| present[i] != wanted[i] && before[branch] != after[branch];
+    network.switches.iter().enumerate().filter(|(i, switch)| moved(*i, switch.branch)).count() as u64
 }
 
 /// For each mistake the first question that shows it; false if one is never seen.
 pub fn all_caught(size: Size, seed: u64) -> bool {
     let questions = || calls::questions(size.questions, seed).chain(calls::form_questions(size.form_questions, seed));
     let Some(of_cut_plans) = of_cut_plans(calls::cut_plans(size.cut_plans, seed)) else { return false };
-    let unseen = of_cut_plans + of_forms("S", questions()) + of_forms("B", questions());
-    let counts = [ALL.len(), wrong_forms::ALL.len()];
+    let of_plans = of_ends(&wrong_ends::IN_PLANS, questions());
+    let of_cut_ends = of_ends(&wrong_ends::IN_CUT_PLANS, calls::cut_plans(size.cut_plans, seed));
+    let unseen = of_cut_plans + of_plans + of_cut_ends + of_forms("S", questions()) + of_forms("B", questions());
+    let counts = [ALL.len(), wrong_forms::ALL.len(), wrong_ends::IN_PLANS.len(), wrong_ends::IN_CUT_PLANS.len()];
     println!(
-        "{} mistakes with plans cut off, {} about what live branches are (S and B each), {unseen} never seen",
-        counts[0], counts[1]
+        "{} mistakes with plans cut off, {} about what live branches are (S and B each), {} and {} about two switches on a branch (P and R), {unseen} never seen",
+        counts[0], counts[1], counts[2], counts[3]
     );
     unseen == 0
 }
@@ -182,6 +200,27 @@ fn of_forms(letter: &str, questions: impl Iterator<Item = Vec<u8>>) -> usize {
         });
     }
     unseen.iter().for_each(|mistake| println!("NEVER SEEN in {letter}  {mistake:?}"));
+    unseen.len()
+}
+
+/// The mistakes about two switches on a branch in plans, or in plans cut off, and how many are never seen.
+fn of_ends(mistakes: &[wrong_ends::Mistake], questions: impl Iterator<Item = Vec<u8>>) -> usize {
+    let mut unseen = mistakes.to_vec();
+    for text in questions {
+        let question = &calls::read(&text)[0];
+        if unseen.is_empty() || !question.asks_for_plan() || !question.network().is_ok_and(|n| n.has_two_on_branch()) {
+            continue;
+        }
+        let right = calls::answers(&text);
+        unseen.retain(|&mistake| {
+            let seen = question.output_of_plan(mistake) != right;
+            if seen {
+                println!("question {:6}  {mistake:?}", question.name);
+            }
+            !seen
+        });
+    }
+    unseen.iter().for_each(|mistake| println!("NEVER SEEN       {mistake:?}"));
     unseen.len()
 }
 

@@ -2,6 +2,7 @@
 
 use crate::reckoning::form::{self, closes, parallel, Form, NO_BRANCH};
 use crate::reckoning::plan::count;
+use crate::reckoning::searches::Slip;
 use crate::reckoning::Network;
 use std::collections::VecDeque;
 
@@ -23,9 +24,11 @@ pub enum Mistake {
     BranchFromOne,
     ZeroForNone,
     BranchFirst,
+    LastSwitchDecides,
+    AnyClosedMakesLive,
 }
 
-pub const ALL: [Mistake; 16] = [
+pub const ALL: [Mistake; 18] = [
     Mistake::PiecesForIslands,
     Mistake::OneUnlessTree,
     Mistake::NoIslandsBesideLoop,
@@ -42,6 +45,8 @@ pub const ALL: [Mistake; 16] = [
     Mistake::BranchFromOne,
     Mistake::ZeroForNone,
     Mistake::BranchFirst,
+    Mistake::LastSwitchDecides,
+    Mistake::AnyClosedMakesLive,
 ];
 
 impl Mistake {
@@ -84,6 +89,8 @@ impl Mistake {
         match self {
             Mistake::OfBase => network.live(&network.base()),
             Mistake::OpenOnesAdded => network.live(&[]),
+            Mistake::LastSwitchDecides => Slip::LastSwitchDecides.live(network, state),
+            Mistake::AnyClosedMakesLive => Slip::AnyClosedMakesLive.live(network, state),
             Mistake::OutOfServiceAdded => {
                 let mut all = network.clone();
                 all.branches.iter_mut().for_each(|branch| branch.in_service = true);

@@ -1,4 +1,4 @@
--- `print_every_count` is safe and ends: no count is above 511.
+-- `print_every_count` is safe and ends: no count is above 513.
 use Prim.Native.Nat.{_≤_, _+_, _-_}
 use borrow.Author.Needs.{needs}
 use Rattle.resume_cases.proofs.print_every_count.Statement.{statement}

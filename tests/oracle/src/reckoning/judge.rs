@@ -1,5 +1,5 @@
-//! A judge of plans that makes none: it carries the pairs out on the state's bytes and looks at every stopping point, or the single
-//! moves and looks behind each. Trees are told by union-find; a branch lies on the loop of a closing when the buses stay joined without it.
+//! A judge of plans that makes none: it carries the pairs out on the state's bytes and looks behind every switch, or the single moves and
+//! looks behind each. Trees are told by union-find; a branch lies on the loop of a closing when the buses stay joined without it.
 
 use super::form::Form;
 use super::plan::{count, path, Pair};
@@ -8,13 +8,13 @@ use super::{Network, CLOSED, OPEN};
 
 /// What is wrong with the plan from `present` to `wanted`, two radial states; none if nothing is.
 pub fn fault(network: &Network, present: &[u8], wanted: &[u8], pairs: &[Pair]) -> Option<String> {
-    let goal = network.live(wanted);
-    let missing = (0..goal.len()).filter(|&k| goal[k] && !network.live(present)[k]).count();
+    let (before, goal) = (network.live(present), network.live(wanted));
+    let missing = (0..goal.len()).filter(|&k| goal[k] && !before[k]).count();
     if pairs.len() != missing {
         return Some(format!("{} pairs, {missing} branches are live in the wanted state only", pairs.len()));
     }
     let mut state = present.to_vec();
-    for (number, &pair) in pairs.iter().enumerate() {
+    for (number, pair) in pairs.iter().enumerate() {
         if let Err(fault) = carry_out(network, &mut state, pair) {
             return Some(format!("pair {}: {fault}", number + 1));
         }
@@ -22,28 +22,54 @@ pub fn fault(network: &Network, present: &[u8], wanted: &[u8], pairs: &[Pair]) -
     if network.live(&state) != goal {
         return Some("the last point's live branches are not the wanted ones".to_string());
     }
+    let differs = |branch: usize| before[branch] != goal[branch];
+    let as_wanted = |i: usize, branch: usize| state[i] == if differs(branch) { wanted[i] } else { present[i] };
+    if !network.switches.iter().enumerate().all(|(i, switch)| as_wanted(i, switch.branch)) {
+        return Some("the last point has a switch that is neither as found nor as wanted".to_string());
+    }
     None
 }
 
-fn carry_out(network: &Network, state: &mut [u8], pair: Pair) -> Result<(), &'static str> {
-    let (tie, section) = (&network.switches[pair.closed], &network.switches[pair.opened]);
+/// The closings make their branch live at the last of them, the openings theirs dead at the first.
+fn carry_out(network: &Network, state: &mut [u8], pair: &Pair) -> Result<(), &'static str> {
+    let (tie, section) = (only_branch(network, &pair.closed)?, only_branch(network, &pair.opened)?);
     let before = network.live(state);
-    check(tie.can_operate && section.can_operate, "a locked switch is moved")?;
-    check(state[pair.closed] == OPEN && state[pair.opened] == CLOSED, "a switch is moved to where it stands")?;
-    check(!before[tie.branch] && network.branches[tie.branch].in_service, "the closing makes no branch live")?;
-    check(before[section.branch], "the opened branch was not live")?;
-    state[pair.closed] = CLOSED;
-    let closed = network.live(state);
-    check(joined_without(network, &closed, section.branch), "the opening is not on the loop of its closing")?;
-    state[pair.opened] = OPEN;
-    check(tree(network, &network.live(state)), "the stopping point is not radial")
+    check(
+        pair.closed.iter().chain(&pair.opened).all(|&i| network.switches[i].can_operate),
+        "a locked switch is moved",
+    )?;
+    let stands = |switches: &[usize], byte: u8| switches.iter().all(|&i| state[i] == byte);
+    check(stands(&pair.closed, OPEN) && stands(&pair.opened, CLOSED), "a switch is moved to where it stands")?;
+    check(!before[tie] && network.branches[tie].in_service, "the closing makes no branch live")?;
+    check(before[section], "the opened branch was not live")?;
+    let mut closed = before.clone();
+    for (&i, left) in pair.closed.iter().zip((0..pair.closed.len()).rev()) {
+        state[i] = CLOSED;
+        closed[tie] = left == 0;
+        check(network.live(state) == closed, "a closing changes other live branches than its own")?;
+    }
+    check(joined_without(network, &closed, section), "the opening is not on the loop of its closing")?;
+    closed[section] = false;
+    for &i in &pair.opened {
+        state[i] = OPEN;
+        check(network.live(state) == closed, "an opening changes other live branches than its own")?;
+    }
+    check(tree(network, &closed), "the stopping point is not radial")
+}
+
+/// The branch of switches that stand in list order, each once.
+fn only_branch(network: &Network, switches: &[usize]) -> Result<usize, &'static str> {
+    let branch = network.switches[*switches.first().ok_or("a pair moves nothing")?].branch;
+    check(switches.iter().all(|&i| network.switches[i].branch == branch), "a list has switches of several branches")?;
+    check(switches.is_sorted_by(|a, b| a < b), "a list is not in list order")?;
+    Ok(branch)
 }
 
 /// What is wrong with the single moves of a plan from `present` to `wanted` at some count of them; none if nothing is.
 pub fn fault_of_moves(network: &Network, present: &[u8], wanted: &[u8], moves: &[Move]) -> Option<String> {
     let mut state = present.to_vec();
     for done in 0..=moves.len() {
-        let looked_at = point(network, &state, &moves[..done]).and_then(|()| {
+        let looked_at = point(network, &state, moves.split_at(done)).and_then(|()| {
             let [remaining, back] = resume(moves, done as u64).map_err(|_| "the count is refused")?;
             let reaches = network.live(&carried_out(&state, &remaining)) == network.live(wanted);
             check(reaches, "finishing does not reach the wanted live branches")?;
@@ -63,14 +89,16 @@ fn carried_out(state: &[u8], moves: &[Move]) -> Vec<u8> {
     state
 }
 
-/// Document 02: "between a closing and its opening every bus is connected and exactly one loop exists, made of the closed branch and
-/// the whole path between its ends". Else the live branches are a tree.
-fn point(network: &Network, state: &[u8], done: &[Move]) -> Result<(), &'static str> {
+/// Document 02: "Point 4's one loop from the pair's last closing to its first opening, a tree at every other count"; there "every bus is connected
+/// and exactly one loop exists, made of the closed branch and the whole path between its ends".
+fn point(network: &Network, state: &[u8], (done, remaining): (&[Move], &[Move])) -> Result<(), &'static str> {
     let (live, n) = (network.live(state), network.buses.len());
     check(pieces(network, &live).0 <= 1, "a bus is cut off")?;
-    let Some(closing) = done.last().filter(|one| one.byte == CLOSED) else {
+    let closes = |one: &&Move| one.byte == CLOSED;
+    let Some(closing) = done.last().filter(closes).filter(|_| !remaining.first().is_some_and(|next| closes(&next)))
+    else {
         check(count(&live) == n.saturating_sub(1), "the live branches are not one fewer than the buses")?;
-        return check(tree(network, &live), "there is a loop between two pairs");
+        return check(tree(network, &live), "there is a loop beside closing and opening");
     };
     let tie = network.switches[closing.switch].branch;
     check(live[tie], "a closing leaves its branch dead")?;

@@ -1,4 +1,4 @@
-//! An independent reckoning, written from the sentences of document 01 and of document 02's Points 2, 4 and 5; it shares no code with the original or with the crates.
+//! An independent reckoning, written from the sentences of document 01 and of document 02's Points 2, 4, 5 and 6; it shares no code with the original or with the crates.
 //! `reader` gives the verdict on any byte string, `plan` the planner's answer, `resume` that for a plan cut off, `form` what the live branches of a
 //! state are, `judge` looks at these by another method, `searches` steps through document 01's searches.
 
@@ -69,7 +69,7 @@ impl Network {
         self.switches.iter().map(|s| if s.normally_open { OPEN } else { CLOSED }).collect()
     }
 
-    /// Document 01: "A branch is live when its status is 01 and no open switch is on it."
+    /// Document 01: "A branch is live when its status is 01 and no open switch is on it", however many are on it.
     pub fn live(&self, state: &[u8]) -> Vec<bool> {
         let mut live: Vec<bool> = self.branches.iter().map(|b| b.in_service).collect();
         for (switch, &byte) in self.switches.iter().zip(state) {
@@ -78,5 +78,12 @@ impl Network {
             }
         }
         live
+    }
+
+    /// Whether some branch has two switches.
+    pub fn has_two_on_branch(&self) -> bool {
+        let mut on = vec![0; self.branches.len()];
+        self.switches.iter().for_each(|switch| on[switch.branch] += 1);
+        on.contains(&2)
     }
 }

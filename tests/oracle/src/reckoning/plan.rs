@@ -1,15 +1,26 @@
-//! Document 01, section "Plan", and refusals 10 to 13.
+//! Document 01, section "Plan", with document 02's Point 6, and refusals 10 to 13.
 
 use super::{Network, Refusal, CLOSED, OPEN};
 
-/// A pair: the positions of the switch that is closed and of the switch that is opened.
-#[derive(Debug, Clone, Copy, PartialEq, Eq)]
+/// Bytes of an 86 line without ids, and of an id.
+const HEAD_LENGTH: usize = 7;
+const ID_LENGTH: usize = 4;
+
+/// A pair: the positions of the switches that are closed, all of one branch, and of those that are opened, in list order.
+#[derive(Debug, Clone, PartialEq, Eq)]
 pub struct Pair {
-    pub closed: usize,
-    pub opened: usize,
+    pub closed: Vec<usize>,
+    pub opened: Vec<usize>,
 }
 
-/// The planner's answer; `room` is the room for it, in pairs.
+impl Pair {
+    /// How many switches it moves.
+    pub fn moves(&self) -> usize {
+        self.closed.len() + self.opened.len()
+    }
+}
+
+/// The planner's answer; `room` is the room for its lines, in bytes.
 pub fn plan(network: &Network, present: &[u8], wanted: &[u8], room: usize) -> Result<Vec<Pair>, Refusal> {
     let refuse = |number, place| Err(Refusal { number, place });
     for (place, state) in [(0, present), (1, wanted)] {
@@ -26,7 +37,7 @@ pub fn plan(network: &Network, present: &[u8], wanted: &[u8], room: usize) -> Re
         return refuse(12, id);
     }
     let pairs = pairs(network, present, wanted);
-    if pairs.len() > room {
+    if length(&pairs) > room {
         return refuse(13, 0);
     }
     Ok(pairs)
@@ -64,31 +75,46 @@ pub fn reached(network: &Network, live: &[bool], start: usize) -> Vec<bool> {
     }
 }
 
-/// Refusal 12's place: the first locked switch, in list order, of a branch that is live in just one of the states.
+/// Refusal 12's place: the first locked switch, in list order, that differs and whose branch is live in just one of the states.
 fn locked(network: &Network, present: &[u8], wanted: &[u8]) -> Option<u16> {
     let (before, after) = (network.live(present), network.live(wanted));
-    let mut differing = network.switches.iter().filter(|s| before[s.branch] != after[s.branch]);
-    differing.find(|s| !s.can_operate).map(|s| s.id)
+    let differs = |i: usize, branch: usize| present[i] != wanted[i] && before[branch] != after[branch];
+    let mut moved = network.switches.iter().enumerate().filter(|(i, s)| differs(*i, s.branch));
+    moved.find(|(_, s)| !s.can_operate).map(|(_, s)| s.id)
 }
 
-/// "Take branches live in the wanted state only, by switch order."
+/// "Take branches live in the wanted state only, by switch order"; "A branch ranks by its first listed switch."
+fn closings(network: &Network, present: &[u8], wanted: &[u8]) -> Vec<usize> {
+    let (before, after) = (network.live(present), network.live(wanted));
+    let mut branches: Vec<usize> = (0..after.len()).filter(|&k| after[k] && !before[k]).collect();
+    branches.sort_by_key(|&k| network.switches.iter().position(|s| s.branch == k));
+    branches
+}
+
+/// The positions of the switches on a branch that a state opens, in list order.
+pub fn open_on(network: &Network, state: &[u8], branch: usize) -> Vec<usize> {
+    (0..state.len()).filter(|&i| network.switches[i].branch == branch && state[i] == OPEN).collect()
+}
+
+/// "A plan pair closes all open switches of one branch and opens those of the other that the wanted state opens."
 fn pairs(network: &Network, present: &[u8], wanted: &[u8]) -> Vec<Pair> {
-    let goal = network.live(wanted);
-    let mut live = network.live(present);
-    let mut pairs = Vec::new();
-    for (closed, switch) in network.switches.iter().enumerate() {
-        let tie = switch.branch;
-        if !goal[tie] || network.live(present)[tie] {
-            continue;
-        }
+    let pair =
+        |(tie, section)| Pair { closed: open_on(network, present, tie), opened: open_on(network, wanted, section) };
+    exchanges(network, present, wanted, &closings(network, present, wanted)).into_iter().map(pair).collect()
+}
+
+/// Each branch that is closed, and the one that is opened for it.
+pub fn exchanges(network: &Network, present: &[u8], wanted: &[u8], closings: &[usize]) -> Vec<(usize, usize)> {
+    let (mut live, goal) = (network.live(present), network.live(wanted));
+    let mut exchanges = Vec::new();
+    for &tie in closings {
         let branch = &network.branches[tie];
         let way = path(network, &live, branch.from, branch.to).expect("a radial state joins all buses");
         let section = *way.iter().find(|&&k| !goal[k]).expect("the wanted state has no loop");
-        let opened = network.switches.iter().position(|s| s.branch == section).expect("only a switch takes it off");
         (live[tie], live[section]) = (true, false);
-        pairs.push(Pair { closed, opened });
+        exchanges.push((tie, section));
     }
-    pairs
+    exchanges
 }
 
 /// The branches of the path between two buses, beginning at the first: a search into the depth.
@@ -115,8 +141,16 @@ pub fn path(network: &Network, live: &[bool], from: usize, to: usize) -> Option<
     onward(network, live, from, to, &mut way).then_some(way)
 }
 
-/// Document 01's 83 lines.
+/// Document 02's 86 lines: "a count byte, the closed ids, a count byte, the opened ids, each id u16, in list order".
 pub fn lines(network: &Network, pairs: &[Pair]) -> String {
-    let id = |position: usize| network.switches[position].id;
-    pairs.iter().map(|pair| format!("83{:04X}{:04X}\n", id(pair.closed), id(pair.opened))).collect()
+    let ids = |positions: &[usize]| -> String {
+        let ids = positions.iter().map(|&position| format!("{:04X}", network.switches[position].id));
+        std::iter::once(format!("{:02X}", positions.len())).chain(ids).collect()
+    };
+    pairs.iter().map(|pair| format!("86{}{}\n", ids(&pair.closed), ids(&pair.opened))).collect()
+}
+
+/// Bytes of these lines.
+pub fn length(pairs: &[Pair]) -> usize {
+    pairs.iter().map(|pair| HEAD_LENGTH + ID_LENGTH * pair.moves()).sum()
 }

@@ -1,9 +1,10 @@
-//! Document 01, sections "Frames" and "Refusals and their places", and document 02's 05 line: the verdict on any byte string.
+//! Document 01, sections "Frames" and "Refusals and their places", document 02's 05 line and its third switch: the verdict on any byte string.
 
 use super::{judge, Branch, Bus, Network, Refusal, Switch};
 
 const LONGEST_LINE: usize = 36;
 const MOST_TIES: usize = 10;
+const MOST_ON_BRANCH: usize = 2;
 
 /// The records of an accepted text, or the fault of the first faulty line.
 pub fn read(text: &[u8]) -> Result<Network, Refusal> {
@@ -134,11 +135,12 @@ impl SoFar {
         let listed = &self.network.switches;
         let (normally_open, can_operate) = (flags & 1 != 0, flags & 2 != 0);
         let ties = listed.iter().filter(|s| s.normally_open).count();
+        let on_branch = listed.iter().filter(|s| s.branch == branch).count();
         lowest(&[
             (3, flags > 3),
             (6, branch >= self.network.branches.len()),
             (7, listed.iter().any(|s| s.id == id)),
-            (8, listed.iter().any(|s| s.branch == branch)),
+            (8, on_branch == MOST_ON_BRANCH),
             (9, self.network.method == 2 && normally_open && ties == MOST_TIES),
         ])?;
         self.network.switches.push(Switch { id, branch, normally_open, can_operate });

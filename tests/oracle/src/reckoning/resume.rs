@@ -1,4 +1,4 @@
-//! Document 02, Point 4: the single moves of a plan, the lists for a controller that lost power among them, and refusal 16.
+//! Document 02, Points 4 and 6: the single moves of a plan, the lists for a controller that lost power among them, and refusal 16.
 
 use super::plan::Pair;
 use super::{Network, Refusal, CLOSED, OPEN};
@@ -16,10 +16,10 @@ impl Move {
     }
 }
 
-/// Of each pair the closing, then the opening.
+/// Of each pair the closings, then the openings, each in list order: "Point 4 counts each switch move".
 pub fn moves(pairs: &[Pair]) -> Vec<Move> {
-    let moves = |pair: &Pair| [Move { switch: pair.closed, byte: CLOSED }, Move { switch: pair.opened, byte: OPEN }];
-    pairs.iter().flat_map(moves).collect()
+    let each = |switches: &[usize], byte| switches.iter().map(|&switch| Move { switch, byte }).collect::<Vec<Move>>();
+    pairs.iter().flat_map(|pair| [each(&pair.closed, CLOSED), each(&pair.opened, OPEN)].concat()).collect()
 }
 
 /// "The remaining moves and those that go back (the done ones inverted, last first)"; 16 is "count above the plan's moves, place 0".

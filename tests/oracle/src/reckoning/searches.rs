@@ -57,12 +57,19 @@ pub enum Slip {
     LoadsByTree,
     QueueOf255,
     PositionsOfSevenBits,
+    LastSwitchDecides,
+    AnyClosedMakesLive,
+    LastSection,
+    ExchangeLiveBesideOpen,
+    TabuLiveBesideOpen,
+    ExhaustiveLiveBesideOpen,
+    TabuPassesBesideOpen,
 }
 
 impl Slip {
     /// No text can show these: the first move leaves a radial state, and every later one keeps its live branches.
-    pub const UNSEEN: [Slip; 2] = [Slip::TabuOneRound, Slip::TabuNothingBarred];
-    pub const ALL: [Slip; 47] = [
+    pub const UNSEEN: [Slip; 3] = [Slip::TabuOneRound, Slip::TabuNothingBarred, Slip::TabuPassesBesideOpen];
+    pub const ALL: [Slip; 53] = [
         Slip::SupplySide,
         Slip::DepthFirst,
         Slip::LoadsBackwards,
@@ -110,11 +117,37 @@ impl Slip {
         Slip::LoadsByTree,
         Slip::QueueOf255,
         Slip::PositionsOfSevenBits,
+        Slip::LastSwitchDecides,
+        Slip::AnyClosedMakesLive,
+        Slip::LastSection,
+        Slip::ExchangeLiveBesideOpen,
+        Slip::TabuLiveBesideOpen,
+        Slip::ExhaustiveLiveBesideOpen,
     ];
 
     /// Whether only a text with the 05 line can show it.
     pub fn needs_line(self) -> bool {
         (Slip::ToSideWithLine as usize..=Slip::LoadsByTree as usize).contains(&(self as usize))
+    }
+
+    /// Whether only a feeder with two switches on a branch can show it.
+    pub fn needs_two_on_branch(self) -> bool {
+        (Slip::LastSwitchDecides as usize..=Slip::TabuPassesBesideOpen as usize).contains(&(self as usize))
+    }
+
+    /// The live branches of a state; by a mistake the last listed switch of a branch decides, or any closed one makes it live.
+    pub fn live(self, network: &Network, state: &[u8]) -> Vec<bool> {
+        let mut live: Vec<bool> = network.branches.iter().map(|branch| branch.in_service).collect();
+        for (k, live) in live.iter_mut().enumerate() {
+            let mut on = network.switches.iter().zip(state).filter(|(s, _)| s.branch == k).map(|(_, &byte)| byte);
+            let closed = match self {
+                Slip::LastSwitchDecides => on.next_back() != Some(OPEN),
+                Slip::AnyClosedMakesLive => on.clone().any(|byte| byte == CLOSED) || on.next().is_none(),
+                _ => return network.live(state),
+            };
+            *live &= closed;
+        }
+        live
     }
 
     /// The fewest buses that a text which shows it has.
@@ -194,7 +227,7 @@ impl<'a> Searches<'a> {
 
     /// The 81 line and the 82 lines.
     pub fn lines(&self, answer: &Answer) -> String {
-        let radial_byte = radial(self.network, &self.network.live(&answer.best)) as u8;
+        let radial_byte = radial(self.network, &self.live(&answer.best)) as u8;
         let first = format!(
             "81{:02X}{:016X}{:016X}{:016X}{:04X}{:02X}\n",
             radial_byte,
@@ -207,11 +240,28 @@ impl<'a> Searches<'a> {
         first + &operations(self.network, &self.network.base(), &answer.best)
     }
 
+    pub fn live(&self, state: &[u8]) -> Vec<bool> {
+        self.slip.map_or_else(|| self.network.live(state), |slip| slip.live(self.network, state))
+    }
+
+    /// The live branches of a state in which some of these switches were closed; a mistake takes no heed of what else is on their branches.
+    fn live_closed(&self, state: &[u8], switches: &[usize], mistake: Slip) -> Vec<bool> {
+        let mut live = self.live(state);
+        for &i in switches.iter().filter(|&&i| self.slips(mistake) && state[i] == CLOSED) {
+            let branch = self.network.switches[i].branch;
+            live[branch] = self.network.branches[branch].in_service;
+        }
+        live
+    }
+
     pub fn loss(&self, state: &[u8]) -> f64 {
+        self.loss_over(state, self.live(state))
+    }
+
+    fn loss_over(&self, state: &[u8], live: Vec<bool>) -> f64 {
         if let Some(loss) = self.other_loss {
             return loss(state);
         }
-        let live = self.network.live(state);
         let base_mva = self.network.base_mva;
         let mut order: Vec<usize> = (0..live.len()).filter(|&k| live[k]).collect();
         if self.slips(Slip::BranchesFall) {
@@ -238,7 +288,7 @@ impl<'a> Searches<'a> {
     fn drawn(&self, state: &[u8], live: &[bool], k: usize) -> (usize, usize) {
         let (from, to) = self.ends(k);
         let Some(supply) = self.supply(state) else { return (from, to) };
-        let in_base = self.slips(Slip::DrawnInBase).then(|| self.network.live(&self.network.base()));
+        let in_base = self.slips(Slip::DrawnInBase).then(|| self.live(&self.network.base()));
         let to_side = self.walk(in_base.as_deref().unwrap_or(live), to, Some(from), false).0;
         if to_side.contains(&supply) != self.slips(Slip::SideOfSupply) {
             (to, from)
@@ -381,7 +431,7 @@ impl<'a> Searches<'a> {
     /// "The first branch whose first operable section switch is closed and whose swap is radial is tried."
     fn trial(&self, state: &[u8], current: f64, tie: usize) -> Option<(Vec<u8>, f64)> {
         let (from, to) = self.ends(self.network.switches[tie].branch);
-        let live = self.network.live(state);
+        let live = self.live(state);
         let mut path =
             if self.slips(Slip::PathFromToBus) { self.path(&live, to, from) } else { self.path(&live, from, to) };
         if self.slips(Slip::BranchOrderOnPath) {
@@ -395,10 +445,11 @@ impl<'a> Searches<'a> {
             let Some(section) = self.section(k).filter(|&i| state[i] == CLOSED) else { continue };
             let mut swapped = state.to_vec();
             (swapped[tie], swapped[section]) = (CLOSED, OPEN);
-            if !radial(self.network, &self.network.live(&swapped)) {
+            let live = self.live_closed(&swapped, &[tie], Slip::ExchangeLiveBesideOpen);
+            if !radial(self.network, &live) {
                 continue;
             }
-            let loss = self.loss(&swapped);
+            let loss = self.loss_over(&swapped, live);
             if self.slips(Slip::NextSection) && !self.improves(loss, current) {
                 continue;
             }
@@ -411,7 +462,10 @@ impl<'a> Searches<'a> {
         let (ties_too, locked_too) = (self.slips(Slip::TiesAsSections), self.slips(Slip::LockedSections));
         let fits =
             |s: &super::Switch| s.branch == branch && (!s.normally_open || ties_too) && (s.can_operate || locked_too);
-        self.network.switches.iter().position(fits)
+        match self.slip {
+            Some(Slip::LastSection) => self.network.switches.iter().rposition(fits),
+            _ => self.network.switches.iter().position(fits),
+        }
     }
 
     fn tabu(&self) -> Found {
@@ -445,10 +499,12 @@ impl<'a> Searches<'a> {
             }
             let mut toggled = state.to_vec();
             toggled[i] = if state[i] == OPEN { CLOSED } else { OPEN };
-            if !radial(self.network, &self.network.live(&toggled)) {
+            let live = self.live_closed(&toggled, &[i], Slip::TabuLiveBesideOpen);
+            let passed = self.slips(Slip::TabuPassesBesideOpen) && self.beside_open(state, i);
+            if !radial(self.network, &live) || (passed && radial(self.network, &self.live(state))) {
                 continue;
             }
-            let loss = self.loss(&toggled);
+            let loss = self.loss_over(&toggled, live);
             if barred.contains(&switch.id) && loss >= best_ever && !self.slips(Slip::TabuNothingBarred) {
                 continue;
             }
@@ -465,6 +521,12 @@ impl<'a> Searches<'a> {
         least
     }
 
+    /// Whether another switch on the branch of this one is open.
+    fn beside_open(&self, state: &[u8], switch: usize) -> bool {
+        let branch = self.network.switches[switch].branch;
+        (0..state.len()).any(|i| i != switch && self.network.switches[i].branch == branch && state[i] == OPEN)
+    }
+
     fn exhaustive(&self) -> Found {
         let ties = self.ties();
         let mut masks: Vec<usize> = (0..1 << ties.len()).collect();
@@ -476,12 +538,13 @@ impl<'a> Searches<'a> {
         let mut radial_states = 0;
         for mask in masks {
             let state = self.masked(&ties, mask);
-            if !radial(self.network, &self.network.live(&state)) {
+            let live = self.live_closed(&state, &ties, Slip::ExhaustiveLiveBesideOpen);
+            if !radial(self.network, &live) {
                 radial_states += self.slips(Slip::CountsAllMasks) as u16;
                 continue;
             }
             radial_states += 1;
-            let loss = self.loss(&state);
+            let loss = self.loss_over(&state, live);
             let wins = match (&best, self.slip) {
                 (None, _) => true,
                 (Some(_), Some(Slip::ExhaustiveFirstRadial)) => false,

@@ -1,4 +1,4 @@
--- `check_switch_list` meets its contract: the first i switches passed, the flags are those of their branch positions, their ties are counted, and their ids are in rows.
+-- `check_switch_list` meets its contract: the first i switches passed, they are counted on their branch positions, their ties are counted, and their ids are in rows.
 use mathlib.Core.Path.{_≡_, refl, sym, _∙_}
 use mathlib.Core.List.{map}
 use Prim.Native.Nat.{_+_, _-_, _≤_, _<_}
@@ -13,22 +13,22 @@ use Rattle.network.specs.Limits.{Head, switchId, on, ties}
 use Rattle.network.specs.Faults.{switchFaults}
 use Rattle.network.specs.TieLaws.{ties-next, ties-so-far}
 use Rattle.ids.specs.PutIds.{Holding, none-held, put-before}
-use Rattle.checks.specs.FaultLaws.{switch-judged, passed-below, flag-more, put-more}
-use Rattle.checks.specs.Flags.{flags}
+use Rattle.checks.specs.FaultLaws.{switch-judged, passed-so, count-more, put-more}
+use Rattle.checks.specs.Counts.{counts}
 use Rattle.network.specs.Records.{noSwitch, listed}
 use Rattle.checks.proofs.check.check_switch_list.Statement.{statement}
 use Rattle.checks.proofs.check.check_switch_list.Tie as tie
 
 abbrev Inv-loop : tie.InvT-loop
-Inv-loop count start branch-count algorithm switches ids₀ first₀ next₀ taken₀ ties₀ place₀ i₀ ids first next taken t place i =
+Inv-loop count start branch-count algorithm switches ids₀ first₀ next₀ counted₀ ties₀ place₀ i₀ ids first next counted t place i =
     (i ≤ count) × (place ≡ start + i)
     × ((h : Head) → h .branches ≡ branch-count → h .algorithm ≡ algorithm → Passed (switchFaults h) start (λ j. getD switches j noSwitch) count place i)
-    × (taken ≡ flags 512 (map on (listed noSwitch switches i)))
+    × (counted ≡ counts 512 (map on (listed noSwitch switches i)))
     × (t ≡ ties (listed noSwitch switches i))
     × Holding i (map switchId (listed noSwitch switches i)) ids first next
 
 abbrev μ-loop : tie.MeasureT-loop
-μ-loop count start branch-count algorithm switches ids₀ first₀ next₀ taken₀ ties₀ place₀ i₀ ids first next taken t place i = count - i
+μ-loop count start branch-count algorithm switches ids₀ first₀ next₀ counted₀ ties₀ place₀ i₀ ids first next counted t place i = count - i
 
 no-switches-requires : tie.Need-no-switches-requires Inv-loop μ-loop
 no-switches-requires c κs = search needs
@@ -49,8 +49,8 @@ wide16-requires c κs = search needs
 position-of-requires : tie.Need-position-of-requires Inv-loop μ-loop
 position-of-requires c κs = search needs
 
-has-flag-requires : tie.Need-has-flag-requires Inv-loop μ-loop
-has-flag-requires c κs = search needs
+switches-on-requires : tie.Need-switches-on-requires Inv-loop μ-loop
+switches-on-requires c κs = search needs
 
 judge-switch-requires : tie.Need-judge-switch-requires Inv-loop μ-loop
 judge-switch-requires c κs = search needs
@@ -67,8 +67,8 @@ judged : (c : tie.After-judge-switch Inv-loop μ-loop)
     (h : Head) → h .branches ≡ a .branch-count → h .algorithm ≡ a .algorithm
     → answerOf (c .judge-switch .result) ≡ judge (switchFaults h (listed noSwitch (a .t1) (loop .loop .i)) (getD (a .t1) (loop .loop .i) noSwitch)) (loop .loop .place)
 judged c h p q =
-    let flagged = c .before in
-    let sought = flagged .before .before in
+    let counted = c .before in
+    let sought = counted .before .before in
     let wide = sought .before .before .before .before in
     let loop = wide .before .before .before in
     let start = loop .before .before in
@@ -76,7 +76,7 @@ judged c h p q =
     let within : loop .loop .i ≤ a .count = omega arith in
     let twice = put-before (loop .loop .inv .5) _ _ _ within (sought .position-of .ensures) in
     c .judge-switch .ensures
-    ∙ switch-judged h _ _ _ _ _ _ _ _ _ _ p q (start .pre .2) twice (flagged .has-flag .ensures) (loop .loop .inv .3) (wide .wide16 .ensures .0) (loop .loop .inv .4)
+    ∙ switch-judged h _ _ _ _ _ _ _ _ _ _ p q (start .pre .2) twice (counted .switches-on .ensures) (loop .loop .inv .3) (wide .wide16 .ensures .0) (loop .loop .inv .4)
 
 returns : tie.Need-returns Inv-loop μ-loop
 returns c h p q =
@@ -84,23 +84,29 @@ returns c h p q =
     let l = b .before .before .before .before .before .before .before .before .before in
     passed-refused _ _ _ _ (l .before .loop .inv .2 h p q) (l .loop-test .taken) _ (judged b h p q) _ _ (c .enum-told2 .given .1)
 
--- a switch that passed is on a branch
-below-512 : (c : tie.After-enum-told Inv-loop μ-loop) → c .before .before .before .before .before .before .before .before .before .wide16 .result < 512
-below-512 c =
+-- a switch that passed is on a branch, and at most one before it is
+passed-switch : (c : tie.After-enum-told Inv-loop μ-loop)
+    → let counted = c .before .before .before in
+    (counted .before .before .before .before .before .before .wide16 .result < 512) × (counted .switches-on .result < 2)
+passed-switch c =
     let b = c .before .before in
     let w = b .before .before .before .before .before .before .before in
     let loop = w .before .before .before in
     let a = loop .before .before .args in
-    let below : getD (a .t1) (loop .loop .i) noSwitch .«branch_idx» < a .branch-count = passed-below _ (getD (a .t1) (loop .loop .i) noSwitch) (a .branch-count) (a .algorithm) _ _ (loop .loop .ties) (loop .loop .place) (c .enum-told .given .1) (b .judge-switch .ensures) in
-    omega (arith, w .wide16 .ensures .0)
+    let s = getD (a .t1) (loop .loop .i) noSwitch in
+    let so = passed-so _ s (a .branch-count) (a .algorithm) _ (b .before .switches-on .result) (loop .loop .ties) (loop .loop .place) (c .enum-told .given .1) (b .judge-switch .ensures) in
+    (omega (arith, w .wide16 .ensures .0, so .0), so .1)
 
 put-id-requires : tie.Need-put-id-requires Inv-loop μ-loop
 put-id-requires c κs =
     let held = c .before .before .before .before .before .before .before .before .before .before .before .before .before .before .before .loop .inv .5 in
     (held .ids-long, held .first-long, held .next-long, omega arith)
 
-array-write-taken : tie.Need-array-write-taken Inv-loop μ-loop
-array-write-taken c = below-512 (c .before .before .before .before)
+add-counted : tie.Need-add-counted Inv-loop μ-loop
+add-counted c = omega (arith, passed-switch (c .before .before .before .before) .1)
+
+array-write-counted : tie.Need-array-write-counted Inv-loop μ-loop
+array-write-counted c = passed-switch (c .before .before .before .before) .0
 
 ties-with-requires : tie.Need-ties-with-requires Inv-loop μ-loop
 ties-with-requires c κs =
@@ -127,7 +133,7 @@ loop-again c =
       omega arith,
       omega arith,
       λ h p q. passed-more _ _ _ _ (loop .inv .2 h p q) (l .loop-test .taken) _ (judged b h p q) (e .enum-told .given .1),
-      flag-more on _ _ _ _ _ _ refl (loop .inv .3) (w .wide16 .ensures .0, below-512 e),
+      count-more _ _ _ _ _ _ refl (loop .inv .3) (w .wide16 .ensures .0, passed-switch e .0) (b .before .switches-on .ensures),
       c .ties-with .ensures ∙ ties-next _ _ _ (loop .inv .4),
       put-more switchId _ _ (loop .inv .5) (omega arith) _ refl (put .put-id .ensures .0) (put .put-id .ensures .1) (put .put-id .ensures .2),
     )
@@ -147,13 +153,14 @@ check-switch-list-spec =
     array-copy-out-switch
     wide16-requires
     position-of-requires
-    has-flag-requires
+    switches-on-requires
     judge-switch-requires
     enum-told
     enum-told-2
     returns
     put-id-requires
-    array-write-taken
+    add-counted
+    array-write-counted
     ties-with-requires
     add-place
     add-i

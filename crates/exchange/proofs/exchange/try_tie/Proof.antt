@@ -1,4 +1,4 @@
--- `try_tie` meets its contract: the first swap along the path by the rows, with the tie's branch live where it is in service.
+-- `try_tie` meets its contract: the first swap along the path by the rows, with the tie's branch live where closing it makes it live.
 use mathlib.Core.Path.{ap, _∙_}
 use lib.ListN.{take, set}
 use borrow.Author.Needs.{needs}
@@ -35,8 +35,8 @@ returns c =
     let swaps = rowSwap (start .args .graph) (start .args .sections .now) (start .args .state .now) in
     let path = found .find-loop-branches-closed-tie .result in
     c .first-swap .ensures
-    ∙ ap (λ k. sectionAt (firstSome (swaps (set (start .args .live) k (start .args .in-service))) (take (path .count) (path .branch)))) (at .wide16 .ensures .0)
-    ∙ ap (λ l. sectionAt (firstSome (swaps (set (start .args .live) (start .args .branch) (start .args .in-service))) l)) (path-list _ path (found .find-loop-branches-closed-tie .ensures))
+    ∙ ap (λ k. sectionAt (firstSome (swaps (set (start .args .live) k (start .args .made-live))) (take (path .count) (path .branch)))) (at .wide16 .ensures .0)
+    ∙ ap (λ l. sectionAt (firstSome (swaps (set (start .args .live) (start .args .branch) (start .args .made-live))) l)) (path-list _ path (found .find-loop-branches-closed-tie .ensures))
 
 pub try-tie-spec : {M : Type 1} → statement M
 try-tie-spec =

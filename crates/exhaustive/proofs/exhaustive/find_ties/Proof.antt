@@ -1,19 +1,15 @@
 -- `find_ties` meets its contract: the ties among the first i switches are listed; the step is `tie-listed` or `section-skipped`.
-use mathlib.Core.Path.{_≡_, refl, sym, ap, _∙_}
+use mathlib.Core.Path.{_≡_, sym, ap, _∙_}
 use mathlib.Core.Logic.{⊎-elim}
 use Prim.Native.Nat.{_≤_, _<_, _-_}
 use native.Mathlib.Omega.{arith}
 use borrow.Author.Needs.{needs}
-use lib.ListN.{getD}
 use Rattle.numbers.specs.Counts.{count}
-use Rattle.network.specs.ReadLaws.{pastBranch}
-use Rattle.network.specs.Records.{noSwitch, recordsOf}
-use Rattle.network.proofs.ArrayLengths.{branches-512}
-use Rattle.states.specs.Listed.{few-switches, switches-listed}
+use Rattle.network.specs.Records.{recordsOf}
+use Rattle.states.specs.Listed.{few-switches, switches-listed, switch-at}
 use Rattle.states.specs.Switches.{size, isTie}
 use Rattle.exhaustive.specs.ExhaustiveValues.{tiesOf}
 use Rattle.exhaustive.specs.ExhaustiveTies.{tie-room, tie-listed, section-skipped}
-use Rattle.searches.specs.SwitchReads.{SwitchAt, on-branch, switch-read, own-switch, own-status}
 use Rattle.exhaustive.proofs.exhaustive.find_ties.Statement.{statement}
 use Rattle.exhaustive.proofs.exhaustive.find_ties.Tie as tie
 
@@ -41,43 +37,20 @@ element-copy-out-switch c =
     let start = c .before .before .before .before in
     omega (arith, few-switches (start .args .t1) (start .pre .0))
 
-wide16-requires-2 : tie.Need-wide16-requires-2 Inv-loop μ-loop
-wide16-requires-2 c κs = search needs
-
 is-tie-requires : tie.Need-is-tie-requires Inv-loop μ-loop
 is-tie-requires c κs = search needs
 
-mul-with : tie.Need-mul-with Inv-loop μ-loop
-mul-with c = search needs
-
-element-copy-out-with : tie.Need-element-copy-out-with Inv-loop μ-loop
-element-copy-out-with c =
-    let read = c .before .before in
-    let loop = read .before .before .before in
-    let start = loop .before .before .before in
-    omega (arith, read .wide162 .ensures .0, on-branch (start .args .t1) (start .pre .0) (loop .loop .i) (omega arith) _ refl)
-
--- switch i, and the status of its branch
-here : (c : tie.After-wide162 Inv-loop μ-loop)
-    → let loop = c .before .before .before in
-    let n = loop .before .before .before .args .t1 in
-    SwitchAt n (loop .loop .i) (getD (n .switches) (loop .loop .i) noSwitch) (getD (n .branches) (c .wide162 .result) pastBranch .status)
-here c =
+-- whether switch i is a tie
+tie-here : (c : tie.After-is-tie Inv-loop μ-loop) → let loop = c .before .before .before in isTie (recordsOf (loop .before .before .before .args .t1)) (loop .loop .i) ≡ c .is-tie .result
+tie-here c =
     let loop = c .before .before .before in
     let start = loop .before .before .before in
-    let n = start .args .t1 in
-    switch-read n (start .pre .0) (loop .loop .i) (omega arith) _ refl (branches-512 n (start .good .0)) _ (c .wide162 .ensures .0)
-
--- whether it is a tie
-tie-here : (c : tie.After-is-tie Inv-loop μ-loop) → let loop = c .before .before .before .before in isTie (recordsOf (loop .before .before .before .args .t1)) (loop .loop .i) ≡ c .is-tie .result
-tie-here c =
-    let start = c .before .before .before .before .before .before .before in
-    ap (λ w. w .«normally_open») (own-switch (start .args .t1) (start .pre .0) _ _ _ (here (c .before))) ∙ sym (c .is-tie .ensures)
+    ap (λ w. w .«normally_open») (switch-at (start .args .t1) (loop .loop .i) (omega arith)) ∙ sym (c .is-tie .ensures)
 
 with-requires : tie.Need-with-requires Inv-loop μ-loop
 with-requires c κs =
     let asked = c .before in
-    let loop = asked .before .before .before .before in
+    let loop = asked .before .before .before in
     let start = loop .before .before .before in
     let n = start .args .t1 in
     let listed : loop .loop .i < size (recordsOf n) = omega (arith, switches-listed n) in
@@ -93,17 +66,16 @@ loop-less c = search needs
 loop-again : tie.Need-loop-again Inv-loop μ-loop
 loop-again c =
     let asked = c .before in
-    let loop = asked .before .before .before .before in
+    let loop = asked .before .before .before in
     let start = loop .before .before .before in
     let n = start .args .t1 in
     let i = loop .loop .i in
-    let at = here (asked .before) in
     let listed : i < size (recordsOf n) = omega (arith, switches-listed n) in (
       omega arith,
       ⊎-elim
           (λ w. w .2 ∙ w .1 .ensures
-          ∙ tie-listed (recordsOf n) i listed (tie-here asked ∙ w .0 .taken) (tie-room (recordsOf n) i listed (tie-here asked ∙ w .0 .taken) (start .pre .1)) _ (loop .loop .inv .1) _ _
-          (sym (ap (λ v. v .«branch_idx») (own-switch n (start .pre .0) _ _ _ at))) (sym (own-status n (start .pre .0) _ _ _ at)))
+          ∙ tie-listed (recordsOf n) i listed (tie-here asked ∙ w .0 .taken) (tie-room (recordsOf n) i listed (tie-here asked ∙ w .0 .taken) (start .pre .1)) _ (loop .loop .inv .1) _
+          (sym (ap (λ v. v .«branch_idx») (switch-at n i (omega arith)))))
           (λ w. w .1 ∙ section-skipped (recordsOf n) i (tie-here asked ∙ w .0 .left) _ (loop .loop .inv .1))
           (c .if1 .came),
     )
@@ -127,10 +99,7 @@ find-ties-spec =
     loop-holds
     mul-switch
     element-copy-out-switch
-    wide16-requires-2
     is-tie-requires
-    mul-with
-    element-copy-out-with
     with-requires
     add-i
     loop-less

@@ -24,14 +24,13 @@ returns c =
     none-made _ _ _ (t .enum-told2 .given .1) (verdict-so _ _ _ (told .result) (told .ensures)) (c .new .ensures)
 
 pairs-of-requires : tie.Need-pairs-of-requires
-pairs-of-requires c κs = (_, _, accepted-passed _ (c .enum-told .given .1) (c .before .before .check-plan .ensures))
+pairs-of-requires c κs = accepted-passed _ (c .enum-told .given .1) (c .before .before .check-plan .ensures)
 
 returns-2 : tie.Need-returns-2
 returns-2 c =
     let t = c .before in
     let told = t .before .before .check-plan in
-    let given = accepted-passed _ (t .enum-told .given .1) (told .ensures) in
-    plan-made _ _ _ (t .enum-told .given .1) (verdict-so _ _ _ (told .result) (told .ensures)) (c .pairs-of .ensures .1 _ _ given)
+    plan-made _ _ _ (t .enum-told .given .1) (verdict-so _ _ _ (told .result) (told .ensures)) (c .pairs-of .ensures)
 
 pub made-plan-spec : {M : Type 1} → statement M
 made-plan-spec =

@@ -1,8 +1,8 @@
 -- `resume` meets its contract: it is refused, has too few moves, has no room in either slice, or writes both lists.
 use mathlib.Core.Path.{refl}
 use borrow.Author.Needs.{needs}
-use Rattle.plan.specs.MadePlanLaws.{made-answer, made-few}
-use Rattle.resumption.proofs.Answering.{not-accepted, too-many, remaining-short, back-short, both-written}
+use Rattle.plan.specs.MadePlanLaws.{made-answer}
+use Rattle.resumption.proofs.Answering.{not-accepted, moves-room, too-many, remaining-short, back-short, both-written}
 use Rattle.resumption.proofs.resume.resume.Statement.{statement}
 use Rattle.resumption.proofs.resume.resume.Tie as tie
 
@@ -18,7 +18,7 @@ enum-told c = search needs
 moves-of-requires : tie.Need-moves-of-requires
 moves-of-requires c κs =
     let m = c .before .before .made-plan in
-    made-few _ _ _ (m .result) (m .ensures) (c .enum-told .given .1)
+    moves-room _ _ _ (m .result) (m .ensures) (c .enum-told .given .1)
 
 cast-if1 : tie.Need-cast-if1
 cast-if1 c = search needs

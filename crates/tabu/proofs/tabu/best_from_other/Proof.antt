@@ -5,32 +5,34 @@ use mathlib.Core.Bool.{false}
 use mathlib.Core.Option.{none}
 use Prim.Native.Nat.{_≤_, _<_, _-_}
 use native.Mathlib.Omega.{arith}
-use lib.ListN.{length, getD}
+use lib.ListN.{length}
 use borrow.Author.Needs.{needs}
 use Rattle.numbers.specs.UpTo.{upTo}
-use Rattle.network.specs.ReadLaws.{pastBranch}
-use Rattle.network.specs.Records.{noSwitch, recordsOf}
+use Rattle.network.specs.Records.{recordsOf}
 use Rattle.network.proofs.ArrayLengths.{branches-512, buses-256}
 use Rattle.states.specs.Listed.{few-switches, switches-listed}
 use Rattle.feeders.specs.FeederRowLaws.{flags-radial}
 use Rattle.searches.specs.StateRows.{flags-loss}
 use Rattle.states.specs.Switches.{size, toggled}
-use Rattle.searches.specs.SwitchReads.{SwitchAt, on-branch, switch-read}
+use Rattle.searches.specs.SwitchReads.{on-branch}
 use Rattle.tabu.specs.Tabu.{Tabu, seeing, bestMove}
-use Rattle.tabu.specs.TabuMoves.{seen-more, see-not-radial, see-not-served, see-served, toggled-flags}
+use Rattle.tabu.specs.TabuMoves.{seen-more, see-not-radial, decides-read, see-undecided, see-turning, toggled-flags}
 use Rattle.tabu.specs.TabuValues.{candidateOf, Stands}
 use Rattle.tabu.proofs.tabu.best_from_other.Statement.{statement}
 use Rattle.tabu.proofs.tabu.best_from_other.Tie as tie
 
 abbrev Inv-loop : tie.InvT-loop
-Inv-loop graph loads search network configuration live branches base-mva count best₀ i₀ best i =
+Inv-loop graph loads search network configuration live counts branches base-mva count best₀ i₀ best i =
     (i ≤ count) × ((x : Tabu) → Stands network search x → search .radial ≡ false → best ≡ candidateOf (search .configuration) (upTo (seeing (recordsOf network) x) none i))
 
 abbrev μ-loop : tie.MeasureT-loop
-μ-loop graph loads search network configuration live branches base-mva count best₀ i₀ best i = count - i
+μ-loop graph loads search network configuration live counts branches base-mva count best₀ i₀ best i = count - i
 
 live-branches-requires : tie.Need-live-branches-requires Inv-loop μ-loop
 live-branches-requires c κs = search needs
+
+open-counts-requires : tie.Need-open-counts-requires Inv-loop μ-loop
+open-counts-requires c κs = search needs
 
 wide16-requires : tie.Need-wide16-requires Inv-loop μ-loop
 wide16-requires c κs = search needs
@@ -46,12 +48,12 @@ mul-switch : tie.Need-mul-switch Inv-loop μ-loop
 mul-switch c = search needs
 
 -- switch i is listed, and so it has a byte
-listed : (c : tie.In-loop Inv-loop μ-loop) → c .before .loop .i < c .before .before .before .before .before .before .before .args .t1 .«switch_count»
+listed : (c : tie.In-loop Inv-loop μ-loop) → c .before .loop .i < c .before .before .before .before .before .before .before .before .args .t1 .«switch_count»
 listed c = omega (arith, c .loop-test .taken, c .before .before .before .wide16 .ensures .0)
 
 inside : (c : tie.In-loop Inv-loop μ-loop) → c .before .loop .i < 512
 inside c =
-    let start = c .before .before .before .before .before .before .before in
+    let start = c .before .before .before .before .before .before .before .before in
     omega (arith, listed c, few-switches (start .args .t1) (start .pre .0 .0))
 
 element-copy-out-switch : tie.Need-element-copy-out-switch Inv-loop μ-loop
@@ -60,27 +62,36 @@ element-copy-out-switch c = inside c
 wide16-requires-2 : tie.Need-wide16-requires-2 Inv-loop μ-loop
 wide16-requires-2 c κs = search needs
 
-mul-is-served : tie.Need-mul-is-served Inv-loop μ-loop
-mul-is-served c = search needs
+element-copy-out-byte : tie.Need-element-copy-out-byte Inv-loop μ-loop
+element-copy-out-byte c = inside (c .before .before)
+
+mul-decides-branch : tie.Need-mul-decides-branch Inv-loop μ-loop
+mul-decides-branch c = search needs
 
 -- its branch has a flag
 within : (c : tie.After-wide162 Inv-loop μ-loop) → c .wide162 .result < 512
 within c =
     let goes = c .before .before in
-    let start = goes .before .before .before .before .before .before .before in
+    let start = goes .before .before .before .before .before .before .before .before in
     omega (arith, c .wide162 .ensures .0, on-branch (start .args .t1) (start .pre .0 .0) (goes .before .loop .i) (listed goes) _ refl)
 
-element-copy-out-is-served : tie.Need-element-copy-out-is-served Inv-loop μ-loop
-element-copy-out-is-served c = within c
+element-copy-out-decides-branch : tie.Need-element-copy-out-decides-branch Inv-loop μ-loop
+element-copy-out-decides-branch c = within (c .before)
 
-is-served-requires : tie.Need-is-served-requires Inv-loop μ-loop
-is-served-requires c κs = search needs
+mul-decides-branch-2 : tie.Need-mul-decides-branch-2 Inv-loop μ-loop
+mul-decides-branch-2 c = search needs
 
-element-copy-out-toggled-live : tie.Need-element-copy-out-toggled-live Inv-loop μ-loop
-element-copy-out-toggled-live c = inside (c .before .before .before .before)
+array-read-decides-branch : tie.Need-array-read-decides-branch Inv-loop μ-loop
+array-read-decides-branch c = within (c .before)
+
+decides-branch-requires : tie.Need-decides-branch-requires Inv-loop μ-loop
+decides-branch-requires c κs = search needs
+
+is-deciding-requires : tie.Need-is-deciding-requires Inv-loop μ-loop
+is-deciding-requires c κs = search needs
 
 toggled-live-requires : tie.Need-toggled-live-requires Inv-loop μ-loop
-toggled-live-requires c κs = within (c .before .before .before)
+toggled-live-requires c κs = within (c .before .before .before .before)
 
 is-radial-requires : tie.Need-is-radial-requires Inv-loop μ-loop
 is-radial-requires c κs = search needs
@@ -90,8 +101,8 @@ live-loss-requires c κs = search needs
 
 see-toggle-requires : tie.Need-see-toggle-requires Inv-loop μ-loop
 see-toggle-requires c κs =
-    let goes = c .before .before .before .before .before .before .before .before .before in
-    (goes .before .before .before .before .before .before .before .pre .1, inside goes)
+    let goes = c .before .before .before .before .before .before .before .before .before .before in
+    (goes .before .before .before .before .before .before .before .before .pre .1, inside goes)
 
 add-i : tie.Need-add-i Inv-loop μ-loop
 add-i c = search needs
@@ -99,53 +110,44 @@ add-i c = search needs
 loop-less : tie.Need-loop-less Inv-loop μ-loop
 loop-less c = search needs
 
--- switch i, and the status of its branch
-here : (c : tie.After-wide162 Inv-loop μ-loop)
-    → let loop = c .before .before .before in
-    let n = loop .before .before .before .before .before .before .args .t1 in
-    SwitchAt n (loop .loop .i) (getD (n .switches) (loop .loop .i) noSwitch) (getD (n .branches) (c .wide162 .result) pastBranch .status)
-here c =
-    let goes = c .before .before in
-    let start = goes .before .before .before .before .before .before .before in
-    let n = start .args .t1 in
-    switch-read n (start .pre .0 .0) (goes .before .loop .i) (listed goes) _ refl (branches-512 n (start .good .0)) _ (c .wide162 .ensures .0)
-
 sized : (c : tie.Start Inv-loop μ-loop) → length (c .args .t1 .buses) ≡ 256
 sized c = buses-256 (c .args .t1) (c .good .0)
 
 loop-again : tie.Need-loop-again Inv-loop μ-loop
 loop-again c =
     let asked = c .before in
-    let read = asked .before in
+    let told = asked .before in
+    let read = told .before .before in
     let loop = read .before .before .before in
     let made = loop .before .before .before .before in
-    let start = made .before .before in
+    let start = made .before .before .before in
     let n = start .args .t1 in
     let y = start .args .search in
     let given = start .pre .0 in
     let i = loop .loop .i in
-    let at = here read in
-    let served = sym (asked .is-served .ensures) in (
+    let below = listed (read .before .before) in
+    let deciding = sym (asked .is-deciding .ensures) in (
       omega arith,
       λ x s r.
           let so-far = loop .loop .inv .1 x s r in
           let t = toggled (x .state) i in
+          let decided = told .decides-branch .ensures ∙ decides-read n y x s (given .0) i below _ refl (branches-512 n (start .good .0)) _ (made .open-counts .ensures) _ (read .wide162 .ensures .0) in
           seen-more _ _ _ _ _
           (⊎-elim
           (λ w.
-          let can = served ∙ w .0 .taken in
-          let flags = w .2 .ensures ∙ toggled-flags n y x s (given .0) i _ _ at can _ (made .live-branches .ensures) _ (read .wide162 .ensures .0) in
-          let radial = flags-radial n (sized start) (given .0) t _ _ (given .1) flags _ (w .3 .ensures) in
-          let so = sym radial ∙ w .4 .taken in
-          let loss = flags-loss n (sized start) given t (λ _ _. so) flags _ (w .5 .ensures) in
-          w .7 ∙ see-served n y x s (given .0) i _ _ at _ _ so-far _ can so _ loss (w .6 .ensures))
+          let can = deciding ∙ w .0 .taken in
+          let flags = w .1 .ensures ∙ toggled-flags n y x s (given .0) i below _ refl _ decided can _ (made .before .live-branches .ensures) _ (read .wide162 .ensures .0) in
+          let radial = flags-radial n (sized start) (given .0) t _ _ (given .1) flags _ (w .2 .ensures) in
+          let so = sym radial ∙ w .3 .taken in
+          let loss = flags-loss n (sized start) given t (λ _ _. so) flags _ (w .4 .ensures) in
+          w .6 ∙ see-turning n y x s (given .0) i below _ refl _ decided _ _ so-far _ can so _ loss (w .5 .ensures))
           (⊎-elim
           (λ w.
-          let can = served ∙ w .0 .taken in
-          let flags = w .2 .ensures ∙ toggled-flags n y x s (given .0) i _ _ at can _ (made .live-branches .ensures) _ (read .wide162 .ensures .0) in
-          let radial = flags-radial n (sized start) (given .0) t _ _ (given .1) flags _ (w .3 .ensures) in
-          w .5 ∙ see-not-radial n y x s (given .0) i _ _ at _ _ so-far (sym radial ∙ w .4 .left))
-          (λ w. w .1 ∙ see-not-served n y x s (given .0) i _ _ at _ _ so-far r (served ∙ w .0 .left)))
+          let can = deciding ∙ w .0 .taken in
+          let flags = w .1 .ensures ∙ toggled-flags n y x s (given .0) i below _ refl _ decided can _ (made .before .live-branches .ensures) _ (read .wide162 .ensures .0) in
+          let radial = flags-radial n (sized start) (given .0) t _ _ (given .1) flags _ (w .2 .ensures) in
+          w .4 ∙ see-not-radial n y x s (given .0) i below _ refl _ decided _ _ so-far (sym radial ∙ w .3 .left))
+          (λ w. w .1 ∙ see-undecided n y x s (given .0) i below _ refl _ decided _ _ so-far r (deciding ∙ w .0 .left)))
           (c .if1 .came)),
     )
 
@@ -153,7 +155,7 @@ returns : tie.Need-returns Inv-loop μ-loop
 unfolding bestMove
 returns c =
     let loop = c .before in
-    let start = loop .before .before .before .before .before .before in
+    let start = loop .before .before .before .before .before .before .before in
     let n = start .args .t1 in
     let all : loop .loop .i ≡ size (recordsOf n) = omega (arith, switches-listed n) in
     λ x s r. loop .loop .inv .1 x s r ∙ ap (λ m. candidateOf (start .args .search .configuration) (upTo (seeing (recordsOf n) x) none m)) all
@@ -165,16 +167,20 @@ best-from-other-spec =
     Inv-loop
     μ-loop
     live-branches-requires
+    open-counts-requires
     wide16-requires
     no-candidate-requires
     loop-holds
     mul-switch
     element-copy-out-switch
     wide16-requires-2
-    mul-is-served
-    element-copy-out-is-served
-    is-served-requires
-    element-copy-out-toggled-live
+    element-copy-out-byte
+    mul-decides-branch
+    element-copy-out-decides-branch
+    mul-decides-branch-2
+    array-read-decides-branch
+    decides-branch-requires
+    is-deciding-requires
     toggled-live-requires
     is-radial-requires
     live-loss-requires

@@ -25,8 +25,8 @@ add-self c = search needs
 returns : tie.Need-returns
 returns c =
     let a = c .before .args .t1 in
-    let l : length (a .ids) ≡ 1024 = search needs in
-    let m : length (a .opens) ≡ 1024 = search needs in
+    let l : length (a .ids) ≡ 512 = search needs in
+    let m : length (a .opens) ≡ 512 = search needs in
     move-more _ _ _ _ _ _ (c .wide16 .ensures .0) (omega (arith, c .before .pre)) (omega (arith, c .before .pre))
 
 pub with-spec : {M : Type 1} → statement M

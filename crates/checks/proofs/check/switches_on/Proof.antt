@@ -1,8 +1,8 @@
--- `has_flag` meets its contract.
+-- `switches_on` meets its contract.
 use borrow.Author.Needs.{needs}
 use borrow.Author.Tests.{lt-ltb, le-ltb}
-use Rattle.checks.proofs.check.has_flag.Statement.{statement}
-use Rattle.checks.proofs.check.has_flag.Tie as tie
+use Rattle.checks.proofs.check.switches_on.Statement.{statement}
+use Rattle.checks.proofs.check.switches_on.Tie as tie
 
 element-copy-out-result : tie.Need-element-copy-out-result
 element-copy-out-result c = search needs
@@ -13,5 +13,5 @@ returns c = rw (lt-ltb _ _ (c .before .if1 .taken))
 returns-2 : tie.Need-returns-2
 returns-2 c = rw (le-ltb _ _ (c .if1 .left))
 
-pub has-flag-spec : {M : Type 1} → statement M
-has-flag-spec = tie.close (tie.spec element-copy-out-result returns returns-2)
+pub switches-on-spec : {M : Type 1} → statement M
+switches-on-spec = tie.close (tie.spec element-copy-out-result returns returns-2)
