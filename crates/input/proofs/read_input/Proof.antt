@@ -5,9 +5,9 @@ use native.Mathlib.Omega.{arith}
 use lib.ListN.{length, take, drop, length-take, length-drop}
 use borrow.Author.Needs.{needs}
 use borrow.Rule.Slice.PartMut.{putMid}
-use Rattle.feeder.proofs.Laws.{counts}
-use Rattle.feeder.proofs.read_input.Statement.{statement}
-use Rattle.feeder.proofs.read_input.Tie as tie
+use Rattle.input.specs.CountLaws.{counts}
+use Rattle.input.proofs.read_input.Statement.{statement}
+use Rattle.input.proofs.read_input.Tie as tie
 
 abbrev Inv-loop : tie.InvT-loop
 Inv-loop room₀ count₀ room count = (count ≤ length room) × (length room ≡ length room₀)
