@@ -22,7 +22,7 @@
 extern "C" {
 #endif
 
-#define FEEDER_VERSION "0.8"
+#define FEEDER_VERSION "0.9"
 
 /* What a text may list, how many of its switches may be on one branch, how many iterations its head may ask for, and how many of its switches may be normally
  * open with method 02. */
@@ -66,31 +66,37 @@ extern "C" {
 #define FEEDER_PAIR_LENGTH (FEEDER_PAIR_HEAD_LENGTH + 2 * FEEDER_MAX_SWITCHES_ON_BRANCH * FEEDER_ID_LENGTH)
 #define FEEDER_MOVE_LENGTH 9
 
+/* Bytes of an 87 line, which feeder_repair_text writes. */
+#define FEEDER_DROPPED_LENGTH 9
+
 /* Bytes of out that are enough for every text and every state: for feeder_operations; for feeder_plan (3833), as a plan has fewer pairs than there are buses and moves
  * no switch twice; for either slice of feeder_resume (4608, a move for each switch); for feeder_answer_text (8511); for feeder_write_text (27436, the longest
- * accepted text). FEEDER_MAX_SWITCHES are enough for feeder_base_state and feeder_solve. */
+ * accepted text); for feeder_repair_text (27436 too: a dropped line's 87 line is shorter than the line). FEEDER_MAX_SWITCHES are enough for feeder_base_state and
+ * feeder_solve. */
 #define FEEDER_OPERATIONS_LENGTH (FEEDER_MAX_SWITCHES * FEEDER_OPERATION_LENGTH)
 #define FEEDER_PLAN_LENGTH ((FEEDER_MAX_BUSES - 1) * FEEDER_PAIR_HEAD_LENGTH + FEEDER_MAX_SWITCHES * FEEDER_ID_LENGTH)
 #define FEEDER_MOVES_LENGTH (FEEDER_MAX_SWITCHES * FEEDER_MOVE_LENGTH)
 #define FEEDER_TEXT_LENGTH (FEEDER_ANSWER_LENGTH + FEEDER_FORM_LENGTH + FEEDER_OPERATIONS_LENGTH + FEEDER_PLAN_LENGTH)
 #define FEEDER_FRAMES_LENGTH FEEDER_LONGEST_TEXT
+#define FEEDER_REPAIR_LENGTH FEEDER_LONGEST_TEXT
 
 /* Bytes of stack that each call needs, the same for three buses and for 256: measured to 64 bytes on a stack that ends at a page which faults
  * (tests/interface/stack.c, which fails where a call needs more), on what `rt staticlib controller` writes; tested, not proved. FEEDER_STACK is for a thread
  * that makes any of the calls: the greatest of them and a quarter, in whole pages. */
-#define FEEDER_RADIALITY_STACK 179520
-#define FEEDER_FORM_STACK 179520
-#define FEEDER_LOSS_STACK 201600
-#define FEEDER_PLAN_STACK 182656
-#define FEEDER_RESUME_STACK 198144
-#define FEEDER_ANSWER_TEXT_STACK 224640
-#define FEEDER_BASE_STATE_STACK 195456
-#define FEEDER_SOLVE_STACK 179584
-#define FEEDER_OPERATIONS_STACK 179520
-#define FEEDER_WRITE_TEXT_STACK 207040
-#define FEEDER_STACK 282624
+#define FEEDER_RADIALITY_STACK 186176
+#define FEEDER_FORM_STACK 186176
+#define FEEDER_LOSS_STACK 225664
+#define FEEDER_PLAN_STACK 201664
+#define FEEDER_RESUME_STACK 220160
+#define FEEDER_ANSWER_TEXT_STACK 228224
+#define FEEDER_BASE_STATE_STACK 202112
+#define FEEDER_SOLVE_STACK 186240
+#define FEEDER_OPERATIONS_STACK 186176
+#define FEEDER_WRITE_TEXT_STACK 213696
+#define FEEDER_REPAIR_TEXT_STACK 266816
+#define FEEDER_STACK 335872
 
-/* The refusals, as docs/INTERFACE.md has them. The place of 1 to 9, 14 and 15 is the text's line, from 1: the first faulty line is answered, and of its numbers the lowest (2
+/* The refusals, as docs/INTERFACE.md has them. The place of 1 to 9, 14, 15 and 17 is the text's line, from 1: the first faulty line is answered, and of its numbers the lowest (2
  * where it is over 36 characters). The place of 10 and 11 is 0 for the present, first or only state and 1 for the wanted or second one; that of 12 is the
  * switch's id, the first in list order; that of 16 and of 13 is 0. A faulty text comes before 10, and then the order is 10, 11, 12, 16, 13. Records in bytes are
  * refused as their text is, so with its line: the head's is 1, the first bus's 2. They are never refused with 1: their lines are ended and have two digits for a
@@ -111,7 +117,8 @@ enum feeder_refusal {
     FEEDER_NO_ROOM = 13,           /* out is shorter than the answer, or either slice of a resumed plan than its moves */
     FEEDER_SUPPLY_NOT_LISTED = 14, /* the supply is the id of no bus that is listed */
     FEEDER_BASE_NOT_RADIAL = 15,   /* a supply is named, and the base isn't radial */
-    FEEDER_TOO_MANY_MOVES = 16     /* more moves are said to be done than the plan has */
+    FEEDER_TOO_MANY_MOVES = 16,    /* more moves are said to be done than the plan has */
+    FEEDER_OWN_LOOP = 17           /* a branch leads from a bus to itself; feeder_repair_text drops such branches from a stored text */
 };
 
 /* number 0: not refused, and value is what was asked for (place is 0). Else number is an enum feeder_refusal, place is its place, and value is 0. */
@@ -135,7 +142,7 @@ struct feeder_solved {
 
 /* A call that is lent out writes its bytes to the front of it; what is behind them stays. A refusal writes nothing. So it is with remaining and back. */
 
-/* Is the state radial? value is 1 or 0. Refusals 1 to 10, 14 and 15. */
+/* Is the state radial? value is 1 or 0. Refusals 1 to 10, 14, 15 and 17. */
 struct feeder_answer feeder_radiality(const uint8_t *text, size_t text_length, const uint8_t *state, size_t state_length);
 
 /* What the live branches of the state are: a tree, a loop, or islands and no loop. value is islands * 65536 + branch, to be taken apart so:
@@ -143,12 +150,12 @@ struct feeder_answer feeder_radiality(const uint8_t *text, size_t text_length, c
  *     islands = value / 65536     the connected pieces minus one, beside a loop too; 0 for no buses
  *     branch  = value % 65536     the position, from 0, of the first live branch whose ends the live branches before it already join; 65535 where there is no loop
  *
- * value is FEEDER_TREE, no islands and no loop, exactly where feeder_radiality's is 1. Refusals 1 to 10, 14 and 15. */
+ * value is FEEDER_TREE, no islands and no loop, exactly where feeder_radiality's is 1. Refusals 1 to 10, 14, 15 and 17. */
 #define FEEDER_TREE 65535
 struct feeder_answer feeder_form(const uint8_t *text, size_t text_length, const uint8_t *state, size_t state_length);
 
 /* The loss of the state in MW: value is the bits of a double. Of a branch it counts the load on the side of its to bus, and the state need not be radial; where the text names
- * the supply it counts the load on the side away from it, and a state that isn't radial is 11. Refusals 1 to 11, 14 and 15. */
+ * the supply it counts the load on the side away from it, and a state that isn't radial is 11. Refusals 1 to 11, 14, 15 and 17. */
 struct feeder_answer feeder_loss(const uint8_t *text, size_t text_length, const uint8_t *state, size_t state_length);
 
 /* The plan from the present state to the wanted one: value is the number of pairs. In out stands an 86 line for each pair: "86", how many switches it closes (2
@@ -159,7 +166,7 @@ struct feeder_answer feeder_loss(const uint8_t *text, size_t text_length, const 
  *     to undo it            close the opened ids from the last to the first, then open the closed ids from the last to the first
  *
  * Lines are carried out from the first on, and undone from the last that was done. A run may stop or turn round between whole lines: there the feeder is radial. Who is stopped within a line goes on or back by feeder_resume.
- * Within a line no bus is cut off, and one loop is closed from its last closing to its first opening. No switch is in two lines. Refusals 1 to 15; 13 where out is
+ * Within a line no bus is cut off, and one loop is closed from its last closing to its first opening. No switch is in two lines. Refusals 1 to 15 and 17; 13 where out is
  * shorter than the lines together, 7 bytes a pair and 4 a moved switch. */
 struct feeder_answer feeder_plan(const uint8_t *text, size_t text_length, const uint8_t *present, size_t present_length,
                                  const uint8_t *wanted, size_t wanted_length, uint8_t *out, size_t out_length);
@@ -169,7 +176,7 @@ struct feeder_answer feeder_plan(const uint8_t *text, size_t text_length, const 
  * in which it BEGAN, the one that feeder_plan had, and not the one after the cut. In remaining stands an 82 line for each move that is left, in their order: carried
  * out, they finish the plan. In back stand count 82 lines, the moves that were done, inverted and the last one first: carried out, they go back to the present
  * state. A line is "82", switch id (4 digits), 00 to open or 01 to close, and a line feed; that is the opposite of a state's byte, which is 1 where a switch is open.
- * remaining and back overlap neither each other nor any other slice; FEEDER_MOVES_LENGTH bytes are enough for each. Refusals 1 to 16; where either slice is too
+ * remaining and back overlap neither each other nor any other slice; FEEDER_MOVES_LENGTH bytes are enough for each. Refusals 1 to 17; where either slice is too
  * short, 13, and neither is written to. README says what a controller stores, and what it does first where the cut may have come between a move and the storing
  * of count. */
 struct feeder_answer feeder_resume(const uint8_t *text, size_t text_length, const uint8_t *present, size_t present_length,
@@ -178,24 +185,32 @@ struct feeder_answer feeder_resume(const uint8_t *text, size_t text_length, cons
 
 /* What the program feeder prints for an accepted text: value is the number of bytes. In out stand the search's 81 line; its best state's 84 line, "84",
  * islands and branch as in feeder_form (4 digits each) and a line feed; an 82 line for each switch that stands otherwise than in the base; and, where the base is
- * radial, the plan's 86 lines. Refusals 1 to 9 and 13 to 15. */
+ * radial, the plan's 86 lines. Refusals 1 to 9, 13 to 15 and 17. */
 struct feeder_answer feeder_answer_text(const uint8_t *text, size_t text_length, uint8_t *out, size_t out_length);
 
-/* The base, in which exactly the normally open switches are open: value is the number of switches. In out stands a byte for each. Refusals 1 to 9
- * and 13 to 15. */
+/* The base, in which exactly the normally open switches are open: value is the number of switches. In out stands a byte for each. Refusals 1 to 9,
+ * 13 to 15 and 17. */
 struct feeder_answer feeder_base_state(const uint8_t *text, size_t text_length, uint8_t *out, size_t out_length);
 
-/* The search that the text's head asks for. In out stands a byte for each switch: the best state. Refusals 1 to 9 and 13 to 15. */
+/* The search that the text's head asks for. In out stands a byte for each switch: the best state. Refusals 1 to 9, 13 to 15 and 17. */
 struct feeder_solved feeder_solve(const uint8_t *text, size_t text_length, uint8_t *out, size_t out_length);
 
 /* The operations that lead from one state to another: value is their number. In out stands an 82 line for each, "82", switch id (4 digits), 00 to open or
- * 01 to close, and a line feed. They stand in the order of the switches, which is no order to switch in: that is the plan's. Refusals 1 to 10 and
- * 13 to 15. */
+ * 01 to close, and a line feed. They stand in the order of the switches, which is no order to switch in: that is the plan's. Refusals 1 to 10, 13 to 15
+ * and 17. */
 struct feeder_answer feeder_operations(const uint8_t *text, size_t text_length, const uint8_t *from, size_t from_length, const uint8_t *to,
                                        size_t to_length, uint8_t *out, size_t out_length);
 
-/* The text of records in bytes: value is the number of its bytes. In out stands the text, for the other calls. Refusals 2 to 9 and 13 to 15. */
+/* The text of records in bytes: value is the number of its bytes. In out stands the text, for the other calls. Refusals 2 to 9, 13 to 15 and 17. */
 struct feeder_answer feeder_write_text(const uint8_t *records, size_t records_length, uint8_t *out, size_t out_length);
+
+/* The repair of a stored text, what the program repair prints for it: value is the number of bytes. Its branches from a bus to itself are dropped, in service or not,
+ * with the switches on them; positions and the head's counts are made anew. In out stands the text that is left, which every call accepts, and behind it an 87 line for
+ * each dropped line, in line order: "87", the line's number in the stored text (4 digits), 01 for a branch or 02 for a switch, and a line feed. The 87 lines are no part
+ * of the text, which ends before the first of them: no line of a text begins with 8. A text without such branches comes out byte for byte, with no 87 line.
+ *
+ * Refusals 1 to 9 and 13 to 15, never 17. Their places are lines of the stored text, and 7, 8 and 9 count what would be dropped; 15 is judged of what is left. */
+struct feeder_answer feeder_repair_text(const uint8_t *text, size_t text_length, uint8_t *out, size_t out_length);
 
 #ifdef __cplusplus
 }

@@ -1,5 +1,5 @@
-"""A feeder of three buses: what its search finds, in which order the switches move to it, what is left to do after a power cut, and why another state has no plan.
-Before it: python/build."""
+"""A feeder of three buses: what its search finds, in which order the switches move to it, what is left to do after a power cut, why another state has no plan, and the repair of a
+stored text with a branch from a bus to itself. Before it: python/build."""
 import lugwefa
 
 FEEDER = '''\
@@ -29,3 +29,24 @@ for stands in (lugwefa.OPEN, lugwefa.CLOSED):
         lugwefa.plan(FEEDER, base, wanted)
     except lugwefa.Refused as refusal:
         print(f'both {stands}: {refusal}; {lugwefa.form(FEEDER, wanted)}')
+
+STORED = '''\
+010003000400033FF0000000000000000064
+0200010000000000000000
+0200023FF0000000000000
+0200034000000000000000
+03000100023FD000000000000001
+03000200023FD000000000000001
+03000200033FDC00000000000001
+03000100033FC800000000000001
+04000A000202
+04000C000102
+04000B000303
+'''
+
+try:
+    lugwefa.solve(STORED)
+except lugwefa.Refused as refusal:
+    repaired = lugwefa.repair_text(STORED)
+    lines = ', '.join(f'line {line} ({reason})' for line, reason in repaired.dropped)
+    print(f'a stored text: {refusal}; repaired without {lines} it is the feeder above: {repaired.text == FEEDER}')

@@ -11,6 +11,8 @@ A text is a feeder in the frames of docs/INTERFACE.md, as bytes or str. A state 
 A state that is handed over is such a mapping, or the bytes of the calls (0 closed, 1 open, in the text's order). What is not acceptable is
 refused by the call itself, and raises Refused with the number and place that docs/INTERFACE.md has. python/example.py shows the rest.
 
+A stored text that is refused with 17 has branches from a bus to itself: `repair_text` drops them.
+
 Who has no text has it made: `write_text(records(head, buses, branches, switches, supply))`, without the last where the text is to name no supply. examples/estate does so
 from a database.
 """
@@ -39,6 +41,12 @@ Resumed = namedtuple('Resumed', 'remaining back')
 # those before it already join, None where there is no loop.
 Form = namedtuple('Form', 'islands branch')
 TREE = Form(0, None)
+# A line that a repair dropped: its number in the stored text, and what stood on it, BRANCH or SWITCH.
+Dropped = namedtuple('Dropped', 'line reason')
+BRANCH = 'branch'
+SWITCH = 'switch'
+# A repaired text, and the lines that were dropped from the stored one.
+Repaired = namedtuple('Repaired', 'text dropped')
 # What a search answers: its best state, and the fields of the 81 line. Losses are in MW, the reduction in percent of the base's loss.
 Solution = namedtuple('Solution', 'state radial base_loss best_loss reduction iterations converged')
 
@@ -49,7 +57,7 @@ Bus = namedtuple('Bus', 'id pd')
 Branch = namedtuple('Branch', 'from_bus to_bus r status')
 Switch = namedtuple('Switch', 'id branch normally_open can_operate')
 
-# the words of document 01; of 02 are 8, 12, the second half of 11, and 14 to 16
+# the words of document 01; of 02 are 8, 12, the second half of 11, and 14 to 17
 CONDITIONS = {
     1: 'unended line, odd digits, another character',
     2: 'wrong kind or length, line missing or too many',
@@ -67,6 +75,7 @@ CONDITIONS = {
     14: 'supply bus not listed',
     15: 'a supply is named, and the base is not radial',
     16: "count above the plan's moves",
+    17: 'branch from a bus to itself',
 }
 
 
@@ -81,7 +90,7 @@ class Refused(ValueError):
         return f'refused {self.number} at {self._where()}: {CONDITIONS[self.number]}' + (f' ({self.why})' if self.why else '')
 
     def _where(self):
-        if self.number <= 9 or self.number in (14, 15):
+        if self.number <= 9 or self.number in (14, 15, 17):
             return f'line {self.place}'
         if self.number <= 11:
             return 'the wanted state' if self.place else 'the present or only state'
@@ -119,6 +128,14 @@ def write_text(records):
     the supply."""
     answer, room = _lent(_library().feeder_write_text, bytes(iter(records)))
     return _checked(answer, room[:answer.value]).decode()
+
+
+def repair_text(text):
+    """A stored text without its branches from a bus to itself and the switches on them, and which lines were dropped, in their order: `Repaired`. Without such branches the text is the
+    same and none is dropped. The place of a refusal is a line of the stored text; it is never 17."""
+    answer, room = _lent(_library().feeder_repair_text, _bytes(text))
+    lines = _checked(answer, room[:answer.value]).decode().splitlines(keepends=True)
+    return Repaired(''.join(line for line in lines if line[:2] != '87'), [_dropped(line) for line in lines if line[:2] == '87'])
 
 
 def radiality(text, state):
@@ -224,7 +241,7 @@ _SLICE, _NUMBER = (ctypes.c_char_p, ctypes.c_size_t), (ctypes.c_uint64,)
 _CALLS = {'feeder_radiality': (_Answer, 2 * _SLICE), 'feeder_form': (_Answer, 2 * _SLICE), 'feeder_loss': (_Answer, 2 * _SLICE),
           'feeder_plan': (_Answer, 4 * _SLICE), 'feeder_resume': (_Answer, 3 * _SLICE + _NUMBER + 2 * _SLICE),
           'feeder_answer_text': (_Answer, 2 * _SLICE), 'feeder_base_state': (_Answer, 2 * _SLICE), 'feeder_solve': (_Solved, 2 * _SLICE),
-          'feeder_operations': (_Answer, 4 * _SLICE), 'feeder_write_text': (_Answer, 2 * _SLICE)}
+          'feeder_operations': (_Answer, 4 * _SLICE), 'feeder_write_text': (_Answer, 2 * _SLICE), 'feeder_repair_text': (_Answer, 2 * _SLICE)}
 _loaded = None
 
 
@@ -298,6 +315,11 @@ def _lines_on_states(call, text, present, wanted, *done):
 def _operation(line):
     """An 82 line: the switch, and how it stands then."""
     return int(line[2:6], 16), CLOSED if line[6:8] == '01' else OPEN
+
+
+def _dropped(line):
+    """An 87 line: the number of the stored text's line, and what stood there."""
+    return Dropped(int(line[2:6], 16), BRANCH if line[6:8] == '01' else SWITCH)
 
 
 def _pair(line):

@@ -31,6 +31,7 @@ MEANINGS = {
     ('branches', 3): 'status is neither 0 nor 1',
     ('branches', 5): 'r is not from 0 to 1,000',
     ('branches', 6): 'from_bus or to_bus is the id of no bus',
+    ('branches', 17): 'from_bus and to_bus are the same bus',
     ('switches', 6): 'branch is the id of no branch',
     ('switches', 7): 'a row before it has the same id',
     ('switches', 8): 'two rows before it are on the same branch',

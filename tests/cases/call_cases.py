@@ -22,7 +22,7 @@ from feeders import TREE
 
 ROOT = os.path.join(os.path.dirname(os.path.abspath(__file__)), '..', '..', 'crates', 'call_cases')
 EXCHANGE, TABU, EXHAUSTIVE = 0, 1, 2
-ROOM_FOR_CASES = 344064
+ROOM_FOR_CASES = 393216
 # bytes of an 86 line with one id on each side
 LINE = 15
 cases = []
@@ -65,6 +65,7 @@ TURNED = Feeder([0.0, 1.0, 2.0], [(2, 1, 0.25)] + SIDES[1:], [(10, 1, 2), (11, 2
 NO_BUSES = Feeder([], [], [])
 ONE_BUS = Feeder([3.0], [], [])
 OWN_LOOP = Feeder([3.0], [(1, 1, 0.5)], [])
+TWO_PARALLEL = Feeder([0.0, 2.0], [(1, 2, 0.25), (1, 2, 0.5)], [])
 TWO_BUSES = Feeder([0.0, 2.0], [(1, 2, 0.25)], [])
 TIE_ONLY = Feeder([0.0, 2.0], [(1, 2, 0.25)], [(7, 0, 3)])
 PARALLEL = Feeder([0.0, 2.0], [(1, 2, 0.25), (1, 2, 0.5)], [(7, 1, 2)])
@@ -74,12 +75,12 @@ TIES_ONLY = Feeder([0.0, 1.0, 2.0], [(1, 2, 0.25), (2, 3, 0.25)], [(8, 0, 3), (9
 # MODEL's ring, drawn one way round, on a base of 1 MVA
 RING = Feeder([0.0, 2.0, 3.0, 1.0, 2.0], [(1, 2, 0.25), (2, 3, 0.25), (3, 4, 0.25), (4, 5, 0.25), (5, 1, 0.25)], [(10 + k, k, 3 if k == 2 else 2) for k in range(5)])
 # ids fall, and every second switch is a locked tie
-LARGEST = Feeder([0.0], [(1, 1, 0.0)] * 512, [(1000 - i, i, i % 2) for i in range(512)])
+LARGEST = Feeder([0.0, 0.0], [(1, 2, 0.0)] * 512, [(1000 - i, i, i % 2) for i in range(512)])
 # document 02's triangle with a switch at each end of branch 2, both ties, and of branch 1, of which 13 is locked
 TWO_EACH = Feeder([0.0, 1.0, 2.0], SIDES, [(12, 2, 3), (10, 1, 2), (11, 2, 3), (13, 1, 0)])
 LOCKED = Feeder([0.0, 1.0, 2.0], SIDES, [(10, 1, 0), (11, 2, 3)])
-# the longest text without a supply: own loops at the last bus
-OWN_LOOPS = Feeder([0.0] * 256, [(256, 256, 0.0)] * 512, [(1000 - i, i, 2) for i in range(512)])
+# the longest text without a supply: parallel branches at the last bus
+PARALLELS = Feeder([0.0] * 256, [(255, 256, 0.0)] * 512, [(1000 - i, i, 2) for i in range(512)])
 # three buses in a row, joined by two branches each
 ROW = Feeder([0.0, 1.0, 2.0], [(1, 2, 0.25), (2, 3, 0.25)] * 2, [(40, 0, 2), (30, 1, 2), (20, 2, 3), (10, 3, 3)])
 # bus 1 joined with each of 255 others by two branches, the second of them a tie; the last bus's two have a second switch each, listed first and last
@@ -159,7 +160,7 @@ def best_states():
         best('no-buses-method-%d' % method, NO_BUSES, 2 * method, TREE, 0.0, 0.0, on_radial, 1, '', method, iterations)
         best('one-bus-method-%d' % method, ONE_BUS, 0, TREE, 0.0, 0.0, on_radial, 1, '', method, iterations)
         best('two-buses-method-%d' % method, TWO_BUSES, 1, TREE, 1.0, 1.0, on_radial, 1, '', method, iterations)
-        best('own-loop-method-%d' % method, OWN_LOOP, 0, (0, 0), 4.5, 4.5, on_loop, 1, '', method, iterations)
+        best('two-parallel-method-%d' % method, TWO_PARALLEL, 0, (0, 1), 3.0, 3.0, on_loop, 1, '', method, iterations)
 
 
 def moved_bytes():
@@ -231,7 +232,7 @@ def network_refusals():
 
 
 def states_of_no_tree():
-    state('own-loop', OWN_LOOP, '', (0, 0), 4.5)
+    state('two-parallel-without-a-switch', TWO_PARALLEL, '', (0, 1), 3.0)
     state('two-parallel', PARALLEL, '0', (0, 1), 3.0)
     state('all-closed', TRIANGLE, '00', (0, 2), 5.6875)
     state('both-open', TRIANGLE, '11', (1, None), 0.25)
@@ -323,8 +324,9 @@ def calls_with_supply():
     for change, fault in [('I', (3, 1)), ('U', (6, 5)), ('W', (4, 1))]:
         for call in 'BOT':
             slice_case(call, 'supply-change-%s-%s' % (change, call), fed.text(), 226, refused(*fault), '', present='01', wanted='10', change=change)
-    for name, feeder, fault in [('not-listed', TRIANGLE.fed(9), (14, 10)), ('on-a-loop', OWN_LOOP.fed(1), (15, 4)), ('cut-off', TIE_ONLY.fed(1), (15, 6)),
-                                ('of-no-buses', NO_BUSES.fed(1), (14, 2)), ('not-listed-on-a-loop', OWN_LOOP.fed(3), (14, 4))]:
+    for name, feeder, fault in [('not-listed', TRIANGLE.fed(9), (14, 10)), ('on-a-loop', TWO_PARALLEL.fed(1), (15, 6)), ('cut-off', TIE_ONLY.fed(1), (15, 6)),
+                                ('of-no-buses', NO_BUSES.fed(1), (14, 2)), ('not-listed-on-a-loop', TWO_PARALLEL.fed(3), (14, 6)), ('of-an-own-loop', OWN_LOOP.fed(1), (17, 3)),
+                                ('not-listed-of-an-own-loop', OWN_LOOP.fed(3), (17, 3))]:
         refused_state('supply-' + name, feeder.text(), '2', fault)
         for call in 'BOPT':
             slice_case(call, 'supply-%s-%s' % (name, call), feeder.text(), LINE, refused(*fault), '', present='2', wanted='2')
@@ -413,10 +415,50 @@ def two_on_a_branch():
     cut_plan('third-switch', 9, (9, 9), refused(8, 12), text=third, present='10100', wanted='01000')
 
 
+def own_loops():
+    """Document 02's 17, at its line, of every call: in service or not, with switches or without, before states and slices are looked at."""
+    sides = SIDES[:1] + [(2, 2, 0.25)] + SIDES[1:]
+    stored = Feeder([0.0, 1.0, 2.0], sides, [(10, 2, 2), (12, 1, 2), (11, 3, 3)])
+    for name, feeder, present, wanted, fault in [
+            ('one-bus', OWN_LOOP, '', '', (17, 3)), ('triangle', stored, '001', '100', (17, 6)), ('triangle-supply', stored.fed(1), '001', '100', (17, 6)),
+            ('out-of-service', Feeder(stored.loads, sides, stored.switches, out_of_service=[1]), '001', '100', (17, 6)), ('malformed-states', stored, '2', '', (17, 6)),
+            ('not-radial', stored, '000', '111', (17, 6)), ('unlisted', Feeder(stored.loads, SIDES[:1] + [(9, 9, 0.25)] + SIDES[1:], stored.switches), '001', '100', (6, 6)),
+            ('last-branch', Feeder(stored.loads, SIDES + [(3, 3, 0.0)], stored.switches), '001', '100', (17, 8))]:
+        refused_state('own-loop-' + name, feeder.text(), present, fault)
+        for call, room in [('B', 3), ('O', 18), ('P', LINE), ('T', 300), ('T', 0)]:
+            slice_case(call, 'own-loop-%s-%s-%d' % (name, call, room), feeder.text(), room, refused(*fault), '', present=present, wanted=wanted)
+        cut_plan('own-loop-' + name, 1, (9, 9), refused(*fault), text=feeder.text(), present=present, wanted=wanted)
+    for method in (EXCHANGE, TABU, EXHAUSTIVE):
+        slice_case('B', 'best-own-loop-method-%d' % method, OWN_LOOP.text(method), 0, refused(17, 3), '')
+    slice_case('B', 'own-loop-iterations-1001', stored.text(iterations=1001), 3, refused(3, 1), '')
+
+
+def repairs():
+    """Document 02's repair of a stored text, by document 02's words: what is left of it, then an 87 line for each line that went."""
+    sides = SIDES[:1] + [(2, 2, 0.25)] + SIDES[1:]
+    stored = Feeder([0.0, 1.0, 2.0], sides, [(10, 2, 2), (12, 1, 2), (11, 3, 3)])
+    gone = '87000601\n87000A02\n'
+    for name, text, left in [('triangle', stored.text(), TRIANGLE.text() + gone), ('triangle-supply', stored.fed(1).text(), TRIANGLE.fed(1).text() + gone),
+                             ('one-bus', OWN_LOOP.text(), Feeder([3.0], [], []).text() + '87000301\n'), ('one-bus-supply', OWN_LOOP.fed(1).text(), ONE_BUS.fed(1).text() + '87000301\n'),
+                             ('nothing-to-drop', TRIANGLE.fed(3).text(), TRIANGLE.fed(3).text()), ('parallels', PARALLEL.text(), PARALLEL.text()), ('no-buses', NO_BUSES.text(), NO_BUSES.text()),
+                             ('two-each', TWO_EACH.text(TABU, 7), TWO_EACH.text(TABU, 7))]:
+        for more in (0, 1, 10):
+            slice_case('D', 'repair-%s-%d-longer' % (name, more), text, len(left) + more, '%04x' % len(left), left)
+        for room in (0, len(left) - 1):
+            slice_case('D', 'repair-%s-in-%d' % (name, room), text, room, refused(13, 0), '')
+    looped = Feeder(stored.loads, sides, [(10, 2, 2), (12, 1, 2), (11, 3, 2)])
+    for name, text, fault in [('not-cured', looped.fed(1).text(), (15, 12)), ('not-listed', stored.fed(9).text(), (14, 12)), ('no-text', '0G\n', (1, 1)), ('empty', '', (2, 1)),
+                              ('id-twice', Feeder(stored.loads, sides, [(10, 2, 2), (10, 1, 2), (11, 3, 3)]).text(), (7, 10)), ('a-line-too-many', stored.text() + '00\n', (2, 12)),
+                              ('third-switch', Feeder(stored.loads, sides, [(10, 1, 2), (12, 1, 2), (11, 1, 3)]).text(), (8, 11)),
+                              ('unlisted', Feeder(stored.loads, SIDES[:1] + [(9, 9, 0.25)] + SIDES[1:], stored.switches).text(), (6, 6))]:
+        for room in (0, 260):
+            slice_case('D', 'repair-%s-in-%d' % (name, room), text, room, refused(*fault), '')
+
+
 def drawn_feeder(draw, may_be_locked):
     """Two to seven buses, none, one or two switches a branch, and two radial states."""
     n = 2 + draw.below(6)
-    ends = [(i, draw.below(i)) for i in range(1, n)] + [(draw.below(n), draw.below(n)) for _ in range(1 + draw.below(4))]
+    ends = [(i, draw.below(i)) for i in range(1, n)] + [tuple(draw.shuffled(range(n))[:2]) for _ in range(1 + draw.below(4))]
     branches = [tuple(1 + i for i in draw.shuffled(pair)) + (draw.below(64) / 64,) for pair in draw.shuffled(ends)]
     feeder = Feeder([float(draw.below(10)) for _ in range(n)], branches, [])
     order = draw.shuffled(range(len(branches)))
@@ -475,9 +517,9 @@ def drawn():
 
 
 def largest():
-    best('512-switches', LARGEST, 512, (0, 0), 0.0, 0.0, 1, 1, '01' * 256)
+    best('512-switches', LARGEST, 512, (0, 2), 0.0, 0.0, 1, 1, '01' * 256)
     slice_case('B', 'best-512-switches-one-byte-short', LARGEST.text(), 511, refused(13, 0), '')
-    state('256-buses-last-of-512-own-loops', OWN_LOOPS, '1' * 511 + '0', (255, 511), 0.0)
+    state('256-buses-last-of-512-parallels', PARALLELS, '1' * 510 + '00', (254, 511), 0.0)
     operations('512', LARGEST, '0' * 512, '1' * 512, 4608, [(1000 - i, 0) for i in range(512)])
     slice_case('O', 'operations-512-one-byte-short', LARGEST.text(), 4607, refused(13, 0), '', present='0' * 512, wanted='1' * 512)
     longest = {'text': LONGEST.text(), 'present': '1' + '0' * 255 + '1' * 255 + '0', 'wanted': '0' + '1' * 255 + '0' * 255 + '1'}
@@ -492,7 +534,7 @@ def largest():
 
 
 def main():
-    for make in (best_states, moved_bytes, best_of_no_tree, listed_operations, refused_states, network_refusals, states_of_no_tree, states_and_plans, written_texts, searches_with_supply, calls_with_supply, cut_plans, two_on_a_branch, drawn, largest):
+    for make in (best_states, moved_bytes, best_of_no_tree, listed_operations, refused_states, network_refusals, states_of_no_tree, states_and_plans, written_texts, searches_with_supply, calls_with_supply, cut_plans, two_on_a_branch, own_loops, repairs, drawn, largest):
         make()
     names = [name for name, _, _ in cases]
     assert len(names) == len(set(names)), 'a name stands twice'

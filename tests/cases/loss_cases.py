@@ -19,8 +19,8 @@ CHANGES = {'iterations 1001': 'A', 'switch 10 a tie': 'F', 'no supply': 'W', '':
 # With a supply: the to side, as without one; the side that holds the supply; the bus at the position that the id is; what each branch of a bus brings added to its own load, up the
 # tree; each branch followed to its end first; neighbours by falling branch position.
 WRONG = 'to side', 'supply side', 'id as position', 'up the tree', 'depth first', 'by falling position'
-# A walk's queue in which the last of 256 buses has no room; positions in seven bits; the loads added from the queue's end.
-WRONG_QUEUE = 'queue of 255', 'positions of seven bits', 'from the last'
+# A walk's queue in which the last of 255 buses has no room; positions in seven bits; the loads added from the queue's end.
+WRONG_QUEUE = 'queue of 254', 'positions of seven bits', 'from the last'
 cases, told_apart = [], set()
 
 
@@ -70,8 +70,8 @@ def order_of(beside, start, barred, wrong=''):
 def load_of(loads, beside, start, barred, wrong=''):
     """The loads on the side of the start, added in breadth-first order."""
     order = order_of(beside, start, barred, wrong)
-    if wrong == 'queue of 255':
-        order = order[:255]
+    if wrong == 'queue of 254':
+        order = order[:254]
     if wrong == 'from the last':
         order = order[::-1]
     load = 0.0
@@ -205,7 +205,6 @@ def ranges():
         for r in [0.0, -0.0, tiny, 0.1, 1000.0]:
             for base in [0.001, 0.3, 1e6]:
                 case('load-%016X-r-%016X-base-%016X' % (bits(load), bits(r), bits(base)), two(load, r, base), '')
-    case('one-bus-own-loop', ([3.0], [(1, 1, 0.1, 1)], [], 1.0), '')
     case('out-of-service', ([1.0, 3.0], [(1, 2, 0.1, 0)], [], 1.0), '')
     case('order-of-the-loads', ([0.0, 1e6, 1e-10, -1e6, 0.1], [(1, 2, 1.0, 1), (2, 5, 0.3, 1), (4, 2, 0.7, 1), (2, 3, 0.9, 1)], [], 0.7), '')
 
@@ -224,7 +223,7 @@ def drawn():
     draw = random.Random(2)
     for i in range(100):
         n = draw.randint(1, 12)
-        branches = [(draw.randint(1, n), draw.randint(1, n), draw.uniform(0, 1000), int(draw.random() < 0.9)) for _ in range(draw.randint(0, 20))]
+        branches = [(*draw.sample(range(1, n + 1), 2), draw.uniform(0, 1000), int(draw.random() < 0.9)) for _ in range(draw.randint(0, 20) if n > 1 else 0)]
         switches = draw.sample(range(len(branches)), draw.randint(0, len(branches)))
         # a second one on some of them, listed in any order
         switches = draw.sample(switches + switches[::3], len(switches + switches[::3]))
@@ -239,8 +238,6 @@ def with_supply():
             case('%s-supply-%d-base' % (drawing, supply), feeder, '01', base, ties=[1], supply=supply)
             case('%s-supply-%d-exchanged' % (drawing, supply), feeder, '10', exchanged, ties=[1], supply=supply)
     case('one-bus-supply', ([3.0], [], [], 1.0), '', 0.0, supply=1)
-    case('one-bus-own-loop-open-supply', ([3.0], [(1, 1, 0.1, 1)], [0], 1.0), '1', 0.0, ties=1, supply=1)
-    case('one-bus-own-loop-out-of-service-supply', ([3.0], [(1, 1, 0.1, 0)], [0], 1.0), '0', 0.0, supply=1)
     case('two-buses-supply-1', ([5.0, -3.0], [(2, 1, 0.5, 1)], [], 1.0), '', 4.5, supply=1)
     case('two-buses-supply-2', ([5.0, -3.0], [(2, 1, 0.5, 1)], [], 1.0), '', 12.5, supply=2)
     # minus zeros, of which the walk's own 0.0 makes a zero; loads that cancel out
@@ -260,7 +257,6 @@ def refused_with_supply():
         refusal('with-the-line-state-%s' % (state or 'empty'), TRIANGLE, state, (10, 0), ties=[1], supply=1)
     unsupplied('turned-supply-taken-away', TURNED, '01', 1.75, ties=[1], supply=3)
     unsupplied('exchanged-supply-taken-away', TRIANGLE, '10', 1.0, ties=[1], supply=3)
-    refusal('own-loop-closed-supply', ([3.0], [(1, 1, 0.1, 1)], [0], 1.0), '0', (11, 0), ties=1, supply=1)
     loop_apart = ([0.0, 1.0, 1.0, 1.0], [(1, 2, 1.0, 1), (2, 3, 1.0, 1), (3, 4, 1.0, 1), (4, 2, 1.0, 1)], [0, 3], 1.0)
     refusal('as-many-branches-as-a-tree-has-supply', loop_apart, '10', (11, 0), ties=[1], supply=1)
     refusal('iterations-1001-not-radial-supply', TRIANGLE, '00', (3, 1), 'iterations 1001', ties=[1], supply=1)
@@ -317,33 +313,26 @@ def near_tree(draw):
     return [(draw.randrange(max(1, u - 3), u), u) for u in range(2, 257)]
 
 
-def full_size(draw, ends, starts=(), last=()):
-    """256 buses, loads of either sign, the branches in a drawn order and drawn either way; behind them one from each start to itself, each with a switch."""
+def full_size(draw, ends, last=()):
+    """256 buses, loads of either sign, the branches in a drawn order and drawn either way; behind them some as they are."""
     listed = draw.sample([draw.sample(pair, 2) for pair in ends], len(ends)) + list(last)
-    own = list(range(len(listed), len(listed) + len(starts)))
-    branches = [(a, b, draw.random(), 1) for a, b in listed + [(u, u) for u in starts]]
-    return [draw.uniform(-9, 9) for _ in range(256)], branches, own, draw.uniform(1, 9)
+    return [draw.uniform(-9, 9) for _ in range(256)], [(a, b, draw.random(), 1) for a, b in listed], [], draw.uniform(1, 9)
 
 
-def queue(feeder, start, barred):
-    """What stands in the queue of a walk, all switches closed. Where the start is barred that is the walk from a branch with equal ends, or from a supply."""
-    return order_of(neighbours(feeder[1], live_in(feeder, '0' * len(feeder[2]))), start, barred)
+def placed(feeder, start, barred, places):
+    """Whether all buses but the barred one stand in the queue of a walk, that at position 255 at one of these places. From a supply nothing but the start is barred."""
+    order = order_of(neighbours(feeder[1], live_in(feeder, '')), start, barred)
+    return len(order) == 256 - (start != barred) and order.index(256) in places
 
 
-def placed(feeder, start, places):
-    """Whether all 256 buses stand in the queue, that at position 255 at one of these places."""
-    order = queue(feeder, start, start)
-    return len(order) == 256 and order.index(256) in places
-
-
-def told_from(feeder, state, wrong, starts=(), supply=None):
-    """Whether each wrong way gives the loss other bits, and the load of the walk from each start to itself."""
-    live = live_in(feeder, state)
-    load = lambda start, way='': bits(load_of(feeder[0], neighbours(feeder[1], live, way), start, start, way))
-    if not all(load(start, way) != load(start) for start in starts for way in wrong):
+def told_from(feeder, wrong, walk=None, supply=None):
+    """Whether each wrong way gives the loss other bits, and the load of this walk."""
+    live = live_in(feeder, '')
+    load = lambda way='': bits(load_of(feeder[0], neighbours(feeder[1], live, way), *walk, way))
+    if walk and not all(load(way) != load() for way in wrong):
         return False
-    right = bits(loss(feeder, state, supply=supply))
-    return all(bits(loss(feeder, state, supply=supply, wrong=way)) != right for way in wrong)
+    right = bits(loss(feeder, '', supply=supply))
+    return all(bits(loss(feeder, '', supply=supply, wrong=way)) != right for way in wrong)
 
 
 def drawn_until(make, holds):
@@ -354,16 +343,30 @@ def drawn_until(make, holds):
 
 
 def own_loops():
-    """From a branch with equal ends the walk bars nothing but its start: 256 buses stand in its queue. Where its switch is open there is no such walk."""
-    draw, starts, wrong = random.Random(22), (1, 256, 101), WRONG_QUEUE + ('depth first', 'by falling position')
-    states = {start: ''.join('01'[other != start] for other in starts) for start in starts}
-    told = lambda feeder: all(told_from(feeder, state, wrong, [start]) for start, state in states.items())
-    feeder = drawn_until(lambda: full_size(draw, near_tree(draw), starts), told)
-    for start, state in states.items():
-        assert placed(feeder, start, range(256))
-        case('own-loop-at-position-%d' % (start - 1), feeder, state)
-    without = (feeder[0], feeder[1][:255], [], feeder[3])
-    case('own-loops-open', feeder, '111', loss(without, ''))
+    """Document 02's 17, dead or live, before 10 and 11. The text is read as a stored one, so that it is the call that refuses."""
+    lone = [3.0], [(1, 1, 0.1, 1)], [0], 1.0
+    dead = [3.0], [(1, 1, 0.1, 0)], [0], 1.0
+    refusal('one-bus-own-loop', ([3.0], [(1, 1, 0.1, 1)], [], 1.0), '', (17, 3))
+    refusal('one-bus-own-loop-open-supply', lone, '1', (17, 3), ties=1, supply=1)
+    refusal('one-bus-own-loop-out-of-service-supply', dead, '0', (17, 3), supply=1)
+    refusal('own-loop-closed-supply', lone, '0', (17, 3), ties=1, supply=1)
+    refusal('own-loop-state-02', lone, '2', (17, 3))
+    refusal('own-loop-iterations-1001', lone, '1', (3, 1), 'iterations 1001')
+    for k in range(4):
+        sides = TRIANGLE[1][:k] + [(2, 2, 0.5, 1)] + TRIANGLE[1][k:]
+        others = [j for j in range(4) if j != k]
+        looped = TRIANGLE[0], sides, [others[1], others[2], k], 1.0
+        for state in ('010', '011', '000'):
+            refusal('own-loop-at-position-%d-%s' % (k, state), looped, state, (17, 5 + k), ties=[1], supply=1 if k % 2 else None)
+    draw = random.Random(22)
+    loads, branches, _, base = full_size(draw, near_tree(draw), [(u, u) for u in (1, 256, 101)])
+    refusal('own-loops-of-256-buses', (loads, branches, [255, 256, 257], base), '011', (17, 513))
+    for i in range(10):
+        n = draw.randint(1, 9)
+        branches = [(*draw.choice([(a, a), (a, a % n + 1)]), draw.uniform(0, 9), draw.randrange(2)) for a in (draw.randint(1, n) for _ in range(8))]
+        first = next((k for k, (a, b, *_) in enumerate(branches) if a == b), None)
+        if first is not None:
+            refusal('drawn-own-loop-%d' % i, ([draw.uniform(-9, 9) for _ in range(n)], branches, [3, 0, 3], 1.0), ''.join(draw.choice('01') for _ in range(3)), (17, 2 + n + first))
 
 
 def first_of_a_chain():
@@ -371,35 +374,43 @@ def first_of_a_chain():
     draw, rest = random.Random(23), [(u, u + 1, 0.0, 1) for u in range(2, 256)]
     feeder = [draw.uniform(-9, 9) for _ in range(256)], [(1, 2, 0.7, 1)] + rest, [], 3.0
     turned = feeder[0], [(2, 1, 0.7, 1)] + rest, [], 3.0
-    assert [len(queue(feeder, 2, 1)), len(queue(turned, 1, 2))] == [255, 1]
-    assert told_from(feeder, '', ('from the last', 'positions of seven bits'))
+    assert placed(feeder, 2, 1, [254]) and order_of(neighbours(turned[1], range(255)), 1, 2) == [1]
+    assert told_from(feeder, WRONG_QUEUE)
     case('first-of-a-chain-255-in-the-queue', feeder, '')
     case('first-of-a-chain-one-in-the-queue', turned, '')
 
 
-def stars_chains_trees():
-    """Each with branches from a bus to itself, so that position 255 stands first, last and in between in a full queue."""
-    draw, between, wrong = random.Random(24), range(1, 255), WRONG_QUEUE + ('by falling position',)
-    row = draw.sample(range(1, 256), 255) + [256]
-    for name, ends, last, starts, places in [
-        ('star', STAR + [(77, 256)], [], (256, 77, 9), ([0], between, between)),
-        ('star-listed-last', STAR, [(256, 77)], (256, 77, 9), ([0], [255], [255])),
-        ('chain', list(zip(row, row[1:])), [], (256, row[0], row[200]), ([0], [255], between)),
-        ('tree', near_tree(draw), [], (256, 1, 200), ([0], range(1, 256), between)),
+def leaf_of(ends):
+    """A bus at the end of one branch, nearer to the last than to the first, and that branch as it leads away from there."""
+    parents = {a for a, _ in ends}
+    return next((b, a) for a, b in ends if b > 200 and b not in parents)
+
+
+def full_queues():
+    """255 buses in the queue, as many as the walk of a branch can have: that of the branch from a leaf, with position 255 first, last and in between."""
+    draw, between, tree = random.Random(24), range(1, 254), near_tree(random.Random(24))
+    row = draw.sample(range(1, 256), 255)
+    for name, ends, last, places, more in [
+        ('star', [pair for pair in STAR if pair != (77, 9)] + [(77, 256)], [(9, 77)], between, ('by falling position',)),
+        ('star-listed-last', [pair for pair in STAR if pair != (77, 9)], [(9, 77), (256, 77)], [254], ('by falling position',)),
+        ('star-around-it', [(256, u) for u in range(1, 256) if u != 9], [(9, 256)], [0], ('by falling position',)),
+        ('chain', list(zip(row[1:], row[2:] + [256])), [(row[0], row[1])], [254], ()),
+        ('chain-from-it', [(256, row[1])] + list(zip(row[1:], row[2:])), [(row[0], 256)], [0], ()),
+        ('tree', [pair for pair in tree if pair != leaf_of(tree)[::-1]], [leaf_of(tree)], between, ('by falling position', 'depth first')),
     ]:
+        barred, start = last[0]
         # from its end a chain has one order only
-        ways = wrong if name != 'chain' else WRONG_QUEUE
-        feeder = drawn_until(lambda: full_size(draw, ends, starts, last), lambda feeder: told_from(feeder, '000', ways, starts))
-        assert all(placed(feeder, start, wanted) for start, wanted in zip(starts, places)), name
-        case('full-queue-' + name, feeder, '000')
+        feeder = drawn_until(lambda: full_size(draw, ends, last), lambda feeder: told_from(feeder, WRONG_QUEUE + more, (start, barred)))
+        assert placed(feeder, start, barred, places), name
+        case('full-queue-' + name, feeder, '')
 
 
 def supply_walks():
     """The walk from the supply has all 256 buses in its queue, that at position 255 last and in between."""
     draw, wrong = random.Random(25), ('from the last', 'positions of seven bits', 'by falling position')
     for name, ends, last, supply, places in [('star', STAR, [(256, 77)], 9, [255]), ('tree', near_tree(draw), [], 200, range(1, 255))]:
-        feeder = drawn_until(lambda: full_size(draw, ends, (), last), lambda feeder: told_from(feeder, '', wrong, supply=supply))
-        assert placed(feeder, supply, places), name
+        feeder = drawn_until(lambda: full_size(draw, ends, last), lambda feeder: told_from(feeder, wrong, supply=supply))
+        assert placed(feeder, supply, supply, places), name
         case('%s-of-256-supply' % name, feeder, '', supply=supply)
 
 
@@ -413,7 +424,7 @@ def drawn_with_supply():
 
 def main():
     for make in (marked, two_on_a_branch, faulty_records, ranges, fused, drawn, with_supply, refused_with_supply, other_bits, at_every_bus, chains, drawn_with_supply,
-                 own_loops, first_of_a_chain, stars_chains_trees, supply_walks):
+                 own_loops, first_of_a_chain, full_queues, supply_walks):
         make()
     assert told_apart == set(WRONG), set(WRONG) - told_apart
     names = [case[0] for case in cases]

@@ -75,7 +75,6 @@ def slices():
     case('same-state-longer', TRIANGLE, '10', '10', 5, [])
     case('no-buses', Feeder([], [], []), '', '', 0, [])
     case('one-bus', Feeder([7], [], []), '', '', 3, [])
-    case('one-bus-own-loop-open', Feeder([7], [(7, 7, 1)], [(1, 0, 2)]), '1', '1', 0, [])
     case('two-parallel', Feeder([1, 2], [(1, 2, 1), (2, 1, 1)], [(8, 0, 2), (9, 1, 2)]), '01', '10', 15, [(9, 8)])
     two = chain([(1, 4, 1), (2, 4, 1)], [0, 1, 2, 3, 4])
     for name, room, known in [('exactly-full', 30, [(103, 100), (104, 102)]), ('one-byte-longer', 31, [(103, 100), (104, 102)]),
@@ -148,6 +147,25 @@ def locked_switches():
             name = 'out-of-service-flags-%d-byte-%s-to-%s' % (flags, present, wanted)
             case(name, feeder, present + '01', wanted + '10', LINE, [(11, 10)])
             case(name + '-empty', feeder, present + '01', wanted + '01', 0, [])
+
+
+def own_loops():
+    """Document 02's 17, wherever such a branch stands, dead or live, moved or not: before 10 to 13. The text is read as a stored one, so that it is the call that refuses."""
+    lone = Feeder([7], [(7, 7, 1)], [(1, 0, 2)])
+    for name, present, wanted in [('open', '1', '1'), ('closed', '0', '0'), ('moved', '1', '0'), ('malformed', '2', '')]:
+        case('one-bus-own-loop-' + name, lone, present, wanted, 0, (17, 3))
+    for k in range(4):
+        for status in (0, 1):
+            branches = TRIANGLE.branches[:k] + [(2, 2, status)] + TRIANGLE.branches[k:]
+            others = [j for j in range(4) if j != k]
+            looped = Feeder(TRIANGLE.buses, branches, [(10, others[1], 2), (12, k, 0), (11, others[2], 3)], supply=1 if k == 2 else None)
+            for name, present, wanted, room in [('', '001', '100', LINE), ('-its-switch-moves', '011', '100', LINE), ('-not-radial', '000', '111', 0), ('-malformed', '0', '2', 0)]:
+                case('own-loop-at-%d-status-%d%s' % (k, status, name), looped, present, wanted, room, (17, 5 + k))
+    case('own-loop-iterations-1001', Feeder(TRIANGLE.buses, TRIANGLE.branches + [(1, 1, 1)], TRIANGLE.switches), '01', '10', LINE, (3, 1), 'iterations 1001')
+    ties = [(1 + i, i, 3 if i < 10 else 2) for i in range(11)]
+    for k in (0, 10):
+        looped = Feeder([1, 2], [(1, 1 if j == k else 2, 1) for j in range(11)], ties, method=2)
+        case('own-loop-at-%d-before-the-eleventh-tie' % k, looped, '0' + '1' * 10, '1' * 10 + '0', LINE, (17, 4 + k), 'switch 10 a tie')
 
 
 def supplies():
@@ -233,7 +251,7 @@ def drawn(name, draw, n, share):
     """A feeder of n buses and two radial states of it, of which the second keeps at least a share of the first one's branches."""
     buses = draw.sample(range(65536), n)
     ends = [(i, draw.randrange(max(0, i - draw.choice([1, 3, n])), i)) for i in range(1, n)]
-    ends += [(draw.randrange(n), draw.randrange(n)) for _ in range(draw.randint(1, n if n < 256 else n // 2))]
+    ends += [tuple(draw.sample(range(n), 2)) for _ in range(draw.randint(1, n if n < 256 else n // 2))]
     draw.shuffle(ends)
     branches = [tuple(buses[i] for i in draw.sample(pair, 2)) + (1,) for pair in ends]
     feeder = Feeder(buses, branches, [])
@@ -247,6 +265,10 @@ def drawn(name, draw, n, share):
             branches[k] = (a, b, 0)
     states = plans.drawn_switches(draw, feeder, first, second, draw.sample(range(65536), plans.MAX_SWITCHES), n < 256 and draw.random() < 0.15)
     case(name, feeder, *states, length_of(plan(feeder, *states)) + draw.choice([0, 0, 1, 7]))
+    if n < 20 and draw.random() < 0.1:
+        k, bus = draw.randrange(len(branches)), draw.choice(buses)
+        looped = Feeder(buses, branches[:k] + [(bus, bus, draw.randrange(2))] + branches[k + 1:], feeder.switches)
+        case(name + '-own-loop', looped, *states, LINE, (17, 2 + n + k))
 
 
 def full_size():
@@ -381,7 +403,7 @@ def pair_in(line):
 
 
 def main():
-    for make in (slices, orders, network_refusals, refusals, locked_switches, supplies, two_on_a_branch, two_and_locked, full_size):
+    for make in (slices, orders, network_refusals, refusals, locked_switches, own_loops, supplies, two_on_a_branch, two_and_locked, full_size):
         make()
     named = len(cases)
     assert set(told_apart) == set(plans.WRONG), set(plans.WRONG) - set(told_apart)
@@ -390,7 +412,8 @@ def main():
         drawn('drawn-%d' % i, draw, min(draw.randint(2, 40) for _ in range(2)), draw.choice([0, 0, 0.3, 0.6]))
     for i in range(4):
         drawn('drawn-256-buses-%d' % i, draw, 256, [0, 0.1, 0.3, 0.6][i])
-    feeders = len(cases) - named
+    again = sum(name.endswith('-own-loop') for name, *_ in cases[named:])
+    feeders = len(cases) - named - again
     back()
     told = {wrong: sum(name.startswith('drawn') for name in names) for wrong, names in told_apart.items()}
     assert min(told.values()) >= FEWEST_TOLD, told
@@ -417,8 +440,8 @@ def main():
     plans_seen, points, between, sizes = judge_all(shown)
     with open(os.path.join(ROOT, 'stdout'), 'w') as out:
         out.write(shown)
-    print('%d named cases, %d drawn feeders, %d cases with the plans back; %d plans with %d stopping points and %d states between judged; pairs that close and open %s; '
-          'each of %d wrong planners fails on %d drawn cases or more' % (named, feeders, len(cases), plans_seen, points, between,
+    print('%d named cases, %d drawn feeders, %d of them again with an own loop, %d cases with the plans back; %d plans with %d stopping points and %d states between judged; pairs that close and open %s; '
+          'each of %d wrong planners fails on %d drawn cases or more' % (named, feeders, again, len(cases), plans_seen, points, between,
                                                                        ', '.join('%d and %d: %d' % (*size, sizes[size]) for size in sorted(sizes)), len(told), min(told.values())))
 
 

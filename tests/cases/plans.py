@@ -85,6 +85,9 @@ def refusal(feeder, change, present, wanted, wrong=''):
     lines = 2 + len(feeder.buses) + len(feeder.branches)
     if change == 'iterations 1001':
         return 3, 1
+    own = [k for k, (a, b, _) in enumerate(feeder.branches) if a == b]
+    if own:
+        return 17, 2 + len(feeder.buses) + own[0]
     if feeder.method == 2 and len(ties) > 10:
         return 9, lines + ties[10]
     base = ''.join('01'[i in ties] for i in range(len(feeder.switches)))

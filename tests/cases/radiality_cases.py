@@ -7,7 +7,8 @@ Each case of stdin is a line 'LENGTH NAME', a frame text, a line feed, and a lin
 records once they are read (see CHANGES), a hyphen for none, and a digit for each byte of the state. A text is left out where the case
 before has the same. Each line of stdout is 'NAME tree', 'NAME loop BRANCH ISLANDS', 'NAME islands COUNT' or 'NAME NUMBER PLACE'. The
 answers of the named cases are written by hand from these documents, those of the drawn ones reckoned by labels and by searches, which must
-agree; all three must agree on the named ones, and each wrong way to read must fail on one of these.
+agree; all three must agree on the named ones, and each wrong way to read must fail on one of these. Texts are read as stored ones, so that it is the call that refuses a
+branch from a bus to itself.
 """
 import itertools
 import os
@@ -83,7 +84,7 @@ def first_labels(feeder, live, count):
 
 
 def apart(feeder, live):
-    """Of branches between the same buses only the first, own loops among them."""
+    """Of branches between the same buses only the first."""
     return {k for k in live if not any(set(feeder.branches[j][:2]) == set(feeder.branches[k][:2]) for j in live if j < k)}
 
 
@@ -103,7 +104,6 @@ def wrong_forms(feeder, live, islands, branch):
         'the first in a loop': (islands, in_a_loop(feeder, live)),
         'its place among the live': (islands, sorted(live).index(branch) if closing else None),
         'dead ones added': feeder.form_by_labels(set(range(len(feeder.branches)))),
-        'no own loops added': feeder.form_by_labels({k for k in live if len(set(feeder.branches[k][:2])) == 2}),
         'no parallels added': feeder.form_by_labels(apart(feeder, live)),
         '255 labels merged': first_labels(feeder, live, 255)}
 
@@ -154,7 +154,7 @@ def small(n, branches, switches=()):
 def marked():
     case('no-buses', [head(0, 0, 0)], '', TREE)
     case('one-bus', ONE_BUS, '', TREE)
-    case('one-bus-own-loop', [head(1, 1, 0), bus(1), branch(1, 1)], '', 'loop 0 0')
+    case('one-bus-own-loop', [head(1, 1, 0), bus(1), branch(1, 1)], '', (17, 3))
     case('two-buses-one-branch', [head(2, 1, 0)] + TWO + [branch(1, 2)], '', TREE)
     case('two-parallel', [head(2, 2, 0)] + TWO + [branch(1, 2), branch(1, 2)], '', 'loop 1 0')
     case('triangle-base', TRIANGLE, '01', TREE)
@@ -170,8 +170,6 @@ def others():
     case('out-of-service-with-closed-switch', [head(2, 1, 1)] + TWO + [branch(1, 2, 0), switch(1, 0)], '0', 'islands 1')
     case('two-parallel-one-out-of-service', [head(2, 2, 0)] + TWO + [branch(1, 2, 0), branch(2, 1)], '', TREE)
     case('two-parallel-one-open', [head(2, 2, 1)] + TWO + [branch(1, 2), branch(1, 2), switch(1, 1)], '1', TREE)
-    case('own-loop-open', [head(1, 1, 1), bus(1), branch(1, 1), switch(7, 0)], '1', TREE)
-    case('own-loop-for-a-branch', [head(2, 1, 0)] + TWO + [branch(1, 1)], '', 'loop 0 1')
     # three live branches for four buses, and one bus is not reached
     case('loop-and-a-bus-apart', [head(4, 3, 0)] + TWO + [bus(3), bus(4), branch(1, 2), branch(2, 3), branch(3, 1)], '', 'loop 2 1')
     case('loop-apart-from-the-first-bus', [head(4, 3, 0)] + TWO + [bus(3), bus(4), branch(2, 3), branch(3, 4), branch(4, 2)], '', 'loop 2 1')
@@ -182,7 +180,7 @@ def full_size():
     buses = [bus(65535 - i) for i in range(256)]
     chain = [branch(65535 - i, 65534 - i) for i in range(255)]
     case('256-buses-no-branch', [head(256, 0, 0)] + buses, '', 'islands 255')
-    case('256-buses-512-own-loops-at-the-last', [head(256, 512, 0)] + buses + [branch(65280, 65280)] * 512, '', 'loop 0 255')
+    case('256-buses-512-parallels-at-the-last', [head(256, 512, 0)] + buses + [branch(65281, 65280)] * 512, '', 'loop 1 254')
     case('chain-of-256', [head(256, 255, 0)] + buses + chain, '', TREE)
     # branch 511 has the first switch, branch 0 the last: the extras from the first bus to the last stand before the sections of the chain
     ring = [head(256, 512, 512)] + buses + chain + [branch(65535, 65280)] * 257 + [switch(i, 511 - i) for i in range(512)]
@@ -198,9 +196,6 @@ def full_size():
 def loops():
     """The first branch that closes one by rising position, wherever a walk begins."""
     ring = [branch(1, 2), branch(2, 3), branch(3, 1)]
-    case('own-loop-before-a-ring', small(3, [branch(2, 2)] + ring), '', 'loop 0 0')
-    case('own-loop-within-a-ring', small(3, ring[:1] + [branch(3, 3)] + ring[1:]), '', 'loop 1 0')
-    case('own-loop-behind-a-ring', small(3, ring + [branch(1, 1)]), '', 'loop 2 0')
     case('parallel-before-a-ring', small(3, [branch(2, 1)] + ring), '', 'loop 1 0')
     case('parallel-behind-a-ring', small(3, ring + [branch(2, 1)]), '', 'loop 2 0')
     case('ring-from-the-far-side', small(4, [branch(3, 4), branch(2, 3), branch(4, 1), branch(1, 2)]), '', 'loop 3 0')
@@ -210,7 +205,29 @@ def loops():
     case('two-rings-apart', small(4, pairs), '', 'loop 1 1')
     # as many live branches as a tree of these buses has
     case('loop-of-four-branches-five-buses', small(5, [branch(3, 4), branch(1, 2), branch(2, 1), branch(1, 2)]), '', 'loop 2 2')
-    case('own-loops-at-four-of-five-buses', small(5, [branch(i, i) for i in range(2, 6)]), '', 'loop 0 4')
+
+
+def own_loops():
+    """Document 02's 17, wherever such a branch stands, dead or live, before 10; a fault of an earlier line comes first."""
+    ring = [branch(1, 2), branch(2, 3), branch(3, 1)]
+    case('own-loop-open', [head(1, 1, 1), bus(1), branch(1, 1), switch(7, 0)], '1', (17, 3))
+    case('own-loop-open-state-02', [head(1, 1, 1), bus(1), branch(1, 1), switch(7, 0)], '2', (17, 3))
+    case('own-loop-for-a-branch', [head(2, 1, 0)] + TWO + [branch(1, 1)], '', (17, 4))
+    case('own-loop-before-a-ring', small(3, [branch(2, 2)] + ring), '', (17, 5))
+    case('own-loop-within-a-ring', small(3, ring[:1] + [branch(3, 3)] + ring[1:]), '', (17, 6))
+    case('own-loop-behind-a-ring', small(3, ring + [branch(1, 1)]), '', (17, 8))
+    case('own-loops-at-four-of-five-buses', small(5, [branch(i, i) for i in range(2, 6)]), '', (17, 7))
+    for how, status, state in [('open', 1, '1'), ('out-of-service', 0, '0')]:
+        case('own-loop-within-a-ring-' + how, small(3, ring[:1] + [branch(2, 2, status)] + ring[1:], [switch(9, 1)]), state, (17, 6))
+        case('own-loop-beside-a-tree-' + how, small(3, ring[:2] + [branch(2, 2, status)], [switch(9, 2)]), state, (17, 7))
+    # what is left of it is radial, so that a stored text with its supply passes
+    fed = [head(3, 4, 2)] + TRIANGLE[1:5] + [branch(2, 2)] + TRIANGLE[5:7] + [switch(10, 2, 2), switch(11, 3, 3), '050001']
+    for state in ('01', '10', '00', '0', '02'):
+        case('own-loop-supply-state-' + state, fed, state, (17, 6))
+    triangle = fed[:-1]
+    for change, answer in [('max_iterations 1001', (3, 1)), ('id of bus 1 is 1', (7, 3)), ('end of branch 0 is 9', (6, 5)), ('switch 0 on branch 3', (17, 6)), ('id of switch 1 is 10', (17, 6)),
+                           ('three on branch 1', (17, 6)), ('r of branch 1 is -1', (5, 6))]:
+        case('own-loop-and-' + change.replace(' ', '-'), triangle, '01', answer, change)
 
 
 def dead_branches():
@@ -223,7 +240,6 @@ def dead_branches():
                 ('first-of-a-ring-bus-apart', 4, 0, [branch(1, 2, status), bc, ca], 'islands 1'),
                 ('first-parallel', 3, 0, [branch(1, 2, status), ab, bc, ca], 'loop 3 0'),
                 ('second-parallel', 3, 1, [ab, branch(2, 1, status), bc, ca], 'loop 3 0'),
-                ('own-loop-within-a-ring', 3, 1, [ab, branch(2, 2, status), bc, ca], 'loop 3 0'),
                 ('joining', 3, 0, [branch(1, 2, status), bc], 'islands 1'),
                 ('joining-beside-a-loop', 3, 1, [ab, branch(2, 3, status), ab], 'loop 2 1')]:
             case('%s-%s' % (name, how), small(n, branches, [switch(9, position)]), state, answer)
@@ -271,8 +287,12 @@ def unlisted():
     case('unlisted-state-for-all', lines, '000', (10, 0), 'three unlisted')
     case('all-listed', lines, '000', 'loop 2 1')
     rest = [branch(3, 4), branch(3, 4), branch(1, 2)] + lines[10:]
-    for name, first, answer in [('islands', branch(1, 2, 0), 'islands 1'), ('loop', branch(2, 2), 'loop 0 1')]:
+    for name, first, answer in [('islands', branch(1, 2, 0), 'islands 1'), ('own-loop', branch(2, 2), (17, 4))]:
         case('unlisted-beside-' + name, lines[:6] + [first] + rest, '', answer, 'three unlisted')
+    looped = [head(5, 5, 3)] + lines[1:6] + [branch(1, 2), branch(2, 1)] + rest
+    case('unlisted-beside-loop', looped, '', 'loop 1 0', 'three unlisted')
+    # one that is no longer listed decides nothing
+    case('unlisted-own-loop', lines[:6] + [branch(1, 2), branch(4, 4), branch(2, 2), branch(1, 1)] + rest[3:], '', TREE, 'three unlisted')
 
 
 def supplies():
@@ -300,13 +320,12 @@ def supplies():
 
 
 def drawn_branches(draw, n):
-    """At most 20: mostly a tree over all buses, and others beside it, own loops and parallels among them. Each with its ends, whether it is
-    in service and whether it has a switch."""
+    """At most 20: mostly a tree over all buses, and others beside it, parallels among them. Each with its ends, whether it is in service and whether it has a switch."""
     ends = [(i, draw.randrange(i)) for i in range(1, n) if draw.random() < 0.99]
     branches = [(pair, draw.random() < 0.99, draw.random() < 0.75) for pair in ends]
-    for _ in range(draw.randint(0, min(9, 20 - len(ends))) if n else 0):
-        i = draw.randrange(n)
-        pair = draw.choice([(i, i), (i, draw.randrange(n)), (i, draw.randrange(n)), draw.choice(ends or [(i, i)])])
+    for _ in range(draw.randint(0, min(9, 20 - len(ends))) if n > 1 else 0):
+        pair = tuple(draw.sample(range(n), 2))
+        pair = draw.choice([pair, draw.choice(ends or [pair])])
         branches.append((pair, draw.random() < 0.85, draw.random() < 0.97))
     draw.shuffle(branches)
     return [tuple(draw.sample(pair, 2)) for pair, _, _ in branches], [s for _, s, _ in branches], [k for k, b in enumerate(branches) if b[2]]
@@ -337,12 +356,14 @@ def drawn(number, draw, beyond):
     on += [k for k in on if draw.random() < 0.4]
     draw.shuffle(on)
     ids = draw.sample(range(65536), n + beyond)
-    all_ends = ends + [(draw.randrange(n + beyond), draw.randrange(n + beyond)) for _ in range(beyond)]
+    all_ends = ends + [tuple(draw.sample(range(n + beyond), 2)) for _ in range(beyond)]
     all_on = on + draw.sample([k for k in range(len(all_ends)) if k not in on], beyond)
     lines = [head(n + beyond, len(all_ends), len(all_on))] + [bus(i) for i in ids]
     lines += [branch(ids[a], ids[b], in_service) for (a, b), in_service in zip(all_ends, status + [True] * beyond)]
     lines += [switch(i, k, draw.randrange(4)) for i, k in zip(draw.sample(range(65536), len(all_on)), all_on)]
     change = 'three unlisted' if beyond else ''
+    if number % 5 == 0 and n:
+        drawn_own_loop(number, draw, lines, ids[draw.randrange(n)], len(on) + beyond)
     for i, state in enumerate(drawn_states(draw, n, ends, status, on)):
         case('d%d-%d' % (number, i), lines, state, change=change)
     malformed = ''.join(draw.choice('01') for _ in on)
@@ -350,15 +371,24 @@ def drawn(number, draw, beyond):
     case('d%d-malformed' % number, lines, malformed, (10, 0), change)
 
 
+def drawn_own_loop(number, draw, lines, at, switches):
+    """The feeder with one of its branches leading from a bus to itself: its place is the line's, whatever the state."""
+    branches = [i for i, line in enumerate(lines) if line.startswith('03')]
+    if branches:
+        i = draw.choice(branches)
+        looped = lines[:i] + [branch(at, at, draw.randrange(2))] + lines[i + 1:]
+        case('d%d-own-loop' % number, looped, ''.join(draw.choice('01') for _ in range(switches)), (17, i + 1))
+
+
 def kinds(answers):
     """How many there are of each."""
     words = [answer.split() for answer in answers]
     count = [word[0] if word[0] != 'loop' else 'loop alone' if word[2] == '0' else 'loop with islands' for word in words]
-    return ', '.join('%d %s' % (count.count(kind), kind) for kind in ('tree', 'loop alone', 'loop with islands', 'islands')) + ', %d refused' % count.count('10')
+    return ', '.join('%d %s' % (count.count(kind), kind) for kind in ('tree', 'loop alone', 'loop with islands', 'islands')) + ', %d refused 10, %d refused 17' % (count.count('10'), count.count('17'))
 
 
 def main():
-    for make in (marked, others, full_size, loops, dead_branches, two_on_a_branch, refusals, unlisted, supplies):
+    for make in (marked, others, full_size, loops, own_loops, dead_branches, two_on_a_branch, refusals, unlisted, supplies):
         make()
     named = len(cases)
     assert told_apart == wrong_ways, wrong_ways - told_apart

@@ -15,7 +15,7 @@ OK = 'accepted'
 ONE, ZERO, MINUS_ZERO = 0x3FF0000000000000, 0, 0x8000000000000000
 INFINITY, MINUS_INFINITY = 0x7FF0000000000000, 0xFFF0000000000000
 NANS = [0x7FF8000000000000, 0x7FF0000000000001, 0xFFF8000000000000, 0xFFF0000000000001, 0xFFFFFFFFFFFFFFFF]
-ROOM_FOR_CASES = 589824
+ROOM_FOR_CASES = 622592
 cases = []
 
 
@@ -94,9 +94,41 @@ def examples():
     case('two-switches-on-0000', two + [switch(10, 0), switch(11, 0)], OK)
     case('row-8-three-switches-on-0000', [head(2, 2, 3)] + two[1:] + [switch(10, 0), switch(11, 0), switch(12, 0)], (8, 8))
     case('status-00-passes', small(branch=branch(1, 2, ONE, 0)), OK)
-    case('own-loop-passes', small(branch=branch(1, 1)), OK)
     for flags in range(4):
         case('flags-%02X-pass' % flags, small(switch=switch(10, 0, flags)), OK)
+
+
+def own_loops():
+    """Document 02: equal ends, in service or not, are 17 at the branch line, behind 6."""
+    case('row-17-own-loop', small(branch=branch(1, 1)), (17, 4))
+    case('row-17-own-loop-out-of-service', small(branch=branch(2, 2, ONE, 0)), (17, 4))
+    case('row-17-own-loop-open', small(branch=branch(2, 2), switch=switch(10, 0, 3)), (17, 4))
+    case('row-17-one-bus', [head(1, 1, 0), bus(1), branch(1, 1)], (17, 3))
+    for number in (0, 65535):
+        case('row-17-bus-%d' % number, [head(2, 2, 0), bus(65535), bus(0), branch(0, 65535), branch(number, number)], (17, 5))
+    for name, line, fault in [('unlisted', branch(9, 9), 6), ('unlisted-out-of-service', branch(9, 9, ONE, 0), 6), ('id-of-a-switch', branch(10, 10), 6),
+                              ('r-infinite', branch(1, 1, INFINITY), 5), ('unlisted-r-no-number', branch(9, 9, NANS[0]), 5), ('status-02', branch(1, 1, ONE, 2), 3),
+                              ('minus-zero', branch(1, 1, MINUS_ZERO), 17), ('r-1000', branch(1, 1, 0x408F400000000000, 0), 17)]:
+        case('own-loop-' + name, small(branch=line), (fault, 4))
+    # the triangle with an own loop at each position, and two of them
+    own = branch(2, 2, 0x3FD0000000000000)
+    for k in range(4):
+        rows = [head(3, 4, 2)] + TRIANGLE[1:4 + k] + [own] + TRIANGLE[4 + k:7] + [switch(10, 0, 2), switch(11, 3, 3)]
+        case('own-loop-at-position-%d' % k, rows, (17, 5 + k))
+        case('own-loop-at-position-%d-supply' % k, rows + [supply(1)], (17, 5 + k))
+    case('two-own-loops', [head(3, 5, 0)] + TRIANGLE[1:5] + [own, own] + TRIANGLE[5:7], (17, 6))
+    case('only-own-loops', [head(3, 3, 0)] + TRIANGLE[1:4] + [own] * 3, (17, 5))
+    # a fault before it, a fault behind it, and none behind it is looked at
+    case('own-loop-behind-a-bus-again', [head(2, 1, 0), bus(1), bus(1), branch(1, 1)], (7, 3))
+    case('own-loop-behind-an-unlisted-end', [head(2, 2, 0), bus(1), bus(2), branch(1, 9), branch(1, 1)], (6, 4))
+    case('own-loop-before-an-unlisted-end', [head(2, 2, 0), bus(1), bus(2), branch(1, 1), branch(1, 9)], (17, 4))
+    case('own-loop-before-flags-04', small(branch=branch(1, 1), switch=switch(10, 0, 4)), (17, 4))
+    case('own-loop-and-a-line-missing', small(branch=branch(1, 1))[:4], (17, 4))
+    case('own-loop-and-a-line-too-many', small(branch=branch(1, 1)) + ['00'], (17, 4))
+    case('own-loop-unended', text(small(branch=branch(1, 1))[:4])[:-1], (1, 4))
+    case('own-loop-supply-not-listed', small(branch=branch(1, 1)) + [supply(9)], (17, 4))
+    case('parallels-pass', [head(2, 3, 0), bus(1), bus(2), branch(1, 2), branch(1, 2), branch(2, 1)], OK)
+    case('last-of-512-branches-an-own-loop', many(2, 512, 0)[:-1] + [branch(65534, 65534)], (17, 515))
 
 
 def rows_of_switches(branches, positions, method=0, ids=None, flags=None):
@@ -111,10 +143,10 @@ def two_on_a_branch():
     for name, first, second in [('sections', 2, 2), ('ties', 3, 3), ('tie-and-section', 3, 2), ('section-and-tie', 2, 3), ('locked-ties', 1, 1), ('locked-and-operable', 0, 2)]:
         case('two-' + name, rows_of_switches(1, [0, 0], flags=[first, second]), OK)
         case('two-%s-and-a-third' % name, rows_of_switches(1, [0, 0, 0], flags=[first, second, 2]), (8, 7))
-    for name, line in [('out-of-service', branch(1, 2, ONE, 0)), ('own-loop', branch(1, 1))]:
+    for name, line, two, three in [('out-of-service', branch(1, 2, ONE, 0), OK, (8, 7)), ('own-loop', branch(1, 1), (17, 4), (17, 4))]:
         rows = [head(2, 1, 2), bus(1), bus(2), line, switch(1, 0), switch(2, 0)]
-        case('two-on-an-%s-branch' % name, rows, OK)
-        case('row-8-on-an-%s-branch' % name, [head(2, 1, 3)] + rows[1:] + [switch(3, 0)], (8, 7))
+        case('two-on-an-%s-branch' % name, rows, two)
+        case('third-on-an-%s-branch' % name, [head(2, 1, 3)] + rows[1:] + [switch(3, 0)], three)
     # document 02's triangle with two switches on each of two branches
     two_each = TRIANGLE[1:7] + [switch(12, 2, 3), switch(10, 1, 2), switch(11, 2, 3), switch(13, 1, 0)]
     for method in range(3):
@@ -272,8 +304,8 @@ def bases():
     fed('without-switches', [head(2, 1, 0), bus(1), bus(2), branch(2, 1)], OK)
     fed('of-two-parallel', [head(2, 2, 0), bus(1), bus(2), branch(1, 2), branch(2, 1)], (15, 6))
     fed('of-two-parallel-one-open', [head(2, 2, 1), bus(1), bus(2), branch(1, 2), branch(2, 1), switch(5, 0, 3)], OK)
-    fed('with-an-own-loop', [head(1, 1, 0), bus(1), branch(1, 1)], (15, 4))
-    fed('with-an-own-loop-open', [head(1, 1, 1), bus(1), branch(1, 1), switch(5, 0, 1)], OK)
+    fed('with-an-own-loop', [head(1, 1, 0), bus(1), branch(1, 1)], (17, 3))
+    fed('with-an-own-loop-open', [head(1, 1, 1), bus(1), branch(1, 1), switch(5, 0, 1)], (17, 3))
     fed('of-two-buses-no-branch', [head(2, 0, 0), bus(1), bus(2)], (15, 4), 2)
     # as many branches as a tree has, and a bus apart
     fed('with-a-loop-and-a-bus-apart', [head(4, 3, 0), bus(1), bus(2), bus(3), bus(4), branch(1, 2), branch(2, 3), branch(3, 1)], (15, 9), 4)
@@ -315,7 +347,7 @@ def supply_lines():
 FAULTS = {
     'head': {2: dict(tail='00'), 3: dict(method=3), 4: dict(buses=257), 5: dict(base=ZERO)},
     'bus': {2: dict(kind='05'), 5: dict(pd=INFINITY), 7: dict(number=1)},
-    'branch': {2: dict(kind='05'), 3: dict(status=2), 5: dict(r=MINUS_INFINITY), 6: dict(to_bus=9)},
+    'branch': {2: dict(kind='05'), 3: dict(status=2), 5: dict(r=MINUS_INFINITY), 6: dict(to_bus=9), 17: dict(own=True)},
     'switch': {2: dict(kind='05'), 3: dict(flags=7), 6: dict(position=12), 7: dict(number=1), 8: dict(position=0), 9: dict(tie=1)},
     # 15 is no fault of the line itself: the one branch that is live in the base is out of service
     'supply': {2: dict(kind='06'), 14: dict(number=9), 15: {}},
@@ -333,7 +365,8 @@ def line_of(kind, faults):
     elif kind == 'bus':
         line = bus(change.get('number', 2), change.get('pd', ZERO))
     elif kind == 'branch':
-        line = branch(1, change.get('to_bus', 2), change.get('r', ONE), change.get('status', 1))
+        to_bus = change.get('to_bus', 2)
+        line = branch(to_bus if 'own' in change else 1, to_bus, change.get('r', ONE), change.get('status', 1))
     elif kind == 'supply':
         line = supply(change.get('number', 2))
     else:
@@ -383,8 +416,8 @@ def main():
     print('%d cases' % len(cases))
 
 
-for make in (examples, two_on_a_branch, many_with_two, limits, ranges, lines, supplies, bases, supply_lines, two_faults):
+for make in (examples, own_loops, two_on_a_branch, many_with_two, limits, ranges, lines, supplies, bases, supply_lines, two_faults):
     make()
-# tests/cases/writer_cases.py takes the texts from here
+# tests/cases/writer_cases.py and tests/cases/repair_cases.py take the texts from here
 if __name__ == '__main__':
     main()

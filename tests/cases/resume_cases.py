@@ -268,7 +268,7 @@ def counts():
 def empty_plans():
     spare = Feeder(TRIANGLE.buses, TRIANGLE.branches + [(1, 2, 0)], [(12, 3, 0), (10, 1, 2), (11, 2, 2)])
     for name, feeder, present, wanted in [('same-state', TRIANGLE, '01', '01'), ('same-other-state', TRIANGLE, '10', '10'), ('no-buses', Feeder([], [], []), '', ''),
-                                          ('one-bus', Feeder([7], [], []), '', ''), ('own-loop-open', Feeder([7], [(7, 7, 1)], [(1, 0, 2)]), '1', '1'),
+                                          ('one-bus', Feeder([7], [], []), '', ''),
                                           ('out-of-service-differs', spare, '001', '101')]:
         every(name, feeder, present, wanted)
         one(name + '-0', feeder, present, wanted, 0, (0, 0), ('', ''))
@@ -307,6 +307,20 @@ def refusals():
     every('locked-switch-stays', held, '00011', '10100')
     one('locked-switch-stays-3', held, '00011', '10100', 3, (9, 27), CHAIN_LISTS[3])
     one('locked-switch-stays-5', held, '00011', '10100', 5, (9, 45), 'refused 16 0')
+
+
+def own_loops():
+    """Document 02's 17, before the states and the count: the text is read as a stored one, so that it is the call that refuses. Dead or live, with a switch that moves or stays."""
+    lone = Feeder([7], [(7, 7, 1)], [(1, 0, 2)])
+    for count, rooms in (0, (0, 0)), (0, (5, 7)), (1, (0, 0)), (1, (9, 9)), (65536, (9, 9)), (2 ** 32, (9, 9)), (2 ** 64 - 1, (9, 9)):
+        one('own-loop-open-%d-%d-%d' % (count, *rooms), lone, '1', '1', count, rooms, 'refused 17 3')
+    for k, status in itertools.product(range(4), (0, 1)):
+        others = [j for j in range(4) if j != k]
+        branches = TRIANGLE.branches[:k] + [(3, 3, status)] + TRIANGLE.branches[k:]
+        looped = Feeder(TRIANGLE.buses, branches, [(10, others[1], 2), (12, k, 2), (11, others[2], 3)], supply=2 if k == 1 else None)
+        for count, present, wanted in (1, '001', '100'), (0, '011', '100'), (3, '001', '100'), (2 ** 64 - 1, '000', '2'):
+            one('own-loop-at-%d-status-%d-count-%d-%s' % (k, status, count, present), looped, present, wanted, count, (9, 9), 'refused 17 %d' % (5 + k))
+    one('own-loop-iterations-1001', lone, '1', '1', 0, (0, 0), 'refused 3 1', 'iterations 1001')
 
 
 def network_refusals():
@@ -365,6 +379,7 @@ def drawn(name, draw, shape, most):
     n = most + 1 + draw.below(5)
     tree = [(SHAPES[shape](draw, i), i) for i in range(1, n)]
     ties = [(n - 1, 0)] * (shape == 'ring') + [(draw.below(n), draw.below(n)) for _ in range(most + most // 2 + draw.below(4))]
+    ties = [(a, b if b != a else (a + 1) % n) for a, b in ties if n > 1]
     buses, order = draw.ids(n), draw.shuffled(range(len(tree + ties)))
     branches = [tuple(buses[i] for i in draw.shuffled((tree + ties)[at])) + (1,) for at in order]
     feeder = Feeder(buses, branches, [])
@@ -599,7 +614,7 @@ def write(shown):
 
 
 def main():
-    for make in (slices, two_on_a_branch, counts, empty_plans, refusals, network_refusals, supplies, longest):
+    for make in (slices, two_on_a_branch, counts, empty_plans, refusals, own_loops, network_refusals, supplies, longest):
         make()
     assert told_apart == WRONG | WRONG_PLANS, (WRONG | WRONG_PLANS) - told_apart
     draw, lengths = Draw(4), []

@@ -5,7 +5,7 @@ usage: tests/cases/writer_cases.py
 
 Each case of stdin is a line 'LENGTH NAME', a frame text, a line feed, and a line with the letter of a change (crates/writer_cases/src/changes.rt). Each case has five
 lines of stdout, one for each slice: 'NAME LENGTH: ANSWER, SLICE' (crates/writer_cases/src/main.rt). The texts are the accepted ones of tests/cases/reader_cases.py and
-some more; what the records are refused with, and the text of changed records, is written here by hand from documents 01 and 02. What is in a slice then follows by its rule:
+some more, read as stored ones; what the records are refused with, and the text of changed records, is written here by hand from documents 01 and 02. What is in a slice then follows by its rule:
 the records' refusal, then 13 where the slice is shorter than the text, then the text at its front and the rest kept.
 """
 import os
@@ -21,7 +21,7 @@ CHANGES = {
     '': '-', 'iterations-1001': 'A', 'buses-257': 'B', 'branches-513': 'C', 'switches-65535': 'D', 'base-no-number': 'E', 'bus-1-again': 'F',
     'load-out-of-range': 'G', 'load-no-number': 'H', 'end-not-listed': 'I', 'r-below-zero': 'J', 'r-no-number-and-end-not-listed': 'K', 'switch-10-again': 'L',
     'second-switch-on-a-branch': 'M', 'position-3-of-3': 'N', 'eleventh-tie': 'O', 'third-bus-and-first-branch': 'P', 'refused-if-listed': 'Q',
-    'fewer-listed': 'R', 'more-listed': 'S', 'ends-of-ranges': 'T', 'supply-3': 'U', 'has-a-supply': 'V', 'has-no-supply': 'W', 'third-switch-on-a-branch': 'X',
+    'fewer-listed': 'R', 'more-listed': 'S', 'ends-of-ranges': 'T', 'supply-3': 'U', 'has-a-supply': 'V', 'has-no-supply': 'W', 'third-switch-on-a-branch': 'X', 'one-more-of-each': 'Y', 'one-more-branch': 'Z',
 }
 ROOM_BEHIND = 80
 ROOM_FOR_CASES = 278528
@@ -57,7 +57,7 @@ def read_and_written():
             case(name, data, data)
 
 
-def largest():
+def largest_rows():
     """256 buses, 512 branches, 512 switches and the supply, each field with many values: 27,436 bytes. The branches at the first 255 positions drawn are a tree; of the
     others every second is out of service, and the rest have normally open switches."""
     draw = random.Random(17)
@@ -72,7 +72,7 @@ def largest():
     # the exponents keep a load within 2 to the power of 19 and r below 2 to the power of 9
     rows += [bus(number, draw.getrandbits(1) << 63 | draw.randrange(0x412) << 52 | draw.getrandbits(52)) for number in ids]
     for k in range(512):
-        ends = draw.choice(ids), draw.choice(ids)
+        ends = draw.sample(ids, 2)
         if k in tree:
             i = next(joined)
             ends = draw.sample([ids[i], ids[draw.randrange(i)]], 2)
@@ -83,7 +83,11 @@ def largest():
         rows.append(switch(65535 - 128 * i, k, flags))
     rows.append(supply(draw.choice(ids)))
     assert len(text(rows)) == 27436
-    case('largest-of-many-values', rows, rows)
+    return rows
+
+
+def largest():
+    case('largest-of-many-values', largest_rows(), largest_rows())
 
 
 def refused_records():
@@ -108,7 +112,7 @@ def unlisted_records():
     for name, rows in [('triangle', TRIANGLE), ('small', small()), ('nothing-listed', [head(0, 0, 0, ONE, 2, 0)])]:
         changed(rows, rows, 'refused-if-listed', name + '-refused-if-listed')
     kept = [bus(1), bus(2, ONE)], [branch(1, 2), branch(2, 1, ONE, 0)], [switch(10, 1, 1)]
-    last = [bus(3)], [branch(3, 3)], [switch(11, 0)]
+    last = [bus(3)], [branch(3, 1)], [switch(11, 0)]
     rows = [line for of_kind in zip(kept, last) for part in of_kind for line in part]
     changed([head(3, 3, 2)] + rows, [head(2, 2, 1)] + kept[0] + kept[1] + kept[2], 'fewer-listed')
     # a branch ends at the bus that is no longer listed
@@ -117,13 +121,38 @@ def unlisted_records():
 
 def other_records():
     """Accepted records that are not those of the text. What reading leaves behind the counts is zeros."""
-    more = TRIANGLE[1:4] + [bus(0)] + TRIANGLE[4:7] + [branch(0, 0, 0, 0)] + TRIANGLE[7:] + [switch(0, 0, 0)]
-    changed(TRIANGLE, [head(4, 4, 3)] + more, 'more-listed')
+    more = TRIANGLE[1:4] + [bus(0)] + TRIANGLE[4:] + [switch(0, 0, 0)]
+    changed(TRIANGLE, [head(4, 3, 3)] + more, 'more-listed')
+    # the branch of zeros is one from bus 0 to itself
+    changed(TRIANGLE, (17, 9), 'one-more-of-each')
+    # without a bus 0 its ends are not listed
+    changed(TRIANGLE, (6, 8), 'one-more-branch')
     rows = list(TRIANGLE)
     rows[0], rows[1] = head(3, 3, 2, 0x3F50624DD2F1A9FC, 0, 1000), bus(1, MINUS_ZERO)
     rows[4], rows[7] = branch(3, 1, 1, 0), switch(65535, 0, 0)
     changed(TRIANGLE, rows, 'ends-of-ranges')
     changed(TRIANGLE, TRIANGLE[:8] + [switch(11, 1, 3)], 'second-switch-on-a-branch')
+
+
+def own_loops():
+    """Stored texts are read with their branches from a bus to itself; written they are not, whatever the slice. In service or not, with a switch or without."""
+    own = branch(2, 2, 0x3FD0000000000000)
+    for k in range(4):
+        case('own-loop-at-position-%d' % k, [head(3, 4, 2)] + TRIANGLE[1:4 + k] + [own] + TRIANGLE[4 + k:7] + [switch(10, k, 2), switch(11, (k + 1) % 4, 3)], (17, 5 + k))
+    case('own-loop-out-of-service', [head(1, 1, 0), bus(1), branch(1, 1, ONE, 0)], (17, 3))
+    case('own-loop-open', [head(1, 1, 1), bus(1), branch(1, 1), switch(5, 0, 3)], (17, 3))
+    case('own-loop-with-two-switches', [head(2, 2, 2), bus(1), bus(2), branch(1, 2), branch(1, 1), switch(5, 1, 3), switch(6, 1, 0)], (17, 5))
+    case('own-loops-only', [head(3, 3, 0)] + TRIANGLE[1:4] + [own] * 3, (17, 5))
+    # what is left without it is radial, so that the stored text passes
+    case('own-loop-supply', [head(3, 4, 2)] + TRIANGLE[1:4] + [own] + TRIANGLE[4:7] + [switch(10, 2, 2), switch(11, 3, 3), supply(1)], (17, 5))
+    looped = small(first=bus(1), branch=branch(2, 2))
+    changed(looped, (3, 1), 'iterations-1001', 'own-loop-and-iterations-1001')
+    changed(looped, (17, 4), 'refused-if-listed', 'own-loop-and-refused-if-listed')
+    # branch 1 gets an end that is not listed, behind the own loop and on it
+    for k, fault in [(0, (17, 5)), (1, (6, 6)), (2, (6, 6))]:
+        rows = TRIANGLE[:4] + [own if j == k else line for j, line in enumerate(TRIANGLE[4:7])] + TRIANGLE[7:]
+        changed(rows, fault, 'end-not-listed', 'own-loop-at-%d-and-end-not-listed' % k)
+    changed(TRIANGLE[:6] + [own] + TRIANGLE[7:], (17, 7), 'switch-10-again', 'own-loop-and-switch-10-again')
 
 
 def supplies():
@@ -145,7 +174,8 @@ def supplies():
     parallel = [head(2, 2, 0), bus(0), bus(7), branch(7, 0), branch(0, 7)]
     changed(parallel, (15, 6), 'has-a-supply', 'supply-0-on-a-loop')
     changed(fed[1], (15, 10), 'ends-of-ranges', 'supply-on-a-branch-out-of-service')
-    changed(fed[1], (15, 13), 'more-listed', 'supply-beside-a-bus-apart')
+    changed(fed[1], (15, 12), 'more-listed', 'supply-beside-a-bus-apart')
+    changed(fed[1], (17, 9), 'one-more-of-each', 'supply-and-one-more-of-each')
     # a fault of an earlier record comes first
     changed(fed[1], (7, 9), 'switch-10-again', 'supply-and-switch-10-again')
     changed(fed[1], (3, 1), 'iterations-1001', 'supply-and-iterations-1001')
@@ -160,7 +190,7 @@ def supplies():
 
 
 def main():
-    for make in (read_and_written, largest, refused_records, unlisted_records, other_records, supplies):
+    for make in (read_and_written, largest, refused_records, unlisted_records, other_records, own_loops, supplies):
         make()
     names = [name for name, _, _ in cases]
     assert len(names) == len(set(names)), 'a name stands twice'
@@ -173,4 +203,6 @@ def main():
     print('%d cases' % len(cases))
 
 
-main()
+# tests/cases/repair_cases.py takes the largest text from here
+if __name__ == '__main__':
+    main()

@@ -1,4 +1,4 @@
-"""python/lugwefa.py over the library: the triangle, forms, plans with up to two switches on a branch, refusals, states by id, records, the bytes that no call may touch, and every
+"""python/lugwefa.py over the library: the triangle, forms, plans with up to two switches on a branch, refusals, states by id, records, repairs, the bytes that no call may touch, and every
 text of the list that `replay` has (tests/answers.md). usage: calls.py LIST EXAMPLE"""
 
 import ctypes
@@ -12,7 +12,7 @@ from collections import Counter
 from contextlib import redirect_stdout
 
 import lugwefa
-from lugwefa import CLOSED, OPEN, TREE, Branch, Bus, Form, Head, Move, NoRoom, Operation, Pair, Refused, Resumed, Switch
+from lugwefa import BRANCH, CLOSED, OPEN, SWITCH, TREE, Branch, Bus, Dropped, Form, Head, Move, NoRoom, Operation, Pair, Refused, Repaired, Resumed, Switch
 
 HEAD = '010003000300023FF0000000000000000064\n'
 BUSES = '0200010000000000000000\n0200023FF0000000000000\n0200034000000000000000\n'
@@ -22,6 +22,13 @@ TURNED = TRIANGLE.replace('0300010002', '0300020001')
 LOCKED = HEAD + BUSES + BRANCHES + '04000A000100\n04000B000203\n'
 # the triangle with a switch at each end of two branches: 12 and 11 on branch 2, 10 and 13, which is locked, on branch 1
 FOUR_SWITCHES = HEAD.replace('0002', '0004') + BUSES + BRANCHES + '04000C000203\n04000A000102\n04000B000203\n04000D000100\n'
+# the triangle with a branch from bus 2 to itself, at position 1, and switch 12 on it
+OWN_LOOP = '03000200023FD000000000000001\n'
+STORED = HEAD.replace('000300030002', '000300040003') + BUSES + BRANCHES[:29] + OWN_LOOP + BRANCHES[29:] + '04000A000202\n04000C000102\n04000B000303\n'
+STORED_DROPPED = [Dropped(6, BRANCH), Dropped(10, SWITCH)]
+# one bus with its own loop, and without it
+OWN_BUS = '010001000100003FF0000000000000000064\n0200010000000000000000\n03000100013FD000000000000001\n'
+ONE_BUS = '010001000000003FF0000000000000000064\n0200010000000000000000\n'
 PRINTED = '810140100000000000003FF00000000000004052C00000000000000201\n840000FFFF\n82000A00\n82000B01\n8601000B01000A\n'
 BASE = {10: CLOSED, 11: OPEN}
 BEST = {10: OPEN, 11: CLOSED}
@@ -137,29 +144,30 @@ FORMS = {
     'one bus': (1, [], (0, None)),
     'two buses without a branch': (2, [], (1, None)),
     '256 buses without a branch': (256, [], (255, None)),
-    'a bus with its own loop': (1, [(0, 0)], (0, 0)),
     'two buses and a branch': (2, [(0, 1)], (0, None)),
     'two parallel branches': (2, [(0, 1), (1, 0)], (0, 1)),
-    'an own loop and an island': (2, [(1, 1)], (1, 0)),
-    'an own loop before the branches of a ring': (3, [(1, 1), (0, 1), (1, 2), (2, 0)], (0, 0)),
     'a parallel before the branch that closes a ring': (3, [(0, 1), (1, 0), (1, 2), (2, 0)], (0, 1)),
     'a loop and a bus apart, with as many branches as a tree': (4, [(0, 1), (1, 2), (2, 0)], (1, 2)),
     'two rings apart: the one that is closed first': (6, [(0, 1), (3, 4), (4, 5), (5, 3), (1, 2), (2, 0)], (1, 3)),
     'two pieces that are joined before a loop is closed': (5, [(4, 3), (0, 1), (1, 2), (2, 3), (0, 4), (2, 0), (1, 3)], (0, 4)),
     '256 buses in a row, and a branch from the last to the first': (256, [*((k, k + 1) for k in range(255)), (255, 0)], (0, 255)),
-    '256 buses, and 512 own loops at the last': (256, [(255, 255)] * 512, (255, 0)),
     '256 buses in a row, and 257 branches beside the first': (256, [*((k, k + 1) for k in range(255)), *[(0, 1)] * 257], (0, 255)),
 }
 
 
+def text_of(buses, ends):
+    """Ids fall where positions rise, and the switches are listed from the last branch to the first, so that an id or a place in the list is not taken for a position."""
+    count = len(ends)
+    return in_text(lugwefa.records((1.0, 0, 0), [(999 - k, 0.0) for k in range(buses)], [(999 - a, 999 - b, 0.0, 1) for a, b in ends],
+                                   [(k, count - 1 - k, False, True) for k in range(count)]))
+
+
 def forms():
-    """With all switches closed, known by hand; in every state, or in drawn ones where these are too many. Ids fall where positions rise, and the switches are listed from the last branch
-    to the first, so that an id or a place in the list is not taken for a position."""
+    """With all switches closed, known by hand; in every state, or in drawn ones where these are too many."""
     draw = random.Random(1)
     for what, (buses, ends, right) in FORMS.items():
         count = len(ends)
-        text = lugwefa.write_text(lugwefa.records((1.0, 0, 0), [(999 - k, 0.0) for k in range(buses)], [(999 - a, 999 - b, 0.0, 1) for a, b in ends],
-                                                  [(k, count - 1 - k, False, True) for k in range(count)]))
+        text = text_of(buses, ends)
         expect(lugwefa.form(text, [0] * count), Form(*right), what)
         states = itertools.product((CLOSED, OPEN), repeat=count) if count < 8 else (draw.choices((CLOSED, OPEN), (1, chance), k=count) for chance in range(20))
         for state in states:
@@ -304,7 +312,7 @@ def drawn_feeder(draw):
     """A tree and branches more, at any positions, each with none, one or two switches, in some feeders two on each, listed in any order. Of those beside the tree some are out of service."""
     buses, all_two, locked = draw.randint(1, 8), draw.random() < 0.3, draw.choice((0, 0.1))
     ends = [(draw.randrange(k), k, True, draw.choice((0, 1, 2))) for k in range(1, buses)]
-    ends += [(draw.randrange(buses), draw.randrange(buses), draw.random() < 0.9, draw.choice((1, 2))) for _ in range(draw.randint(0, 7))]
+    ends += [(*draw.sample(range(buses), 2), draw.random() < 0.9, draw.choice((1, 2))) for _ in range(draw.randint(0, 7) if buses > 1 else 0)]
     draw.shuffle(ends)
     on = [k for k, each in enumerate(ends) for _ in range(2 if all_two else each[3])]
     draw.shuffle(on)
@@ -359,8 +367,18 @@ def in_bytes(text):
     return bytes.fromhex(text.replace('\n', ''))
 
 
+def in_text(records):
+    """The text of records in bytes, accepted or not."""
+    sizes, lines, digits = {1: 36, 2: 22, 3: 28, 4: 12, 5: 6}, [], records.hex().upper()
+    while digits:
+        size = sizes[int(digits[:2], 16)]
+        lines.append(digits[:size] + '\n')
+        digits = digits[size:]
+    return ''.join(lines)
+
+
 def in_records(text):
-    """The records of an accepted text."""
+    """The records of a text."""
     number = lambda digits: int(digits, 16)
     float_of = lambda digits: struct.unpack('>d', bytes.fromhex(digits))[0]
     kinds = {'01': [], '02': [], '03': [], '04': [], '05': []}
@@ -466,8 +484,10 @@ def refusals():
         (8, 10): bad.replace('0002', '0003', 1) + '04000A000102\n04000B000103\n04000C000102\n',
         (8, 12): FOUR_SWITCHES.replace('0004', '0005', 1) + '04000E000202\n',
         (7, 12): FOUR_SWITCHES.replace('0004', '0005', 1) + '04000C000202\n',
-        (9, 24): '010001000B000B3FF0000000000000020000\n' + BUSES[:23] + '03000100013FD000000000000000\n' * 11
+        (9, 25): '010002000B000B3FF0000000000000020000\n' + BUSES[:46] + '03000100023FD000000000000000\n' * 11
                  + ''.join(f'04{k + 1:04X}{k:04X}03\n' for k in range(11)),
+        (17, 5): HEAD + BUSES + OWN_LOOP,
+        (17, 6): STORED + '050009\n',
         (14, 10): TRIANGLE + '050009\n',
         (15, 10): bad + '04000A000102\n04000B000202\n050001\n',
     }
@@ -491,7 +511,89 @@ def refusals():
     expect(str(Refused(11, 1)), "refused 11 at the wanted state: a plan's state isn't radial, or with a supply that of a loss", 'words')
     expect(str(Refused(14, 10)), 'refused 14 at line 10: supply bus not listed', 'words')
     expect(str(Refused(15, 10)), 'refused 15 at line 10: a supply is named, and the base is not radial', 'words')
-    expect(sorted(lugwefa.CONDITIONS), list(range(1, 17)), 'a condition for each number')
+    expect(str(Refused(17, 6)), 'refused 17 at line 6: branch from a bus to itself', 'words')
+    expect(sorted(lugwefa.CONDITIONS), list(range(1, 18)), 'a condition for each number')
+
+
+def repaired_by_lines(text):
+    """The repair of an accepted stored text, reckoned on its lines: those of the branches with equal ends and of the switches on them go."""
+    lines = text.splitlines(keepends=True)
+    buses, branches, switches = (int(lines[0][at:at + 4], 16) for at in (2, 6, 10))
+    first, behind = 1 + buses, 1 + buses + branches
+    own = {k for k in range(branches) if lines[first + k][2:6] == lines[first + k][6:10]}
+    on = {behind + i: int(lines[behind + i][6:10], 16) for i in range(switches)}
+    dropped = [Dropped(first + k + 1, BRANCH) for k in sorted(own)] + [Dropped(at + 1, SWITCH) for at, k in on.items() if k in own]
+    gone = {line - 1 for line, _ in dropped}
+    place = lambda k: f'{k - sum(each < k for each in own):04X}'
+    kept = [line[:6] + place(on[at]) + line[10:] if at in on else line for at, line in enumerate(lines) if at not in gone]
+    kept[0] = f'01{buses:04X}{branches - len(own):04X}{switches - sum(k in own for k in on.values()):04X}{lines[0][14:]}'
+    return Repaired(''.join(kept), dropped)
+
+
+def is_repaired(text, place, what):
+    """A stored text that the other calls refuse with 17; what is left is a new text, which they read, and the same repaired."""
+    right = repaired_by_lines(text)
+    expect(lugwefa.repair_text(text), right, what)
+    for ask in (lugwefa.answer_text, lugwefa.base_state):
+        expect(refusal(ask, text), (17, place), f'{what}, refused')
+    expect(refusal(lugwefa.write_text, in_bytes(text)), (17, place), f'{what}, its records refused')
+    is_clean(right.text, f'{what}, repaired')
+
+
+def is_clean(text, what):
+    expect(lugwefa.repair_text(text), Repaired(text, []), what)
+    expect(lugwefa.write_text(in_bytes(text)), text, what)
+    expect(lugwefa.answer_text(text)[:2], '81', what)
+
+
+def with_own_loops(draw, text):
+    """Branches from a bus to itself put among those of an accepted text, with none to two switches each."""
+    head, buses, branches, switches, *supply = in_records(text)
+    for _ in range(draw.randint(1, 4)):
+        at, bus = draw.randint(0, len(branches)), draw.choice(buses).id
+        branches.insert(at, Branch(bus, bus, 0.25, draw.choice((0, 1))))
+        switches = [switch._replace(branch=switch.branch + (switch.branch >= at)) for switch in switches]
+        for _ in range(draw.randint(0, 2)):
+            number = draw.choice([k for k in range(100) if all(k != switch.id for switch in switches)])
+            switches.insert(draw.randint(0, len(switches)), Switch(number, at, head.method < 2 and draw.random() < 0.5, draw.random() < 0.5))
+    return in_text(lugwefa.records(head, buses, branches, switches, *supply))
+
+
+# The buses and the ends of branches, some of them equal, and the line of the first of these.
+OWN_LOOPS = {
+    'a bus with its own loop': (1, [(0, 0)], 3),
+    'an own loop and an island': (2, [(1, 1)], 4),
+    'an own loop before the branches of a ring': (3, [(1, 1), (0, 1), (1, 2), (2, 0)], 5),
+    '256 buses, and 512 own loops at the last': (256, [(255, 255)] * 512, 258),
+}
+
+
+def repairs():
+    for text in (STORED, STORED.encode(), bytearray(STORED.encode())):
+        expect(lugwefa.repair_text(text), Repaired(TRIANGLE, STORED_DROPPED), 'the stored triangle')
+    expect(lugwefa.repair_text(STORED + '050001\n'), Repaired(TRIANGLE + '050001\n', STORED_DROPPED), 'the stored triangle, fed')
+    expect(lugwefa.repair_text(OWN_BUS), Repaired(ONE_BUS, [Dropped(3, BRANCH)]), 'one bus with its own loop')
+    looped = STORED.replace('04000B000303', '04000B000302')
+    for right, text in (((15, 12), looped + '050001\n'), ((15, 12), looped + '050001\n050001\n'), ((2, 13), STORED + '050001\n050001\n'), ((14, 12), STORED + '050009\n'),
+                        ((7, 10), STORED.replace('04000C', '04000A')), ((8, 11), STORED.replace('A0002', 'A0001').replace('B0003', 'B0001')), ((6, 6), STORED.replace(OWN_LOOP, OWN_LOOP.replace('0002', '0009'))),
+                        ((3, 11), STORED.replace('B000303', 'B000304')), ((1, 1), '0G'), ((2, 1), ''), ((2, 1), '\udcff' * 40)):
+        expect(refusal(lugwefa.repair_text, text), right, f'a stored text that is refused {right[0]}')
+    for what, (buses, ends, place) in OWN_LOOPS.items():
+        is_repaired(text_of(buses, ends), place, what)
+    for what, (buses, ends, _) in FORMS.items():
+        is_clean(text_of(buses, ends), f'{what}, byte for byte')
+    row = [(k, k + 1, 1.0, 1) for k in range(255)]
+    longest, own = (in_text(lugwefa.records((1.0, 0, 1), [(k, 0.0) for k in range(256)], row + [(0, end, 1.0, 1)] * 257, [(k, k, k >= 255, True) for k in range(512)], 0)) for end in (1, 0))
+    expect(len(longest), 27436, 'the longest text has as many bytes as the header says')
+    is_clean(longest, 'the longest text, byte for byte')
+    is_repaired(own, 513, 'the longest text with 257 own loops')
+    draw = random.Random(7)
+    for number in range(200):
+        text = drawn_feeder(draw)
+        is_clean(text, f'drawn feeder {number}, byte for byte')
+        stored = with_own_loops(draw, text)
+        is_repaired(stored, lugwefa.repair_text(stored).dropped[0].line, f'drawn feeder {number} with own loops')
+        expect(lugwefa.repair_text(stored).text, text, f'drawn feeder {number}, given back')
 
 
 def tails():
@@ -501,7 +603,7 @@ def tails():
     lent = (('feeder_plan', (text, base, best), b'8601000B01000A\n'), ('feeder_plan', (FOUR_SWITCHES.encode(), b'\1\0\1\0', b'\0\1\0\0'), b'8602000C000B01000A\n'),
             ('feeder_operations', (text, base, best), b'82000A00\n82000B01\n'),
             ('feeder_answer_text', (text,), PRINTED.encode()), ('feeder_base_state', (text,), base), ('feeder_solve', (text,), best),
-            ('feeder_write_text', (in_bytes(TRIANGLE),), text))
+            ('feeder_write_text', (in_bytes(TRIANGLE),), text), ('feeder_repair_text', (text,), text), ('feeder_repair_text', (OWN_BUS.encode(),), ONE_BUS.encode() + b'87000301\n'))
     for name, slices, written in lent:
         for room in (len(written) + 8, len(written), len(written) - 1, 0):
             fits = room >= len(written)
@@ -566,9 +668,15 @@ def every_text(path):
         texts += 1
         what = f'entry {texts}'
         if printed.startswith('8F'):
-            expect(refusal(lugwefa.answer_text, text), (int(printed[2:4], 16), int(printed[4:8], 16)), what)
+            right = int(printed[2:4], 16), int(printed[4:8], 16)
+            expect(refusal(lugwefa.answer_text, text), right, what)
+            if right[0] != 17:
+                expect(refusal(lugwefa.repair_text, text), right, f'{what}, repaired')
+            elif refusal(lugwefa.repair_text, text) is None:
+                is_repaired(text.decode(), right[1], what)
             continue
         expect(lugwefa.answer_text(text), printed, what)
+        expect(lugwefa.repair_text(text), Repaired(text.decode(), []), f'{what}, repaired')
         written += 1
         expect(lugwefa.write_text(lugwefa.records(*in_records(text.decode()))), text.decode(), what)
         expect(printed_by_calls(text), printed, what)
@@ -592,7 +700,8 @@ def example(path):
            'close switch 11, then open switch 10\n'
            'power lost after one move: to finish, 10 open; to go back, 11 open\n'
            "both open: refused 11 at the wanted state: a plan's state isn't radial, or with a supply that of a loss; Form(islands=1, branch=None)\n"
-           "both closed: refused 11 at the wanted state: a plan's state isn't radial, or with a supply that of a loss; Form(islands=0, branch=2)\n", 'the example')
+           "both closed: refused 11 at the wanted state: a plan's state isn't radial, or with a supply that of a loss; Form(islands=0, branch=2)\n"
+           'a stored text: refused 17 at line 6: branch from a bus to itself; repaired without line 6 (branch), line 10 (switch) it is the feeder above: True\n', 'the example')
 
 
 triangle()
@@ -605,6 +714,7 @@ written_texts()
 supplies()
 values_without_room()
 refusals()
+repairs()
 tails()
 two_tails()
 example(sys.argv[2])

@@ -98,6 +98,10 @@ REFUSED = [
     ("UPDATE switches SET id = 4 WHERE id = 5", MILL.format(4, 303, 0, 1) + ': a row before it has the same id (refusal 7 at line 28)'),
     ("UPDATE switches SET branch = 203 WHERE id IN (3, 5)", MILL.format(5, 203, 0, 1) + ': two rows before it are on the same branch (refusal 8 at line 28)'),
     ("UPDATE branches SET status = 2 WHERE id = 202", FARM.format(202, 21, 22, 0.05, 2) + ': status is neither 0 nor 1 (refusal 3 at line 16)'),
+    ("UPDATE branches SET to_bus = 21 WHERE id = 202", FARM.format(202, 21, 21, 0.05, 1) + ': from_bus and to_bus are the same bus (refusal 17 at line 16)'),
+    ("UPDATE branches SET to_bus = 21, status = 0 WHERE id = 202; UPDATE head SET supply = 99", FARM.format(202, 21, 21, 0.05, 0)
+     + ': from_bus and to_bus are the same bus (refusal 17 at line 16)'),
+    ("UPDATE branches SET from_bus = 99, to_bus = 99 WHERE id = 202", FARM.format(202, 99, 99, 0.05, 1) + ': from_bus or to_bus is the id of no bus (refusal 6 at line 16)'),
     ("UPDATE branches SET r = -0.05 WHERE id = 202", FARM.format(202, 21, 22, -0.05, 1) + ': r is not from 0 to 1,000 (refusal 5 at line 16)'),
     ("UPDATE head SET method = 3", HEAD.format(10, 3, 100) + ': method is none of 0, 1 and 2, or max_iterations is over 1,000 (refusal 3 at line 1)'),
     ("UPDATE head SET base_mva = 0", HEAD.format(0, 0, 100) + ': base_mva is not from 0.001 to 1,000,000 (refusal 5 at line 1)'),

@@ -1,5 +1,5 @@
 /* The calls of include/feeder.h from C: good and refused input, up to two switches on a branch, the largest feeders, null pointers, and the bytes of a lent slice that
- * no call may touch. Forms and plans are reckoned here from the lines of a text. Runs on a thread with a stack of FEEDER_STACK bytes. */
+ * no call may touch. Forms, plans and repairs are reckoned here from the lines of a text. Runs on a thread with a stack of FEEDER_STACK bytes. */
 #include "feeder.h"
 #include <pthread.h>
 #include <stdio.h>
@@ -10,7 +10,8 @@
 #define HEAD_OF(method_and_iterations) "010003000300023FF0000000000000" method_and_iterations "\n"
 #define HEAD HEAD_OF("000064")
 #define BUS_1 "0200010000000000000000\n"
-#define BUS_LINES BUS_1 "0200023FF0000000000000\n0200034000000000000000\n"
+#define BUS_2 "0200023FF0000000000000\n"
+#define BUS_LINES BUS_1 BUS_2 "0200034000000000000000\n"
 #define BRANCH_LINES "03000100023FD000000000000001\n03000200033FDC00000000000001\n03000100033FC800000000000001\n"
 #define RECORDS BUS_LINES BRANCH_LINES
 #define SWITCHES "04000A000102\n04000B000203\n"
@@ -207,21 +208,17 @@ static const struct named {
     {1, 0, {{0, 0, 0}}, 0, NO_BRANCH, "one bus is a tree"},
     {2, 0, {{0, 0, 0}}, 1, NO_BRANCH, "two buses without a branch"},
     {FEEDER_MAX_BUSES, 0, {{0, 0, 0}}, FEEDER_MAX_BUSES - 1, NO_BRANCH, "256 buses without a branch"},
-    {1, 1, {{0, 0, 1}}, 0, 0, "a bus with its own loop"},
     {2, 1, {{0, 1, 1}}, 0, NO_BRANCH, "two buses and a branch"},
     {2, 1, {{0, 1, 0}}, 1, NO_BRANCH, "two buses and a branch out of service"},
     {2, 2, {{0, 1, 1}, {0, 1, 1}}, 0, 1, "two parallel branches"},
     {2, 2, {{0, 1, 1}, {1, 0, 1}}, 0, 1, "two parallel branches, drawn against each other"},
     {2, 2, {{0, 1, 1}, {1, 0, 0}}, 0, NO_BRANCH, "two parallel branches, one out of service"},
-    {2, 3, {{0, 0, 0}, {1, 1, 1}, {0, 0, 1}}, 1, 1, "own loops and an island"},
     {4, 3, {{0, 1, 1}, {1, 2, 1}, {2, 0, 1}}, 1, 2, "a loop and a bus apart, with as many branches as a tree"},
-    {3, 4, {{1, 1, 1}, {0, 1, 1}, {1, 2, 1}, {2, 0, 1}}, 0, 0, "an own loop before the branches of a ring"},
-    {3, 5, {{0, 1, 1}, {1, 2, 1}, {2, 0, 0}, {1, 1, 1}, {2, 0, 1}}, 0, 3, "an own loop before the branch that closes a ring"},
     {3, 4, {{0, 1, 1}, {1, 0, 1}, {1, 2, 1}, {2, 0, 1}}, 0, 1, "a parallel before the branch that closes a ring"},
     {4, 3, {{0, 1, 1}, {1, 2, 1}, {2, 0, 0}}, 1, NO_BRANCH, "a ring whose last branch is out of service, and an island"},
     {6, 6, {{0, 1, 1}, {3, 4, 1}, {4, 5, 1}, {5, 3, 1}, {1, 2, 1}, {2, 0, 1}}, 1, 3, "two rings apart: the one that is closed first"},
     {5, 7, {{4, 3, 1}, {0, 1, 1}, {1, 2, 1}, {2, 3, 1}, {0, 4, 1}, {2, 0, 1}, {1, 3, 1}}, 0, 4, "two pieces that are joined before a loop is closed"},
-    {8, 8, {{7, 6, 1}, {5, 7, 0}, {6, 7, 1}, {1, 2, 1}, {2, 1, 1}, {4, 4, 1}, {0, 7, 1}, {3, 1, 1}}, 3, 2, "loops and islands"},
+    {8, 8, {{7, 6, 1}, {5, 7, 0}, {6, 7, 1}, {1, 2, 1}, {2, 1, 1}, {4, 5, 0}, {0, 7, 1}, {3, 1, 1}}, 3, 2, "loops and islands"},
 };
 
 /* With all switches closed, and in every state. */
@@ -576,7 +573,7 @@ static void answer_text(const char *text, size_t room, unsigned number, unsigned
 enum { ANSWER_AND_FORM = FEEDER_ANSWER_LENGTH + FEEDER_FORM_LENGTH };
 
 static void texts(void) {
-    static const struct branch own_loop[] = {{1, 1, 1}};
+    static const struct branch parallels[] = {{1, 2, 1}, {2, 1, 1}};
     size_t length = strlen(PRINTED);
     answer_text(TRIANGLE, 2 * ROOM, 0, 0, PRINTED, "the triangle's answer, the rest of the slice kept");
     answer_text(TRIANGLE, length, 0, 0, PRINTED, "the triangle's answer, an exactly full slice");
@@ -586,9 +583,9 @@ static void texts(void) {
     answer_text(NO_BUSES, FEEDER_TEXT_LENGTH, 0, 0, "8101" NOTHING_LOST "000101\n" TREE_LINE, "no buses, answered");
     answer_text(NO_TIES, FEEDER_TEXT_LENGTH, 0, 0, "81004016C000000000004016C000000000000000000000000000000101\n8400000002\n", "a loop without a tie, answered");
     answer_text(feeder_of(3, NULL, 0), FEEDER_TEXT_LENGTH, 0, 0, "8100" NOTHING_LOST NO_ROUND "840002FFFF\n", "three buses without a branch, answered");
-    answer_text(feeder_of(3, own_loop, 1), ANSWER_AND_FORM, 0, 0, "8100" NOTHING_LOST NO_ROUND "8400020000\n", "an own loop and islands, an exactly full slice");
-    answer_text(feeder_of(3, own_loop, 1), ANSWER_AND_FORM - 1, FEEDER_NO_ROOM, 0, "", "an own loop and islands, one byte short");
-    answer_text(feeder_of(3, own_loop, 1), FEEDER_ANSWER_LENGTH, FEEDER_NO_ROOM, 0, "", "an own loop and islands, room for the 81 line alone");
+    answer_text(feeder_of(3, parallels, 2), ANSWER_AND_FORM, 0, 0, "8100" NOTHING_LOST NO_ROUND "8400010001\n", "parallels and an island, an exactly full slice");
+    answer_text(feeder_of(3, parallels, 2), ANSWER_AND_FORM - 1, FEEDER_NO_ROOM, 0, "", "parallels and an island, one byte short");
+    answer_text(feeder_of(3, parallels, 2), FEEDER_ANSWER_LENGTH, FEEDER_NO_ROOM, 0, "", "parallels and an island, room for the 81 line alone");
     answer_text("", ROOM, FEEDER_BAD_LINE, 1, "", "an empty text");
     answer_text("0G", FEEDER_TEXT_LENGTH, FEEDER_BAD_CHARACTERS, 1, "", "another character, with room for any answer");
     answer_text("0G", 0, FEEDER_BAD_CHARACTERS, 1, "", "another character, before the room");
@@ -754,7 +751,7 @@ static void both_ends(void) {
     answer_text(HEAD_FOR("0004", "020064") RECORDS FOUR_SWITCHES, ANSWER_AND_FORM, 0, 0, BASE_KEPT "000301\n" TREE_LINE, "both ends by exhaustion: the base, three radial states");
 }
 
-/* A drawn feeder: a tree over a few buses and branches more between any two of them, some out of service, at any positions. On a branch are none, one or two switches, in some
+/* A drawn feeder: a tree over a few buses and branches more between any two different ones, some out of service, at any positions. On a branch are none, one or two switches, in some
  * feeders two on each, listed in any order, ties and sections, in every second feeder some of them locked. A branch beside the tree that has no switch is out of service, but for a few. */
 enum { DRAWN = 600, DRAWN_BRANCHES = 2 * FEW, DRAWN_SWITCHES = 2 * DRAWN_BRANCHES };
 static char drawn_text[37 + FEW * 23 + DRAWN_BRANCHES * 29 + DRAWN_SWITCHES * 13 + 1];
@@ -769,14 +766,16 @@ static void shuffle(unsigned *numbers, unsigned count) {
 
 static void draw_feeder(unsigned method) {
     struct branch branches[DRAWN_BRANCHES];
-    unsigned buses = 1 + draw(FEW), count = buses - 1 + draw(FEW), order[DRAWN_BRANCHES], on[DRAWN_SWITCHES], switches = 0, ties = 0, locks = draw(2), all_two = draw(3) == 0;
+    unsigned buses = 1 + draw(FEW), count = buses - 1 + (buses > 1 ? draw(FEW) : 0), order[DRAWN_BRANCHES], on[DRAWN_SWITCHES], switches = 0, ties = 0, locks = draw(2), all_two = draw(3) == 0;
     char *at = drawn_text;
     for (unsigned k = 0; k < count; k++)
         order[k] = k;
     shuffle(order, count);
     for (unsigned k = 0; k < count; k++) {
         unsigned is_of_tree = k + 1 < buses, there = all_two ? 2 : is_of_tree ? draw(3) : 1 + draw(2), dead = draw(8) == 0;
-        struct branch one = {is_of_tree ? draw(k + 1) : draw(buses), is_of_tree ? k + 1 : draw(buses), !(dead && !is_of_tree)};
+        struct branch one = {draw(is_of_tree ? k + 1 : buses), k + 1, !(dead && !is_of_tree)};
+        if (!is_of_tree)
+            one.to = (one.from + 1 + draw(buses - 1)) % buses;
         if (!is_of_tree && draw(16) == 0)
             there = one.status = draw(8) == 0;
         if (draw(2) == 0) {
@@ -978,6 +977,8 @@ static void nulls(void) {
     expect_solved(feeder_solve(NULL, 0, NULL, 0), not_solved(2, 1), "search, a null text");
     expect_answer(feeder_operations(NULL, 0, NULL, 0, NULL, 0, NULL, 0), 2, 1, 0, "operations, a null text");
     expect_answer(feeder_write_text(NULL, 0, NULL, 0), 2, 1, 0, "writing, null records");
+    expect_answer(feeder_repair_text(NULL, 0, NULL, 0), 2, 1, 0, "repairing, a null text");
+    expect_answer(feeder_repair_text(text, length, NULL, 0), 13, 0, 0, "repairing, a null slice");
     expect_answer(feeder_radiality(text, length, NULL, 0), 0, 0, 1, "radiality, a null state");
     expect_answer(feeder_form(text, length, NULL, 0), 0, 0, FEEDER_TREE, "form, a null state");
     expect_answer(feeder_form(triangle, strlen(TRIANGLE), NULL, 0), 10, 0, 0, "form, a null state for two switches");
@@ -1053,12 +1054,12 @@ static void written_texts(void) {
 #define HEAD_WITH(counts, base) "01" counts base "000064\n"
 #define OWN_LOOP "03000100013FD000000000000001\n"
 
-/* Branches from a bus to itself, and eleven ties, tie k on branch k modulo the branches. */
+/* Branches beside each other, and eleven ties, tie k on branch k modulo the branches. */
 static const char *eleven_ties(unsigned method, unsigned branches) {
     static char text[1024];
-    char *at = text + sprintf(text, "010001%04X000B" ONE "%02X0000\n" BUS_1, branches, method);
+    char *at = text + sprintf(text, "010002%04X000B" ONE "%02X0000\n" BUS_1 BUS_2, branches, method);
     for (unsigned k = 0; k < branches; k++)
-        at += sprintf(at, OWN_LOOP);
+        at += sprintf(at, "03000100023FD000000000000001\n");
     for (unsigned k = 0; k < 11; k++)
         at += sprintf(at, "04%04X%04X03\n", k, k % branches);
     return text;
@@ -1093,9 +1094,9 @@ static void refused_records(void) {
     is_refused(HEAD_FOR("0003", "000064") RECORDS "04000A000102\n04000B000103\n04000A000102\n", FEEDER_ID_TWICE, 10, "a third switch on a branch, its id twice");
     comes_back(HEAD RECORDS "04000A000102\n04000B000103\n", "two switches on a branch");
     comes_back(BOTH_ENDS, "two switches on two branches");
-    is_refused(eleven_ties(2, 11), FEEDER_TOO_MANY_TIES, 24, "an eleventh tie by exhaustion");
-    is_refused(eleven_ties(2, 6), FEEDER_TOO_MANY_TIES, 19, "an eleventh tie by exhaustion, two on a branch");
-    is_refused(eleven_ties(2, 5), FEEDER_THIRD_SWITCH, 18, "an eleventh tie by exhaustion, a third switch on its branch");
+    is_refused(eleven_ties(2, 11), FEEDER_TOO_MANY_TIES, 25, "an eleventh tie by exhaustion");
+    is_refused(eleven_ties(2, 6), FEEDER_TOO_MANY_TIES, 20, "an eleventh tie by exhaustion, two on a branch");
+    is_refused(eleven_ties(2, 5), FEEDER_THIRD_SWITCH, 19, "an eleventh tie by exhaustion, a third switch on its branch");
     comes_back(eleven_ties(1, 11), "eleven ties by tabu");
     comes_back(eleven_ties(1, 6), "eleven ties by tabu, two on a branch");
 }
@@ -1312,24 +1313,6 @@ static void largest_forms(void) {
     expect_answer(form(largest, state, BRANCHES), FEEDER_BAD_STATE, 0, 0, "form, the largest state's last byte 2");
 }
 
-/* 256 buses, and at the last of them 512 branches to itself. */
-static void own_loops(void) {
-    static char state[BRANCHES];
-    char *at = largest + sprintf(largest, "01%04X%04X%04X" ONE "000000\n", BUSES, BRANCHES, BRANCHES);
-    for (int bus = 0; bus < BUSES; bus++)
-        at += sprintf(at, "02%04X" ZERO "\n", bus);
-    for (int k = 0; k < BRANCHES; k++)
-        at += sprintf(at, "03%04X%04X" ONE "01\n", BUSES - 1, BUSES - 1);
-    for (int k = 0; k < BRANCHES; k++)
-        at += sprintf(at, "04%04X%04X02\n", k, k);
-    memset(state, 0, sizeof state);
-    has_form(largest, state, BRANCHES, BUSES - 1, 0, "512 own loops at the last bus");
-    close_alone(state, BRANCHES - 1, BRANCHES);
-    has_form(largest, state, BRANCHES, BUSES - 1, BRANCHES - 1, "the last of 512 own loops");
-    close_alone(state, 0, 0);
-    has_form(largest, state, BRANCHES, BUSES - 1, NO_BRANCH, "no own loop closed");
-}
-
 /* Every branch of the row leads away from bus 1: with the supply there all is as without one. */
 static void largest_feeder(unsigned supply) {
     static char row[BRANCHES], beside[BRANCHES], mixed[BRANCHES], all_closed[BRANCHES], all_open[BRANCHES], written[FEEDER_TEXT_LENGTH + 1];
@@ -1454,6 +1437,271 @@ static void other_largest_feeders(void) {
     }
 }
 
+/* Repairs, reckoned from the lines of a text. */
+enum { LINES = 1 + FEEDER_MAX_BUSES + 2 * FEEDER_MAX_BRANCHES + 1, DROPPED = FEEDER_MAX_BRANCHES };
+
+/* The lines of an accepted stored text, and the position that each of its branches has then; DROPPED for one with equal ends. */
+static const char *lines[LINES], **branch_lines, **switch_lines, *supply_line;
+static unsigned counts[3], position[FEEDER_MAX_BRANCHES];
+
+static void lay_lines(const char *text) {
+    unsigned kept = 0;
+    size_t count = 0;
+    for (const char *at = text; *at != '\0'; at = strchr(at, '\n') + 1)
+        lines[count++] = at;
+    for (int k = 0; k < 3; k++)
+        counts[k] = digits_at(text + 2 + 4 * k, 4);
+    branch_lines = lines + 1 + counts[0];
+    switch_lines = branch_lines + counts[1];
+    supply_line = count > 1 + counts[0] + counts[1] + counts[2] ? lines[count - 1] : "";
+    for (unsigned k = 0; k < counts[1]; k++)
+        position[k] = strncmp(branch_lines[k] + 2, branch_lines[k] + 6, 4) == 0 ? (unsigned)DROPPED : kept++;
+}
+
+static unsigned position_on(const char *switch_line) { return position[digits_at(switch_line + 6, 4)]; }
+
+/* The text that is left, without the 87 lines. */
+static char *lay_left(char *at) {
+    unsigned branches = 0, switches = 0;
+    for (unsigned k = 0; k < counts[1]; k++)
+        branches += position[k] != DROPPED;
+    for (unsigned i = 0; i < counts[2]; i++)
+        switches += position_on(switch_lines[i]) != DROPPED;
+    at += sprintf(at, "01%04X%04X%04X%.23s", counts[0], branches, switches, lines[0] + 14);
+    for (unsigned k = 0; k < counts[0]; k++)
+        at += sprintf(at, "%.23s", lines[1 + k]);
+    for (unsigned k = 0; k < counts[1]; k++)
+        if (position[k] != DROPPED)
+            at += sprintf(at, "%.29s", branch_lines[k]);
+    for (unsigned i = 0; i < counts[2]; i++)
+        if (position_on(switch_lines[i]) != DROPPED)
+            at += sprintf(at, "%.6s%04X%.3s", switch_lines[i], position_on(switch_lines[i]), switch_lines[i] + 10);
+    return at + sprintf(at, "%s", supply_line);
+}
+
+static const char *reckoned_repair(const char *text) {
+    static char written[FEEDER_REPAIR_LENGTH + 1];
+    char *at;
+    lay_lines(text);
+    at = lay_left(written);
+    for (unsigned k = 0; k < counts[1]; k++)
+        if (position[k] == DROPPED)
+            at += sprintf(at, "87%04X01\n", 2 + counts[0] + k);
+    for (unsigned i = 0; i < counts[2]; i++)
+        if (position_on(switch_lines[i]) == DROPPED)
+            at += sprintf(at, "87%04X02\n", 2 + counts[0] + counts[1] + i);
+    return written;
+}
+
+/* A repair into the middle of guarded bytes. */
+static void repair(const char *text, size_t room, unsigned number, unsigned place, const char *written, const char *what) {
+    lay_slice(written, strlen(written));
+    expect_answer(feeder_repair_text((const uint8_t *)text, strlen(text), bytes + MARGIN, room), number, place, strlen(written), what);
+    expect(memcmp(bytes, right, sizeof bytes) == 0, what);
+}
+
+/* In slices that are exactly full, longer, one byte short and of no byte. */
+static void repair_in_rooms(const char *text, const char *written, const char *what) {
+    size_t length = strlen(written);
+    repair(text, FEEDER_REPAIR_LENGTH, 0, 0, written, what);
+    repair(text, length, 0, 0, written, what);
+    repair(text, length - 1, FEEDER_NO_ROOM, 0, "", what);
+    repair(text, 0, FEEDER_NO_ROOM, 0, "", what);
+}
+
+/* A text that is accepted comes out byte for byte. */
+static void is_clean(const char *text, const char *what) { repair_in_rooms(text, text, what); }
+
+/* A stored text that is refused by its first branch with equal ends, and what is left of it: read by the other calls, and repaired it is the same. */
+static void is_repaired(const char *text, unsigned place, const char *what) {
+    static char left[FEEDER_REPAIR_LENGTH + 1];
+    const char *written = reckoned_repair(text);
+    refused_by_all(text, FEEDER_OWN_LOOP, place, what);
+    repair_in_rooms(text, written, what);
+    *lay_left(left) = '\0';
+    is_clean(left, what);
+    comes_back(left, what);
+    expect(feeder_answer_text((const uint8_t *)left, strlen(left), right, sizeof right).number == 0, what);
+    expect_answer(feeder_base_state((const uint8_t *)left, strlen(left), right, sizeof right), 0, 0, digits_at(left + 10, 4), what);
+}
+
+/* The same where what is written is known by hand. */
+static void has_repair(const char *text, unsigned place, const char *written, const char *what) {
+    repair_in_rooms(text, written, what);
+    is_repaired(text, place, what);
+}
+
+/* A stored text that the repair refuses too, before the room. */
+static void has_no_repair(const char *text, unsigned number, unsigned place, const char *what) {
+    repair(text, FEEDER_REPAIR_LENGTH, number, place, "", what);
+    repair(text, 0, number, place, "", what);
+}
+
+/* Two faults: what every other call answers, and what the repair does. */
+static void has_two_faults(const char *text, unsigned first, unsigned place, unsigned number, unsigned later, const char *what) {
+    refused_by_all(text, first, place, what);
+    has_no_repair(text, number, later, what);
+}
+
+/* The triangle with a branch from bus 2 to itself behind its branch 0, and switch 12 on it between 10 and 11. */
+#define STORED_HEAD(branches, switches, method) "010003" branches switches ONE method "0064\n"
+#define BRANCH_0 "03000100023FD000000000000001\n"
+#define BEHIND_IT "03000200033FDC00000000000001\n03000100033FC800000000000001\n"
+#define OWN_LOOP_2 "03000200023FD000000000000001\n"
+#define STORED_BRANCHES BRANCH_0 OWN_LOOP_2 BEHIND_IT
+#define STORED_WITH(switches) STORED_HEAD("0004", "0003", "00") BUS_LINES STORED_BRANCHES switches
+#define STORED STORED_WITH("04000A000202\n04000C000102\n04000B000303\n")
+#define STORED_LOOP STORED_WITH("04000A000202\n04000C000102\n04000B000302\n")
+#define TWO_DROPPED "87000601\n87000A02\n"
+#define ONE_BUS(branches, switches) "010001" branches switches ONE "000064\n" BUS_1
+
+static void repaired_texts(void) {
+    has_repair(STORED, 6, TRIANGLE TWO_DROPPED, "the triangle with an own loop and its switch");
+    has_repair(STORED SUPPLY_1, 6, TRIANGLE SUPPLY_1 TWO_DROPPED, "the triangle with an own loop, fed");
+    has_repair(ONE_BUS("0001", "0000") OWN_LOOP, 3, ONE_BUS("0000", "0000") "87000301\n", "one bus with its own loop");
+    has_repair(ONE_BUS("0002", "0003") OWN_LOOP "03000100013FD000000000000000\n040001000103\n040002000000\n040003000102\n" SUPPLY_1, 3,
+               ONE_BUS("0000", "0000") SUPPLY_1 "87000301\n87000401\n87000502\n87000602\n87000702\n", "own loops in and out of service, with one switch and with two, fed");
+    has_repair(STORED_HEAD("0005", "0002", "02") BUS_LINES OWN_LOOP_2 BRANCH_LINES "03000300033FF000000000000000\n" "04000A000202\n04000B000303\n", 5,
+               HEAD_OF("020064") RECORDS SWITCHES "87000501\n87000901\n", "the first and the last branch, without switches");
+    is_clean(TRIANGLE, "the triangle");
+    is_clean(TRIANGLE SUPPLY_1, "the triangle fed");
+    is_clean(NO_BUSES, "no buses");
+    is_clean(NO_TIES, "a loop without a tie");
+    is_clean(BOTH_ENDS, "two switches on two branches");
+    is_clean(DOUBLE_ROW "040001000102\n040002000303\n040003000103\n040004000002\n040005000202\n", "parallel branches stay");
+}
+
+static void refused_repairs(void) {
+    has_no_repair("", FEEDER_BAD_LINE, 1, "an empty text");
+    has_no_repair("0G", FEEDER_BAD_CHARACTERS, 1, "another character");
+    has_two_faults(STORED_LOOP SUPPLY_1, FEEDER_OWN_LOOP, 6, FEEDER_BASE_NOT_RADIAL, 12, "a loop that stays, fed: 15 at the old line");
+    has_two_faults(STORED_LOOP SUPPLY_1 SUPPLY_1, FEEDER_OWN_LOOP, 6, FEEDER_BASE_NOT_RADIAL, 12, "a loop that stays, fed twice");
+    has_two_faults(STORED SUPPLY_1 SUPPLY_1, FEEDER_OWN_LOOP, 6, FEEDER_BAD_LINE, 13, "15 cured, and a line too many");
+    has_two_faults(STORED "050009\n", FEEDER_OWN_LOOP, 6, FEEDER_SUPPLY_NOT_LISTED, 12, "an own loop, fed at no bus");
+    has_two_faults(STORED "05", FEEDER_OWN_LOOP, 6, FEEDER_BAD_CHARACTERS, 12, "an own loop, and an unended line");
+    has_two_faults(HEAD BUS_LINES "03000400043FD000000000000001\n", FEEDER_NOT_LISTED, 5, FEEDER_NOT_LISTED, 5, "an own loop at a bus that is not listed");
+    has_two_faults(HEAD BUS_LINES "0300020002BFD000000000000001\n", FEEDER_OUT_OF_RANGE, 5, FEEDER_OUT_OF_RANGE, 5, "an own loop with r below 0");
+    has_two_faults(HEAD BUS_LINES "03000200023FD000000000000002\n", FEEDER_NO_MEANING, 5, FEEDER_NO_MEANING, 5, "an own loop with status 02");
+    has_two_faults(HEAD BUS_LINES OWN_LOOP_2 "03000100043FD000000000000001\n", FEEDER_OWN_LOOP, 5, FEEDER_NOT_LISTED, 6, "an own loop, and an end that is not listed");
+    has_two_faults(STORED_WITH("04000A000202\n04000C000102\n04000B000402\n"), FEEDER_OWN_LOOP, 6, FEEDER_NOT_LISTED, 11, "an own loop, and a switch on no branch");
+    has_two_faults(STORED_WITH("04000A000202\n04000A000102\n04000B000303\n"), FEEDER_OWN_LOOP, 6, FEEDER_ID_TWICE, 10, "an id twice, the second on the own loop");
+    has_two_faults(STORED_WITH("04000A000102\n04000A000202\n04000B000303\n"), FEEDER_OWN_LOOP, 6, FEEDER_ID_TWICE, 10, "an id twice, the first on the own loop");
+    has_two_faults(STORED_WITH("04000A000102\n04000C000102\n04000B000103\n"), FEEDER_OWN_LOOP, 6, FEEDER_THIRD_SWITCH, 11, "a third switch on the own loop");
+    has_two_faults(STORED "04000D000302\n", FEEDER_OWN_LOOP, 6, FEEDER_BAD_LINE, 12, "an own loop, and a switch too many");
+}
+
+/* Eleven ties, of which so many are on own loops; method 02 takes ten. */
+static void dropped_ties(void) {
+    static char text[1024];
+    for (unsigned own = 1; own <= 11; own++)
+        for (unsigned method = 1; method <= 2; method++) {
+            char *at = text + sprintf(text, "010002000B000B" ONE "%02X0000\n" BUS_1 BUS_2, method);
+            for (unsigned k = 0; k < 11; k++)
+                at += sprintf(at, k < 11 - own ? BRANCH_0 : OWN_LOOP_2);
+            for (unsigned k = 0; k < 11; k++)
+                at += sprintf(at, "04%04X%04X03\n", k, k);
+            if (method == 2)
+                has_two_faults(text, FEEDER_OWN_LOOP, 15 - own, FEEDER_TOO_MANY_TIES, 25, "an eleventh tie, ties on own loops counted");
+            else
+                is_repaired(text, 15 - own, "eleven ties by tabu, some on own loops");
+        }
+}
+
+/* Own loops put among the branches and their switches among the switches of a drawn feeder: their repair gives it back. */
+enum { MOST_OWN = 4 };
+static char stored_text[sizeof drawn_text + MOST_OWN * (29 + 2 * 13)], stored_repair[2 * sizeof stored_text];
+
+/* So many places of a list, of which some are for what is put in. */
+static void draw_places(unsigned *places, unsigned count, unsigned put_in) {
+    for (unsigned k = 0; k < count; k++)
+        places[k] = k < put_in;
+    shuffle(places, count);
+}
+
+/* The branches, and where each of the drawn ones stands then; each own loop is twice in the list of those on which a switch may be put. The line of the first own loop. */
+static unsigned moved[DRAWN_BRANCHES], loops[2 * MOST_OWN];
+
+static unsigned put_in_branches(char **at, char **said, unsigned own) {
+    unsigned among[DRAWN_BRANCHES + MOST_OWN], old = 0, put = 0, first = 0;
+    draw_places(among, counts[1] + own, own);
+    for (unsigned k = 0; k < counts[1] + own; k++)
+        if (among[k]) {
+            unsigned bus = 999 - draw(counts[0]), line = 2 + counts[0] + k;
+            first = first == 0 ? line : first;
+            loops[put] = loops[put + own] = k;
+            put++;
+            *at += sprintf(*at, "03%04X%04X" ONE "%02X\n", bus, bus, draw(2));
+            *said += sprintf(*said, "87%04X01\n", line);
+        } else {
+            moved[old] = k;
+            *at += sprintf(*at, "%.29s", branch_lines[old++]);
+        }
+    shuffle(loops, 2 * own);
+    return first;
+}
+
+/* The switches; with method 02 none that is put in is a tie. */
+static void put_in_switches(char *at, char *said, unsigned own, unsigned extra) {
+    unsigned among[DRAWN_SWITCHES + 2 * MOST_OWN], old = 0, put = 0, method = digits_at(drawn_text + 30, 2);
+    draw_places(among, counts[2] + extra, extra);
+    for (unsigned i = 0; i < counts[2] + extra; i++)
+        if (among[i]) {
+            at += sprintf(at, "04%04X%04X%02X\n", ((1000 + put) * 40503 + 77) % 65536, loops[put], 2 * draw(2) + (method == 2 ? 0 : draw(2)));
+            put++;
+            said += sprintf(said, "87%04X02\n", 2 + counts[0] + counts[1] + own + i);
+        } else {
+            at += sprintf(at, "%.6s%04X%.3s", switch_lines[old], moved[digits_at(switch_lines[old] + 6, 4)], switch_lines[old] + 10);
+            old++;
+        }
+}
+
+static unsigned put_in_own_loops(void) {
+    unsigned own = 1 + draw(MOST_OWN), extra = draw(2 * own + 1), first;
+    char *at = stored_text, *said = stored_repair + sprintf(stored_repair, "%s", drawn_text);
+    lay_lines(drawn_text);
+    at += sprintf(at, "01%04X%04X%04X%.23s", counts[0], counts[1] + own, counts[2] + extra, drawn_text + 14);
+    at += sprintf(at, "%.*s", (int)(23 * counts[0]), lines[1]);
+    first = put_in_branches(&at, &said, own);
+    put_in_switches(at, said, own, extra);
+    return first;
+}
+
+static void drawn_repairs(void) {
+    for (unsigned number = 0; number < DRAWN; number++) {
+        unsigned place;
+        draw_feeder(number % 3);
+        is_clean(drawn_text, "a drawn feeder comes out byte for byte");
+        place = put_in_own_loops();
+        has_repair(stored_text, place, stored_repair, "a drawn feeder with own loops put in");
+    }
+}
+
+/* The largest texts: 512 own loops with a switch each, or two on every second one; and those of the largest feeder that lie beside its row. */
+static void largest_repairs(void) {
+    char *at = largest + sprintf(largest, "01%04X%04X%04X" ONE "000000\n", BUSES, BRANCHES, BRANCHES), *rest;
+    for (int bus = 0; bus < BUSES; bus++)
+        at += sprintf(at, "02%04X" ZERO "\n", bus);
+    for (int k = 0; k < BRANCHES; k++)
+        at += sprintf(at, "03%04X%04X" ONE "01\n", BUSES - 1, BUSES - 1);
+    rest = at;
+    for (int two = 0; two < 2; two++) {
+        at = rest;
+        for (int k = 0; k < BRANCHES; k++)
+            at += sprintf(at, "04%04X%04X02\n", k, two ? k / 2 * 2 : k);
+        is_repaired(largest, 258, "512 own loops at the last bus, with 512 switches");
+    }
+    make_largest(0, 1, 1);
+    is_clean(largest, "the longest text comes out byte for byte");
+    for (int k = ROW; k < BRANCHES; k++) {
+        char *line = largest + 37 + BUSES * 23 + k * 29;
+        memcpy(line + 6, line + 2, 4);
+    }
+    is_repaired(largest, 2 + BUSES + ROW, "the longest text with own loops beside its row");
+    make_largest(0, 1, 0);
+    is_clean(largest, "the largest text without a supply comes out byte for byte");
+    repair(largest, FEEDER_REPAIR_LENGTH - strlen(SUPPLY_1), 0, 0, largest, "the largest text without a supply, an exactly full slice");
+}
+
 static void *run(void *unused) {
     (void)unused;
     radialities();
@@ -1482,7 +1730,11 @@ static void *run(void *unused) {
     other_largest_feeders();
     longest_plan();
     most_moves();
-    own_loops();
+    repaired_texts();
+    refused_repairs();
+    dropped_ties();
+    drawn_repairs();
+    largest_repairs();
     return NULL;
 }
 
@@ -1492,6 +1744,8 @@ int main(void) {
     expect(sizeof(struct feeder_answer) == 16, "the answer has 16 bytes");
     expect(sizeof(struct feeder_solved) == 32, "a search's answer has 32 bytes");
     expect(FEEDER_FRAMES_LENGTH == 27436, "room for every text");
+    expect(FEEDER_REPAIR_LENGTH == 27436, "room for every repair");
+    expect(FEEDER_DROPPED_LENGTH == 9, "an 87 line");
     expect(FEEDER_PAIR_LENGTH == 23, "the longest 86 line");
     expect(FEEDER_PLAN_LENGTH == 3833, "room for every plan");
     expect(FEEDER_TEXT_LENGTH == 8511, "room for every answer");

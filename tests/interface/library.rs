@@ -76,6 +76,7 @@ extern "C" {
         out_length: usize,
     ) -> Answer;
     fn feeder_write_text(records: *const u8, records_length: usize, out: *mut u8, out_length: usize) -> Answer;
+    fn feeder_repair_text(text: *const u8, text_length: usize, out: *mut u8, out_length: usize) -> Answer;
 }
 
 // Safe: slices are good for their lengths, a `&mut` one overlaps no other, and the calls ask for nothing else.
@@ -145,4 +146,8 @@ pub fn operations(text: &[u8], from: &[u8], to: &[u8], out: &mut [u8]) -> Answer
 
 pub fn write_text(records: &[u8], out: &mut [u8]) -> Answer {
     unsafe { feeder_write_text(records.as_ptr(), records.len(), out.as_mut_ptr(), out.len()) }
+}
+
+pub fn repair_text(text: &[u8], out: &mut [u8]) -> Answer {
+    unsafe { feeder_repair_text(text.as_ptr(), text.len(), out.as_mut_ptr(), out.len()) }
 }

@@ -1,5 +1,5 @@
-//! The calls of include/feeder.h from Rust, on seeded feeders of every shape, with up to two switches on a branch, without a supply and with one, damaged texts and
-//! records, and states that are radial, not radial and faulty: each answer and each byte of a lent slice against tests/oracle's independent reckoning of documents 01 and 02.
+//! The calls of include/feeder.h from Rust, on seeded feeders of every shape, with up to two switches on a branch, without a supply and with one, stored texts with branches
+//! from a bus to itself, damaged texts and records, and states that are radial, not radial and faulty: each answer and each byte of a lent slice against tests/oracle's independent reckoning of documents 01 and 02.
 
 #![allow(dead_code)]
 
@@ -20,6 +20,8 @@ mod forms;
 mod library;
 #[path = "../oracle/src/limits.rs"]
 mod limits;
+#[path = "../oracle/src/loops.rs"]
+mod loops;
 mod pairs;
 #[path = "../oracle/src/random.rs"]
 mod random;
@@ -32,6 +34,7 @@ mod shapes;
 mod short;
 #[path = "../oracle/src/states.rs"]
 mod states;
+mod stored;
 #[path = "../oracle/src/supplied.rs"]
 mod supplied;
 #[path = "../oracle/src/values.rs"]
@@ -43,6 +46,7 @@ use random::Random;
 use states::OPERATION_LENGTH;
 use reckoning::form::{form, line, number, with_form, Form, ANSWER_LENGTH};
 use reckoning::plan::{lines, plan, radial, well_formed};
+use reckoning::repair::{repaired, Repaired};
 use reckoning::searches::{operations, Searches};
 use reckoning::{reader, Network, Refusal};
 use std::collections::BTreeMap;
@@ -51,6 +55,7 @@ use std::process::ExitCode;
 
 const CASES: usize = 4000;
 const FED_CASES: usize = 4000;
+const STORED_CASES: usize = 4000;
 const RECORDS_CASES: usize = 6000;
 const FORM_LENGTH: usize = 11;
 const GUARD: u8 = 0xAA;
@@ -64,14 +69,15 @@ const MOVES_LENGTH: usize = MAX_SWITCHES * OPERATION_LENGTH;
 const TEXT_LENGTH: usize = ANSWER_LENGTH + FORM_LENGTH + MAX_SWITCHES * OPERATION_LENGTH + PLAN_LENGTH;
 
 /// The calls, and the refusals that each can answer.
-const OF_A_TEXT: [u8; 12] = [1, 2, 3, 4, 5, 6, 7, 8, 9, 14, 15, 13];
-const OF_A_STATE: [u8; 12] = [1, 2, 3, 4, 5, 6, 7, 8, 9, 14, 15, 10];
-const OF_A_LOSS: [u8; 13] = [1, 2, 3, 4, 5, 6, 7, 8, 9, 14, 15, 10, 11];
-const OF_TWO_STATES: [u8; 13] = [1, 2, 3, 4, 5, 6, 7, 8, 9, 14, 15, 10, 13];
-const OF_A_PLAN: [u8; 15] = [1, 2, 3, 4, 5, 6, 7, 8, 9, 14, 15, 10, 11, 12, 13];
-const OF_A_CUT: [u8; 16] = [1, 2, 3, 4, 5, 6, 7, 8, 9, 14, 15, 10, 11, 12, 16, 13];
-const OF_RECORDS: [u8; 11] = [2, 3, 4, 5, 6, 7, 8, 9, 14, 15, 13];
-const CALLS: [(&str, &[u8]); 10] = [
+const OF_A_TEXT: [u8; 13] = [1, 2, 3, 4, 5, 6, 7, 8, 9, 14, 15, 17, 13];
+const OF_A_STATE: [u8; 13] = [1, 2, 3, 4, 5, 6, 7, 8, 9, 14, 15, 17, 10];
+const OF_A_LOSS: [u8; 14] = [1, 2, 3, 4, 5, 6, 7, 8, 9, 14, 15, 17, 10, 11];
+const OF_TWO_STATES: [u8; 14] = [1, 2, 3, 4, 5, 6, 7, 8, 9, 14, 15, 17, 10, 13];
+const OF_A_PLAN: [u8; 16] = [1, 2, 3, 4, 5, 6, 7, 8, 9, 14, 15, 17, 10, 11, 12, 13];
+const OF_A_CUT: [u8; 17] = [1, 2, 3, 4, 5, 6, 7, 8, 9, 14, 15, 17, 10, 11, 12, 16, 13];
+const OF_RECORDS: [u8; 12] = [2, 3, 4, 5, 6, 7, 8, 9, 14, 15, 17, 13];
+const OF_A_REPAIR: [u8; 12] = [1, 2, 3, 4, 5, 6, 7, 8, 9, 14, 15, 13];
+const CALLS: [(&str, &[u8]); 11] = [
     ("radiality", &OF_A_STATE),
     ("form", &OF_A_STATE),
     ("loss", &OF_A_LOSS),
@@ -82,6 +88,7 @@ const CALLS: [(&str, &[u8]); 10] = [
     ("solve", &OF_A_TEXT),
     ("operations", &OF_TWO_STATES),
     ("write", &OF_RECORDS),
+    ("repair", &OF_A_REPAIR),
 ];
 
 /// What a state can be; each is to be answered, and to be printed of a best state.
@@ -96,14 +103,17 @@ struct Checks {
     of_two: usize,
     /// Pairs of plans, by how many switches they move.
     pairs: BTreeMap<usize, usize>,
+    /// Repaired texts: those from which nothing was dropped, branches alone, and switches too.
+    repaired: [usize; 3],
 }
 
 impl Checks {
-    /// Whether each refusal that can come was met, each form, and pairs of each number of moves.
+    /// Whether each refusal that can come was met, each form, pairs of each number of moves, and each kind of repair.
     fn all_met(&self) -> bool {
         let pairs = [2, 3, 4].map(|moves| self.pairs.get(&moves).copied().unwrap_or(0));
         println!("interface: Rust: {} texts have two switches on a branch; pairs of 2, 3, 4 moves: {pairs:?}", self.of_two);
-        let mut all_met = self.of_two > 0 && pairs.iter().all(|&count| count > 0);
+        println!("interface: Rust: repaired texts from which nothing was dropped, branches, switches too: {:?}", self.repaired);
+        let mut all_met = self.of_two > 0 && pairs.iter().chain(&self.repaired).all(|&count| count > 0);
         for call in ["form", "answer"] {
             let counts = FORMS.map(|kind| self.formed.get(&(call, kind)).copied().unwrap_or(0));
             println!("interface: Rust: {call}: {FORMS:?}: {counts:?}");
@@ -122,16 +132,18 @@ impl Checks {
 fn main() -> ExitCode {
     let mut checks = Checks::default();
     let good = both_ends::worked(&mut checks)
+        && stored::worked(&mut checks)
         && timed_feeders(&mut checks)
         && forms::named().iter().all(|named| named_form(&mut checks, named))
         && (0..CASES).all(|number| any_case(&mut checks, number))
         && (0..FED_CASES).all(|number| any_fed_case(&mut checks, number))
+        && (0..STORED_CASES).all(|number| any_stored_case(&mut checks, number))
         && written_feeders(&mut checks)
         && every_byte(&mut checks)
         && (0..RECORDS_CASES).all(|number| any_records(&mut checks, number));
     let all_met = checks.all_met();
     if !all_met {
-        println!("interface: Rust: a refusal, a form or a kind of pair was never met");
+        println!("interface: Rust: a refusal, a form, a kind of pair or of repair was never met");
     }
     println!("interface: Rust: {} answers, {}", checks.count, if good { "0 wrong" } else { "1 wrong" });
     if good && all_met { ExitCode::SUCCESS } else { ExitCode::FAILURE }
@@ -159,6 +171,7 @@ fn timed_feeders(checks: &mut Checks) -> bool {
             && others.all(|state| state_answers(checks, &text, &state))
             && [room, room - 1].iter().all(|&room| plan_answer(checks, &text, a, b, room) && plan_answer(checks, &text, b, a, room))
             && [list, list - 1].iter().all(|&room| operations_answer(checks, &text, a, b, room))
+            && repair_answers(checks, &text)
             && [(a, b), (b, a)].iter().all(|(a, b)| cut_everywhere(checks, &text, a, b, if feeder.supply.is_none() { 1 } else { 7 }))
     }))
 }
@@ -167,7 +180,7 @@ fn any_case(checks: &mut Checks, number: usize) -> bool {
     let random = &mut Random::new(1, "interface", number);
     let feeder = any_feeder(random);
     let text = if random.percent(10) { damage::damaged(random) } else { feeder.text() };
-    answers_on(checks, random, feeder, text)
+    answers_on(checks, random, &feeder, &text)
 }
 
 fn any_feeder(random: &mut Random) -> Feeder {
@@ -181,22 +194,60 @@ fn any_fed_case(checks: &mut Checks, number: usize) -> bool {
     let shape = supplied::any_shape(random);
     let feeder = supplied::feeder(random, shape);
     let text = if random.percent(10) { damage::damaged_with_line(random) } else { feeder.text() };
-    answers_on(checks, random, feeder, text)
+    answers_on(checks, random, &feeder, &text)
+}
+
+/// Stored texts: mostly with branches from a bus to itself, some with further faults, some damaged. The states are those of a feeder to which such branches were added, or of another.
+fn any_stored_case(checks: &mut Checks, number: usize) -> bool {
+    let random = &mut Random::new(1, "interface, stored", number);
+    let feeder = any_feeder(random);
+    let text = match random.below(6) {
+        0 | 1 => loops::with_own_loops(random, feeder.clone()).text(),
+        2 | 3 => loops::drawn(random),
+        4 => loops::damaged(random),
+        _ => loops::any_bytes(random),
+    };
+    answers_on(checks, random, &feeder, &text)
 }
 
 /// Each call on a text; its states are those of the feeder without a supply where it is refused.
-fn answers_on(checks: &mut Checks, random: &mut Random, feeder: Feeder, text: Vec<u8>) -> bool {
-    let without = Feeder { supply: None, ..feeder };
-    let network = reader::read(&text).or(reader::read(&without.text())).expect("shapes are acceptable");
+fn answers_on(checks: &mut Checks, random: &mut Random, feeder: &Feeder, text: &[u8]) -> bool {
+    let without = Feeder { supply: None, ..feeder.clone() };
+    let network = reader::read(text).or(reader::read(&without.text())).expect("shapes are acceptable");
     checks.of_two += network.has_two_on_branch() as usize;
     let state = states::any_state(random, &network);
     let (present, wanted, room) = states::any_plan(random, &network);
     let list = states::near(random, operations(&network, &state, &wanted).len());
-    state_answers(checks, &text, &state)
-        && plan_answer(checks, &text, &present, &wanted, room)
-        && cut_anywhere(checks, random, &text, &present, &wanted)
-        && operations_answer(checks, &text, &state, &wanted, list)
-        && text_answers(checks, &text)
+    state_answers(checks, text, &state)
+        && plan_answer(checks, text, &present, &wanted, room)
+        && cut_anywhere(checks, random, text, &present, &wanted)
+        && operations_answer(checks, text, &state, &wanted, list)
+        && text_answers(checks, text)
+        && repair_answers(checks, text)
+}
+
+/// The repair: with room for every text, in a slice that is exactly full, with one byte less, and with none.
+fn repair_answers(checks: &mut Checks, text: &[u8]) -> bool {
+    let expected = repaired(text);
+    let written = expected.as_ref().map(|repaired| repaired.output().into_bytes()).map_err(|refusal| *refusal);
+    let length = written.as_ref().map_or(0, Vec::len);
+    let valued = written.map(|written| (written.len() as u64, written));
+    rooms(length, FRAMES_LENGTH).chain([0]).all(|room| {
+        lent(checks, "repair", text, room, in_room(room, valued.clone()), numbers, |out| library::repair_text(text, out))
+    }) && expected.map_or(true, |repaired| left_answers(checks, &repaired))
+}
+
+/// What is left of a stored text is a new one: the other calls read it, its records give it back, and repaired it is the same.
+fn left_answers(checks: &mut Checks, repaired: &Repaired) -> bool {
+    let left = repaired.text.as_bytes();
+    let kind = if repaired.told.iter().any(|line| line.ends_with("02\n")) { 2 } else { !repaired.told.is_empty() as usize };
+    checks.repaired[kind] += 1;
+    let switches = reader::read(left).map(|network| network.switches.len() as u64);
+    let same: Result<_, Refusal> = Ok((left.len() as u64, left.to_vec()));
+    switches.is_ok()
+        && compare(checks, "base", left, switches, numbers, library::base_state(left, &mut [0; MAX_SWITCHES]))
+        && lent(checks, "repair", left, left.len(), same.clone(), numbers, |out| library::repair_text(left, out))
+        && lent(checks, "write", left, left.len(), same, numbers, |out| library::write_text(&records::of_digits(left), out))
 }
 
 /// The calls on a text alone: with room for every answer, in a slice that is exactly full, and one byte less.
@@ -284,11 +335,12 @@ fn every_byte(checks: &mut Checks) -> bool {
     })
 }
 
-/// Good records, those of a damaged text, or damaged ones.
+/// Good records, some with branches from a bus to itself, those of a damaged text, or damaged ones.
 fn any_records(checks: &mut Checks, number: usize) -> bool {
     let random = &mut Random::new(1, "records", number);
     let shape = shapes::SHAPES[random.below(shapes::SHAPES.len())].make;
     let feeder = if number % 2 == 0 { any_feeder(random) } else { supplied::feeder(random, shape) };
+    let feeder = if random.percent(10) { loops::with_own_loops(random, feeder) } else { feeder };
     let good = records::of_feeder(&feeder);
     match random.below(3) {
         0 => records::text_of(&good) == feeder.text() && write_answers(checks, &good),

@@ -66,6 +66,7 @@ static void ask_operations(void) {
     number = feeder_operations(text, text_length, present, switches, wanted, switches, out, sizeof out).number;
 }
 static void ask_write_text(void) { number = feeder_write_text(records, records_length, out, sizeof out).number; }
+static void ask_repair_text(void) { number = feeder_repair_text(text, text_length, out, sizeof out).number; }
 
 struct call {
     const char *name;
@@ -84,6 +85,7 @@ static const struct call calls[] = {
     {"FEEDER_SOLVE_STACK", ask_solve, FEEDER_SOLVE_STACK},
     {"FEEDER_OPERATIONS_STACK", ask_operations, FEEDER_OPERATIONS_STACK},
     {"FEEDER_WRITE_TEXT_STACK", ask_write_text, FEEDER_WRITE_TEXT_STACK},
+    {"FEEDER_REPAIR_TEXT_STACK", ask_repair_text, FEEDER_REPAIR_TEXT_STACK},
 };
 enum { CALLS = sizeof calls / sizeof calls[0] };
 

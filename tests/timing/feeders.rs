@@ -22,6 +22,17 @@ pub fn all_live() -> Timed {
     Timed { name: "256 buses, 512 live branches", first: closed.clone(), second: closed, ..full }
 }
 
+/// Stored texts that are repaired: one from which nothing is dropped, and one in which every second tie, a branch with its switch, goes from a bus to itself.
+pub fn stored() -> Vec<(&'static str, Timed)> {
+    let mut looped = full();
+    let ties: Vec<u16> = looped.feeder.switches.iter().filter(|switch| switch.flags & TIE != 0).map(|switch| switch.branch).collect();
+    for &branch in ties.iter().step_by(2) {
+        let branch = &mut looped.feeder.branches[usize::from(branch)];
+        branch.to = branch.from;
+    }
+    vec![("repairing a text", full()), ("repairing a text, 129 own loops", looped)]
+}
+
 /// Those whose plans are cut off.
 pub fn cut() -> Vec<Timed> {
     vec![small(), middle(), full(), doubled()]

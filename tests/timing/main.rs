@@ -115,6 +115,7 @@ fn main() -> ExitCode {
     for timed in &timed {
         row("writing a text", timed, None, WRITING);
     }
+    feeders::stored().iter().for_each(row_of_a_repair);
     for timed in &timed {
         row("radiality of a state", timed, Some(Rust::radiality), RADIALITY);
     }
@@ -170,6 +171,21 @@ fn row_with_supply((place, timed, most): &(&str, Timed, f64)) -> Beside {
     println!("| loss of a state, {place} | {} | none | {} |  |", timed.name, shown(ours));
     let ratio = ours / before.expect("both are sampled");
     Beside { name: format!("{place}, {}", timed.name), ratio, most: *most }
+}
+
+/// A line of the table, through the library for controllers, so that the reading of the text is in it. What is written is the reckoning's; the Rust has no repair.
+fn row_of_a_repair((name, timed): &(&str, Timed)) {
+    let text = timed.feeder.text();
+    let reckoned = reckoning::repair::repaired(&text).expect("the text is repaired").output();
+    let repairs = |times| {
+        let mut out = vec![0; text.len()];
+        let sum = in_turn(times, |_| library::repair_text(&text, &mut out).value);
+        assert_eq!(&out[..reckoned.len()], reckoned.as_bytes(), "{name}: the repair is not the reckoning's");
+        sum
+    };
+    assert_eq!(repairs(2), 2 * reckoned.len() as u64, "{name}: all bytes are counted");
+    let (ours, _) = Sampled::new(repairs).least(None::<Sampled<fn(u64) -> u64>>);
+    println!("| {name} | {} | none | {} |  |", timed.name, shown(ours));
 }
 
 /// Two lines of the table, through the library for controllers, so that the reading of the text is in both: a plan, and the same plan cut off after half of its moves.

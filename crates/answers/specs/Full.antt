@@ -1,7 +1,8 @@
--- Demand 1's first sentence, call by call: with records inside the limits and a supply, where one is named, as document 02 wants it, states of one byte 00 or 01 for each switch and room in the lent slice, or in both, nothing is refused,
+-- Demand 1's first sentence, call by call: with records inside the limits, no branch from a bus to itself and a supply, where one is named, as document 02 wants it, states of one byte 00 or 01 for each switch and room in the lent slice, or in both, nothing is refused,
 -- and the answer is the full one: the value, and the bytes at the front of the slice, which keeps its tail. What a text says is `frames.specs.Claim.accepted-texts`; the
 -- calls that take a text and states are in `controller.specs.Full`. The last law is on every other text.
 use mathlib.Core.Path.{_≡_, refl, sym, _∙_}
+use mathlib.Core.Bool.{false}
 use mathlib.Core.List.{List, _++_}
 use Prim.Native.Nat.{ℕ, _*_, _-_, _≤_}
 use native.Mathlib.Omega.{arith}
@@ -10,7 +11,7 @@ use Rattle.network.specs.Records.{Network}
 use Rattle.network.specs.declared.switch.ReconfigAlgorithm.{ReconfigAlgorithm}
 use Rattle.network.specs.Answers.{accepted, refused, _andThen_}
 use Rattle.network.specs.AnswerLaws.{then-iff}
-use Rattle.network.specs.Inside.{Inside}
+use Rattle.network.specs.Inside.{Inside, Proper}
 use Rattle.states.specs.Live.{checkState}
 use Rattle.lines.specs.Lines.{cut}
 use Rattle.frames.specs.Acceptable.{Acceptable}
@@ -46,9 +47,9 @@ use Rattle.operations.specs.OperationLines as Operations
 use Rattle.answers.specs.Printing.{networkText, printed, answeredText}
 use Rattle.answers.specs.PrintingLaws.{network-short, text-answered}
 
-module _ (N : Network) (inside : Inside N) (supplied : Supplied N) where
+module _ (N : Network) (inside : Inside N) (proper : Proper N) (supplied : Supplied N) where
   checked : checkNetwork N ≡ accepted tt
-  checked = network-inside N .1 (inside, supplied)
+  checked = network-inside N .1 (inside, proper, supplied)
 
   answered : {A : Type 0} (s : State) → GoodState N s → (a : A) → onState N s a ≡ accepted a
   unfolding _andThen_
@@ -134,11 +135,11 @@ printed-in-full text N a out room = sym (text-answered text out (claim .accepted
 -- and `printedLength` bytes are room for every such text
 pub always-printed : (text : List ℕ) (N : Network) → Acceptable text N → (out : List ℕ) → printedLength ≤ length out
     → answeredText text out ≡ record { answer = accepted (length (networkText N)); out = networkText N ++ drop (length (networkText N)) out }
-always-printed text N a out room = printed-in-full text N a out (omega (arith, network-short N (checked N (a .inside) (a .supplied))))
+always-printed text N a out room = printed-in-full text N a out (omega (arith, network-short N (checked N (a .inside) (a .proper) (a .supplied))))
 
 -- every other text is refused with the number and place of its first faulty line, whatever room there is, and the slice keeps every byte (a text that is not accepted
 -- has such a line: `frames.specs.Claim`, first)
-pub refused-in-full : (text : List ℕ) {number place : ℕ} → judgeLines 1 (conditions (cut text)) ≡ refused number place → (out : List ℕ)
+pub refused-in-full : (text : List ℕ) {number place : ℕ} → judgeLines 1 (conditions false (cut text)) ≡ refused number place → (out : List ℕ)
     → answeredText text out ≡ record { answer = refused number place; out = out }
 unfolding answeredText
 refused-in-full text e out = sym (call-refused (length (printed text)) (printed text) out (claim .first text ∙ e))

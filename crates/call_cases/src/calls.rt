@@ -1,6 +1,6 @@
 // The cases. A case is a line 'LENGTH NAME', a frame text, a line feed, and three lines: the letters CALL and CHANGE with a blank and PRESENT, then
 // WANTED, then SLICE. CALL is S (83) for radiality, form and loss of PRESENT, P (80) for the plan from PRESENT to WANTED, R (82) for that plan cut off, O (79) for the
-// operations, B (66) for the best state, T (84) for the text. CHANGE is I (73) for 1,001 iterations, U (85) for only two buses, W (87) for 513 switches in the
+// operations, B (66) for the best state, T (84) for the text, D (68) for the repair. CHANGE is I (73) for 1,001 iterations, U (85) for only two buses, W (87) for 513 switches in the
 // records that R, O, B and T get, or a hyphen for none. PRESENT and WANTED have a digit for each byte of the states, SLICE has a dot for each byte of the lent slice;
 // of R it has the count in 16 hexadecimal digits and the lengths of the two slices, for the remaining moves and those that go back, in four each, a blank between them.
 ghost use mathlib.Core.Path.{_≡_};
@@ -20,6 +20,7 @@ use controller::calls::feeder_form;
 use controller::calls::feeder_loss;
 use controller::calls::feeder_plan;
 use controller::calls::feeder_radiality;
+use controller::calls::feeder_repair_text;
 use frames::reader::read_text;
 use libc::STDOUT_FILENO;
 use lines::hex::number_at;
@@ -87,6 +88,14 @@ fn print_written(network: PowerNetwork, room: usize)
         WriteAnswer::Written(length) => print_count(length),
         WriteAnswer::Refused { number, place } => print_refusal(number, place),
     }
+    print_slice(out, room);
+}
+
+fn print_repair(text: &[u8], room: usize)
+    requires { ⌜ room ≤ 28672 ⌝ }
+{
+    let mut out = dots();
+    print_numbers(feeder_repair_text(text, &mut out[0..room]), 4);
     print_slice(out, room);
 }
 
@@ -172,6 +181,7 @@ fn print_call(text: &[u8], line: &[u8], wanted: &[u8], slice: &[u8]) {
     let n = at_most(line.len() - 3, MAX_STATE);
     let m = at_most(wanted.len(), MAX_STATE);
     match line[0] {
+        68 => print_repair(text, at_most(slice.len(), 28672)),
         83 => print_state(text, &from[0..n]),
         80 => print_plan(text, &from[0..n], &to[0..m], at_most(slice.len(), 28672)),
         _ => print_on_records(text, line, &from[0..n], &to[0..m], slice),
@@ -204,10 +214,10 @@ fn print_cases(input: &[u8]) {
 }
 
 // Room for all cases.
-fn buffer() -> [u8; 344064]
-    ensures { λ r. ⌜ 344064 ≡ length r ⌝ }
+fn buffer() -> [u8; 393216]
+    ensures { λ r. ⌜ 393216 ≡ length r ⌝ }
 {
-    [0; 344064]
+    [0; 393216]
 }
 
 pub(crate) fn print_input() {

@@ -52,10 +52,10 @@ pub bus-faults : (before : List Bus) (b read : Bus) (twice : Bool) → read ≡ 
 unfolding busFaults
 bus-faults before b read twice r e = rw (e, r)
 
-pub branch-faults : (buses : List Bus) (b read : Branch) (from to : Bool) → read ≡ b → from ≡ among (read .«from_bus») (map busId buses) → to ≡ among (read .«to_bus») (map busId buses)
-    → branchRow read from to ≡ branchFaults buses b
+pub branch-faults : (stored : Bool) (buses : List Bus) (b read : Branch) (from to : Bool) → read ≡ b → from ≡ among (read .«from_bus») (map busId buses) → to ≡ among (read .«to_bus») (map busId buses)
+    → branchRow stored read from to ≡ branchFaults stored buses b
 unfolding branchFaults
-branch-faults buses b read from to r e g = rw (e, g, r)
+branch-faults stored buses b read from to r e g = rw (e, g, r)
 
 -- ---- switches
 -- where its branch position has no count a switch is refused by row 6 already

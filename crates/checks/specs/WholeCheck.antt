@@ -1,5 +1,6 @@
 -- The check of a value that is handed over, part by part, in the numbers that the value has.
 use mathlib.Core.Path.{_≡_, ap, sym, _∙_}
+use mathlib.Core.Bool.{Bool}
 use mathlib.Core.List.{List, []}
 use Prim.Native.Nat.{_+_, _≤_}
 use Rattle.numbers.specs.TableLaws.{length-table}
@@ -10,7 +11,7 @@ use Rattle.network.specs.Records.{recordsOf}
 use Rattle.network.specs.Answers.{answerOf, _andThen_, Fault, judge}
 use Rattle.network.specs.AnswerLaws.{judge-iff, then-assoc}
 use Rattle.network.specs.Faults.{headRow, headFaults, busFaults, branchFaults, switchFaults}
-use Rattle.network.specs.Check.{headOf, checkRun, checkRecords}
+use Rattle.network.specs.Check.{headOf, checkRun, checkLines}
 use Rattle.network.specs.InsideLaws.{head-iff}
 
 -- the head's conditions on the value's own counts
@@ -21,13 +22,13 @@ rows-are-faults : (n : PowerNetwork) → headRows n ≡ headFaults (headOf (reco
 unfolding headFaults headOf recordsOf
 rows-are-faults n = simp length-table
 
-pub whole-check : (n : PowerNetwork) → checkRecords (recordsOf n)
+pub whole-check : (stored : Bool) (n : PowerNetwork) → checkLines stored (recordsOf n)
     ≡ (judge (headRows n) 1
     andThen (checkRun busFaults [] 2 (recordsOf n .buses)
-    andThen checkRun (λ before. branchFaults (recordsOf n .buses)) [] (2 + n .«bus_count») (recordsOf n .branches))
+    andThen checkRun (λ before. branchFaults stored (recordsOf n .buses)) [] (2 + n .«bus_count») (recordsOf n .branches))
     andThen checkRun (switchFaults (headOf (recordsOf n))) [] (2 + n .«bus_count» + n .«branch_count») (recordsOf n .switches))
-unfolding checkRecords headOf headFaults recordsOf
-whole-check n = simp length-table (ap (λ a. judge (headRows n) 1 andThen a) (then-assoc _ _ _))
+unfolding checkLines headOf headFaults recordsOf
+whole-check stored n = simp length-table (ap (λ a. judge (headRows n) 1 andThen a) (then-assoc _ _ _))
 
 -- an accepted head has its counts inside their limits
 pub counts-inside : (v : Verdict) (n : PowerNetwork) → v ≡ Accepted → answerOf v ≡ judge (headRows n) 1

@@ -1,4 +1,4 @@
-// Document 01: "Records handed over without text are checked as their lines would be", refusals 3 to 9.
+// Document 01: "Records handed over without text are checked as their lines would be", refusals 3 to 9 and 17.
 ghost use mathlib.Core.Path.{_≡_};
 ghost use mathlib.Core.Bool.{cond};
 ghost use mathlib.Core.List.{[], map};
@@ -7,7 +7,7 @@ ghost use lib.Dec.{ltb};
 ghost use lib.ListN.{length, getD, set};
 ghost use Rattle.numbers.specs.UpTo.{table};
 ghost use Rattle.network.specs.Answers.{answerOf, _andThen_};
-ghost use Rattle.network.specs.Check.{headOf, checkRun, checkRecords};
+ghost use Rattle.network.specs.Check.{headOf, checkRun, checkLines};
 ghost use Rattle.network.specs.declared.bus.Bus.{Bus};
 ghost use Rattle.network.specs.Limits.{Head, busId};
 ghost use Rattle.network.specs.Faults.{busFaults, branchFaults, switchFaults};
@@ -48,7 +48,7 @@ fn put_id(
     first[row] = at as u16;
 }
 
-// The branches in list order, the first at this place; the ids of bus_count buses are in rows.
+// The branches in list order, the first at this place; the ids of bus_count buses are in rows. Own loops pass where the text is a stored one.
 fn check_branch_list<'a>(
     branches: [Branch; PowerNetwork::MAX_BRANCHES],
     count: usize,
@@ -57,10 +57,11 @@ fn check_branch_list<'a>(
     ids: &'a [u16; IdRows::MAX_IDS],
     first: &'a [u16; IdRows::BUCKETS],
     next: &'a [u16; IdRows::MAX_IDS],
+    stored: bool,
 ) -> Verdict
     requires { ⌜ (count ≤ 512) × (start ≤ 1000) × («bus_count» ≤ 256) ⌝ }
     ensures { λ r. ⌜ ((bus : ℕ → Bus) → Holding «bus_count» (map busId (table bus «bus_count»)) (now (ids .entry)) (now (first .entry)) (now (next .entry))
-        → answerOf r ≡ checkRun (λ before. branchFaults (table bus «bus_count»)) [] start (listed noBranch branches count)) ⌝ }
+        → answerOf r ≡ checkRun (λ before. branchFaults stored (table bus «bus_count»)) [] start (listed noBranch branches count)) ⌝ }
 {
     let mut place = start;
     let mut i: usize = 0;
@@ -68,7 +69,7 @@ fn check_branch_list<'a>(
         let branch = branches[i];
         let from = position_of(ids, first, next, bus_count, branch.from_bus);
         let to = position_of(ids, first, next, bus_count, branch.to_bus);
-        let verdict = judge_branch(branch, from < bus_count, to < bus_count, place);
+        let verdict = judge_branch(branch, from < bus_count, to < bus_count, stored, place);
         let Verdict::Accepted = verdict else {
             return verdict;
         };
@@ -80,10 +81,10 @@ fn check_branch_list<'a>(
 
 // The buses in list order, the first at place 2, each id put into rows once its bus has passed; behind them the branches, whose ends are looked up in these rows. One function
 // has the rows, so that they are not handed back.
-fn check_buses_and_branches(network: PowerNetwork) -> Verdict
+fn check_buses_and_branches(network: PowerNetwork, stored: bool) -> Verdict
     requires { ⌜ (network .«bus_count» ≤ 256) × (network .«branch_count» ≤ 512) ⌝ }
     ensures { λ r. ⌜ answerOf r ≡ (checkRun busFaults [] 2 (recordsOf network .buses)
-        andThen checkRun (λ before. branchFaults (recordsOf network .buses)) [] (2 + network .«bus_count») (recordsOf network .branches)) ⌝ }
+        andThen checkRun (λ before. branchFaults stored (recordsOf network .buses)) [] (2 + network .«bus_count») (recordsOf network .branches)) ⌝ }
 {
     let n = network.bus_count as usize;
     let m = network.branch_count as usize;
@@ -106,7 +107,7 @@ fn check_buses_and_branches(network: PowerNetwork) -> Verdict
         i += 1;
     }
     let branches = network.branches;
-    check_branch_list(branches, m, start, n, &ids, &first, &next)
+    check_branch_list(branches, m, start, n, &ids, &first, &next, stored)
 }
 
 // How many ties there are with one switch more.
@@ -189,9 +190,9 @@ fn check_switches(network: PowerNetwork) -> Verdict
     check_switch_list(switches, count, start, branch_count, algorithm)
 }
 
-// The first refusal of the records, head, buses, branches, switches.
-pub fn check(network: PowerNetwork) -> Verdict
-    ensures { λ r. ⌜ answerOf r ≡ checkRecords (recordsOf network) ⌝ }
+// The first refusal of the records, head, buses, branches, switches. Branches from a bus to itself pass in a stored text alone.
+pub fn check(network: PowerNetwork, stored: bool) -> Verdict
+    ensures { λ r. ⌜ answerOf r ≡ checkLines stored (recordsOf network) ⌝ }
 {
     let head = judge_head(
         network.bus_count,
@@ -203,7 +204,7 @@ pub fn check(network: PowerNetwork) -> Verdict
     let Verdict::Accepted = head else {
         return head;
     };
-    let ends = check_buses_and_branches(network);
+    let ends = check_buses_and_branches(network, stored);
     let Verdict::Accepted = ends else {
         return ends;
     };

@@ -4,6 +4,7 @@ ghost use Rattle.network.specs.Answers.{accepted};
 ghost use Rattle.network.specs.Check.{checkRecords};
 ghost use Rattle.network.specs.Records.{recordsOf};
 ghost use Rattle.answers.specs.Printing.{answeredText};
+ghost use Rattle.repairs.specs.Repairs.{repairedText};
 ghost use Rattle.record_bytes.specs.RecordBytes.{writtenRecords};
 ghost use Rattle.controller.specs.Calls.{numbersOf, textRadiality, textForm, textLoss, textPlan, textResume, textOperations, textSolved, baseCall, textBase, writtenNumbers, writtenNumbersInTwo, writtenSolved};
 use crate::answer::CallAnswer;
@@ -31,6 +32,7 @@ use plan::planner::plan;
 use radiality::radiality::verify_radiality;
 use reconfiguration::solve::solve;
 use record_bytes::records::write_records;
+use repairs::repair::repair_text;
 use resumption::resume::resume;
 use slices::writer::write_bytes;
 use states::configuration::build_base_configuration;
@@ -196,4 +198,13 @@ pub extern "C" fn feeder_write_text(records: &[u8], out: &mut [u8]) -> CallAnswe
     ensures { λ r. ⌜ record { answer = r; out = now (out .exit) } ≡ writtenNumbers (writtenRecords (now (records .entry)) (now (out .entry))) ⌝ }
 {
     write_numbers(write_records(records, out))
+}
+
+// The repair of a stored text: the value is how many bytes, and they stand at the front of the slice, which keeps what is behind them: the text without its
+// branches from a bus to itself, then an 87 line for each line that was dropped. A refusal, the stored text's or 13, writes nothing.
+#[no_mangle]
+pub extern "C" fn feeder_repair_text(text: &[u8], out: &mut [u8]) -> CallAnswer
+    ensures { λ r. ⌜ record { answer = r; out = now (out .exit) } ≡ writtenNumbers (repairedText (now (text .entry)) (now (out .entry))) ⌝ }
+{
+    write_numbers(repair_text(text, out))
 }

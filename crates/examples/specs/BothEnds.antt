@@ -15,7 +15,7 @@ use Rattle.network.specs.Records.{Network}
 use Rattle.network.specs.Answers.{accepted, refused, _andThen_, judge}
 use Rattle.network.specs.Limits.{okBase, okLoad, okR, ties}
 use Rattle.network.specs.Faults.{headFaults, busFaults, branchFaults, switchFaults}
-use Rattle.network.specs.Check.{headOf, checkRun, checkRecords}
+use Rattle.network.specs.Check.{headOf, checkRun, checkLines}
 use Rattle.network.specs.declared.switch.ReconfigAlgorithm.{ReconfigAlgorithm}
 use Rattle.network.specs.declared.switch.ReconfigAlgorithm.the-variants.{BranchExchange, TabuSearch, Exhaustive}
 use Rattle.states.specs.Live.{live, openOn, checkState, baseState}
@@ -24,7 +24,7 @@ use Rattle.lines.specs.Hex.{digit, digits, writeFields, isDigit, value, number,
 use Rattle.lines.specs.Frames.{frameText}
 use Rattle.lines.specs.Lines.{put, cut, lineFaults}
 use Rattle.record_lines.specs.Kinds.{isFrame, fieldsOf, methodOf, readOne, without}
-use Rattle.frames.specs.Text.{follow, pure, readRun, readEnd, atMostOne, asOption, readLines, readText}
+use Rattle.frames.specs.Text.{follow, pure, readRun, readEnd, atMostOne, asOption, readLines, readAs, readText}
 use Rattle.printing.specs.Printed.{pairText, operationText}
 use Rattle.printing.specs.Calls.{checkRoom, called, TwoSlices, calledInTwo}
 use Rattle.graph.specs.Walk.{far, neighbours, reached, enter, enterAll, turn, walkBy, walk, byOf, across, bfsPath, back}
@@ -33,7 +33,7 @@ use Rattle.graph.specs.declared.form.Form.the-variants as forms
 use Rattle.graph.specs.Form.{relabel, label, closes, form, links, islands}
 use Rattle.feeders.specs.Feeder.{position, feeder, endsPath, formIn, radialIn}
 use Rattle.feeders.specs.StateCalls.{checkRadial}
-use Rattle.feeders.specs.Supply.{checkSupply, checkNetwork}
+use Rattle.feeders.specs.Supply.{checkSupplyLine, checkAs, checkNetwork}
 use Rattle.losses.specs.Loss.{walkLoad, downstream, termOf, totalOf, loss, drawn, lossIn}
 use Rattle.losses.specs.LossCall.{lossCall}
 use Rattle.searches.specs.Results.{reduction, resultBy, solvedBy}
@@ -82,7 +82,7 @@ pub both-ends-read :
     × (readText (text 0x010003000300043FF0000000000000020064 []) ≡ accepted (bothEnds Exhaustive))
     -- "Refusal 8 now means a third": a fifth switch, 14, on branch 2
     × refusedAs 8 12 (text 0x010003000300053FF0000000000000000064 (line 12 0x04000E000202))
-unfolding readText readLines readOne readRun atMostOne asOption readEnd without judge _andThen_ follow pure cut put every lineFaults isFrame fieldsOf methodOf number value digit digits isDigit readFields headFaults busFaults branchFaults switchFaults times okBase okLoad okR among ties ofBits le neg
+unfolding readText readAs readLines readOne readRun atMostOne asOption readEnd without judge _andThen_ follow pure cut put every lineFaults isFrame fieldsOf methodOf number value digit digits isDigit readFields headFaults busFaults branchFaults switchFaults times okBase okLoad okR among ties ofBits le neg
 both-ends-read = (refl, refl, refl, refl)
 
 -- ---- the plan
@@ -103,7 +103,7 @@ pub both-ends-planned :
     × (checkPlan ends present (0 ∷ 1 ∷ 0 ∷ 1 ∷ []) ≡ refused 12 13)
     -- the path that joins the ends of branch 2 before it is closed
     × (endsPath ends (live ends present) 2 ≡ 0 ∷ 1 ∷ [])
-unfolding le ofBits neg upTo those firstOf indexOf count _andThen_ judge okBase okLoad okR among ties headFaults busFaults branchFaults switchFaults times headOf checkRun checkNetwork checkSupply checkRecords live openOn every checkState baseState far neighbours reached enter enterAll turn walkBy walk byOf across back bfsPath radial position feeder radialIn formIn form endsPath ranks closings opening exchanged pairsFrom pairs openSwitches plan checkRadial differing lockedDifference lockedDifferences checkLocked checkPlan
+unfolding le ofBits neg upTo those firstOf indexOf count _andThen_ judge okBase okLoad okR among ties headFaults busFaults branchFaults switchFaults times headOf checkRun checkNetwork checkAs checkLines checkSupplyLine live openOn every checkState baseState far neighbours reached enter enterAll turn walkBy walk byOf across back bfsPath radial position feeder radialIn formIn form endsPath ranks closings opening exchanged pairsFrom pairs openSwitches plan checkRadial differing lockedDifference lockedDifferences checkLocked checkPlan
 both-ends-planned = (refl, refl, refl, refl, refl)
 
 -- "Frame 86 .. : a count byte, the closed ids, a count byte, the opened ids, each id u16, in list order"
@@ -174,5 +174,5 @@ cases =
     ∷ []
 
 pub both-ends-cases : map reckoned cases ≡ map said cases
-unfolding solved solvedBy resultBy reduction called checkRoom checkState every lossCall checkNetwork checkSupply checkRecords headOf checkRun headFaults busFaults branchFaults switchFaults times okBase okLoad okR ties judge _andThen_ neg best bestBy exchangeBest tabuBest exhaustiveBest exchange untilEnded lastSome afterRound roundOf improved improves trial swapWith sectionOf loopOf swapped tabu bestMove afterMove lastSeven lesserBy allowed among toggled exhaustive tryMask leastOrBase masked lossIn drawn loss totalOf termOf downstream walkLoad radialIn formIn form islands closes links label relabel endsPath feeder position radial bfsPath back across byOf walk walkBy turn enterAll enter reached neighbours far baseState live openOn those least firstSome firstOf indexOf _orElse_ count upTo table ofBits add sub mul div lt le
+unfolding solved solvedBy resultBy reduction called checkRoom checkState every lossCall checkNetwork checkAs checkLines checkSupplyLine headOf checkRun headFaults busFaults branchFaults switchFaults times okBase okLoad okR ties judge _andThen_ neg best bestBy exchangeBest tabuBest exhaustiveBest exchange untilEnded lastSome afterRound roundOf improved improves trial swapWith sectionOf loopOf swapped tabu bestMove afterMove lastSeven lesserBy allowed among toggled exhaustive tryMask leastOrBase masked lossIn drawn loss totalOf termOf downstream walkLoad radialIn formIn form islands closes links label relabel endsPath feeder position radial bfsPath back across byOf walk walkBy turn enterAll enter reached neighbours far baseState live openOn those least firstSome firstOf indexOf _orElse_ count upTo table ofBits add sub mul div lt le
 both-ends-cases = refl

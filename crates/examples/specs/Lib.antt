@@ -8,3 +8,4 @@ pub mod Supplies
 pub mod Resumptions
 pub mod BothEnds
 pub mod Forms
+pub mod Repairs

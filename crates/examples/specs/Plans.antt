@@ -17,7 +17,7 @@ use Rattle.network.specs.Records.{Network}
 use Rattle.network.specs.Answers.{accepted, refused, _andThen_, judge}
 use Rattle.network.specs.Limits.{okBase, okLoad, okR, ties}
 use Rattle.network.specs.Faults.{headFaults, busFaults, branchFaults, switchFaults}
-use Rattle.network.specs.Check.{headOf, checkRun, checkRecords}
+use Rattle.network.specs.Check.{headOf, checkRun, checkLines}
 use Rattle.states.specs.Live.{live, openOn, checkState, baseState}
 use Rattle.states.specs.Switches.{State, byte}
 use Rattle.lines.specs.Hex.{digit, digits, writeFields}
@@ -30,7 +30,7 @@ use Rattle.graph.specs.Radial.{radial}
 use Rattle.graph.specs.Form.{relabel, label, closes, form}
 use Rattle.feeders.specs.Feeder.{position, feeder, endsPath, formIn, radialIn}
 use Rattle.feeders.specs.StateCalls.{checkRadial}
-use Rattle.feeders.specs.Supply.{checkSupply, checkNetwork}
+use Rattle.feeders.specs.Supply.{checkSupplyLine, checkAs, checkNetwork}
 use Rattle.changes.specs.Change.{differing, lockedDifference, lockedDifferences, checkLocked, checkPlan}
 use Rattle.plan.specs.Plan.{ranks, closings, opening, exchanged, pairsFrom, pairs, openSwitches, plan, planText, planned}
 use Rattle.plan.specs.Proof.{demand3}
@@ -76,7 +76,7 @@ pub computed : (baseState triangle ≡ present)
     × (plan fourBuses four-present four-wanted ≡ record { closes = 20 ∷ []; opens = 23 ∷ [] } ∷ record { closes = 21 ∷ []; opens = 22 ∷ [] } ∷ [])
     × (endsPath triangle (live triangle present) 2 ≡ 0 ∷ 1 ∷ [])
     × (endsPath fourBuses (live fourBuses four-present) 4 ≡ 0 ∷ 1 ∷ 2 ∷ [])
-unfolding le ofBits neg upTo those firstOf indexOf count _andThen_ judge okBase okLoad okR among ties headFaults busFaults branchFaults switchFaults times headOf checkRun checkNetwork checkSupply checkRecords live openOn every checkState baseState far neighbours reached enter enterAll turn walkBy walk byOf across Walk.back bfsPath radial position feeder radialIn formIn form endsPath ranks closings opening exchanged pairsFrom pairs openSwitches plan checkRadial differing lockedDifference lockedDifferences checkLocked checkPlan
+unfolding le ofBits neg upTo those firstOf indexOf count _andThen_ judge okBase okLoad okR among ties headFaults busFaults branchFaults switchFaults times headOf checkRun checkNetwork checkAs checkLines checkSupplyLine live openOn every checkState baseState far neighbours reached enter enterAll turn walkBy walk byOf across Walk.back bfsPath radial position feeder radialIn formIn form endsPath ranks closings opening exchanged pairsFrom pairs openSwitches plan checkRadial differing lockedDifference lockedDifferences checkLocked checkPlan
 computed = (refl, refl, refl, refl, refl, refl, refl)
 
 -- forward, forward (all done: none found), back, back (none done: none found), forward
@@ -107,5 +107,5 @@ refusals :
     × (planned triangle (0 ∷ 0 ∷ []) wanted sevens ≡ record { answer = refused 11 0; out = sevens })
     × (planned lockedTriangle present wanted sevens ≡ record { answer = refused 12 10; out = sevens })
     × (planned triangle present wanted sevens ≡ record { answer = refused 13 0; out = sevens })
-unfolding le ofBits neg upTo those firstOf indexOf count _andThen_ judge okBase okLoad okR among ties headFaults busFaults branchFaults switchFaults times headOf checkRun checkNetwork checkSupply checkRecords live openOn every checkState baseState far neighbours reached enter enterAll turn walkBy walk byOf across Walk.back bfsPath radial position feeder radialIn formIn form least _orElse_ closes label relabel endsPath ranks closings opening exchanged pairsFrom pairs openSwitches plan checkRadial differing lockedDifference lockedDifferences checkLocked checkPlan flatMap pairText frameText writeFields digits digit planText checkRoom called planned
+unfolding le ofBits neg upTo those firstOf indexOf count _andThen_ judge okBase okLoad okR among ties headFaults busFaults branchFaults switchFaults times headOf checkRun checkNetwork checkAs checkLines checkSupplyLine live openOn every checkState baseState far neighbours reached enter enterAll turn walkBy walk byOf across Walk.back bfsPath radial position feeder radialIn formIn form least _orElse_ closes label relabel endsPath ranks closings opening exchanged pairsFrom pairs openSwitches plan checkRadial differing lockedDifference lockedDifferences checkLocked checkPlan flatMap pairText frameText writeFields digits digit planText checkRoom called planned
 refusals = (refl, refl, refl, refl)

@@ -14,10 +14,10 @@ use Rattle.numbers.specs.Choose.{those, least, firstSome, firstOf, indexOf, _or
 use Rattle.numbers.specs.Every.{every}
 use Rattle.numbers.specs.Times.{times}
 use Rattle.network.specs.Records.{Network}
-use Rattle.network.specs.Answers.{Answer, accepted, _andThen_, judge}
+use Rattle.network.specs.Answers.{Answer, accepted, refused, _andThen_, judge}
 use Rattle.network.specs.Limits.{okBase, okLoad, okR, ties}
 use Rattle.network.specs.Faults.{headFaults, busFaults, branchFaults, switchFaults}
-use Rattle.network.specs.Check.{headOf, checkRun, checkRecords}
+use Rattle.network.specs.Check.{headOf, checkRun, checkLines}
 use Rattle.states.specs.Live.{live, openOn, checkState, baseState}
 use Rattle.states.specs.Switches.{State, swapped, toggled}
 use Rattle.graph.specs.Walk.{far, neighbours, reached, enter, enterAll, turn, walkBy, walk, byOf, across, back, bfsPath}
@@ -27,7 +27,7 @@ use Rattle.graph.specs.declared.form.Form.the-variants as forms
 use Rattle.graph.specs.Form.{relabel, label, closes, links, islands, form}
 use Rattle.feeders.specs.Feeder.{feeder, position, endsPath, formIn, radialIn}
 use Rattle.feeders.specs.StateCalls.{onState}
-use Rattle.feeders.specs.Supply.{checkSupply, checkNetwork}
+use Rattle.feeders.specs.Supply.{checkSupplyLine, checkAs, checkNetwork}
 use Rattle.losses.specs.Loss.{walkLoad, downstream, termOf, totalOf, loss, drawn, lossIn}
 use Rattle.losses.specs.LossCall.{lossCall}
 use Rattle.printing.specs.Calls.{Call, checkRoom, called}
@@ -70,6 +70,10 @@ valueOf (searched N) = ofSearch (solved N (slice N))
 abbrev pub stands : Bool → Form → Float → Value
 stands isRadial is loss = ofState (accepted isRadial) (accepted is) (accepted loss)
 
+-- each of the calls on a state is refused
+abbrev pub refuses : ℕ → ℕ → Value
+refuses number place = ofState (refused number place) (refused number place) (refused number place)
+
 -- no refusal: a radial state, its bytes at the front of the slice; the base's loss, its own, the reduction in percent, iterations and converged
 abbrev pub finds : State → Float → Float → Float → ℕ → Bool → Value
 finds state base found percent iterations converged =
@@ -99,9 +103,9 @@ abbrev pub marked : List Row
 marked =
     -- "no buses: radial, loss 0"
     inState (plain [] []) [] gives stands true forms.Tree (float 0)
-    -- "one bus: radial", "one bus, own loop: not"
+    -- "one bus: radial", "one bus, own loop: not"; of the second document 02, Point 7: it "becomes a refusal", at its branch's line
     ∷ inState (plain (bus 1 0 ∷ []) []) [] gives stands true forms.Tree (float 0)
-    ∷ inState (plain (bus 1 0 ∷ []) (branch 1 1 0 ∷ [])) [] gives stands false (forms.Loop 0 0) (float 0)
+    ∷ inState (plain (bus 1 0 ∷ []) (branch 1 1 0 ∷ [])) [] gives refuses 17 3
     -- "two buses, one branch: radial", "two parallel: not"
     ∷ inState (plain (bus 1 0 ∷ bus 2 0 ∷ []) (branch 1 2 0 ∷ [])) [] gives stands true forms.Tree (float 0)
     ∷ inState (plain (bus 1 0 ∷ bus 2 0 ∷ []) (branch 1 2 0 ∷ branch 1 2 0 ∷ [])) [] gives stands false (forms.Loop 1 0) (float 0)
@@ -124,7 +128,7 @@ marked =
 
 -- document 01: "One proved table holds the marked (*) cases under one theorem"
 pub marked-cases : map reckoned marked ≡ map said marked
-unfolding solved solvedBy resultBy reduction called checkRoom checkState every lossCall checkNetwork checkSupply checkRecords headOf checkRun headFaults busFaults branchFaults switchFaults times okBase okLoad okR ties judge _andThen_ neg best bestBy exchangeBest tabuBest exhaustiveBest exchange untilEnded lastSome afterRound roundOf improved improves trial swapWith sectionOf loopOf swapped tabu bestMove afterMove lastSeven lesserBy allowed among toggled exhaustive tryMask leastOrBase masked lossIn drawn loss totalOf termOf downstream walkLoad radialIn formIn form islands closes links label relabel endsPath feeder position radial bfsPath back across byOf walk walkBy turn enterAll enter reached neighbours far baseState live openOn those least firstSome firstOf indexOf _orElse_ count upTo table ofBits add sub mul div lt le
+unfolding solved solvedBy resultBy reduction called checkRoom checkState every lossCall checkNetwork checkAs checkLines checkSupplyLine headOf checkRun headFaults busFaults branchFaults switchFaults times okBase okLoad okR ties judge _andThen_ neg best bestBy exchangeBest tabuBest exhaustiveBest exchange untilEnded lastSome afterRound roundOf improved improves trial swapWith sectionOf loopOf swapped tabu bestMove afterMove lastSeven lesserBy allowed among toggled exhaustive tryMask leastOrBase masked lossIn drawn loss totalOf termOf downstream walkLoad radialIn formIn form islands closes links label relabel endsPath feeder position radial bfsPath back across byOf walk walkBy turn enterAll enter reached neighbours far baseState live openOn those least firstSome firstOf indexOf _orElse_ count upTo table ofBits add sub mul div lt le
 marked-cases = refl
 
 -- Five buses in a row, 1 MW at each but the first, and three ties. In the first round, with 9.75 at its start, tie 5 improves to 8.75 and tie 6 to 9.5; tie 7's first
@@ -148,5 +152,5 @@ rounds =
     ∷ []
 
 round-cases : map reckoned rounds ≡ map said rounds
-unfolding solved solvedBy resultBy reduction called checkRoom checkState every lossCall checkNetwork checkSupply checkRecords headOf checkRun headFaults busFaults branchFaults switchFaults times okBase okLoad okR ties judge _andThen_ neg best bestBy exchangeBest tabuBest exhaustiveBest exchange untilEnded lastSome afterRound roundOf improved improves trial swapWith sectionOf loopOf swapped tabu bestMove afterMove lastSeven lesserBy allowed among toggled exhaustive tryMask leastOrBase masked lossIn drawn loss totalOf termOf downstream walkLoad radialIn formIn form islands closes links label relabel endsPath feeder position radial bfsPath back across byOf walk walkBy turn enterAll enter reached neighbours far baseState live openOn those least firstSome firstOf indexOf _orElse_ count upTo table ofBits add sub mul div lt le
+unfolding solved solvedBy resultBy reduction called checkRoom checkState every lossCall checkNetwork checkAs checkLines checkSupplyLine headOf checkRun headFaults busFaults branchFaults switchFaults times okBase okLoad okR ties judge _andThen_ neg best bestBy exchangeBest tabuBest exhaustiveBest exchange untilEnded lastSome afterRound roundOf improved improves trial swapWith sectionOf loopOf swapped tabu bestMove afterMove lastSeven lesserBy allowed among toggled exhaustive tryMask leastOrBase masked lossIn drawn loss totalOf termOf downstream walkLoad radialIn formIn form islands closes links label relabel endsPath feeder position radial bfsPath back across byOf walk walkBy turn enterAll enter reached neighbours far baseState live openOn those least firstSome firstOf indexOf _orElse_ count upTo table ofBits add sub mul div lt le
 round-cases = refl

@@ -10,7 +10,7 @@ use Rattle.numbers.specs.Every.{every}
 use Rattle.numbers.specs.Times.{times}
 use Rattle.numbers.specs.UpTo.{table, upTo}
 use Rattle.network.specs.Answers.{_andThen_, accepted, judge, refused}
-use Rattle.network.specs.Check.{checkRecords, checkRun, headOf}
+use Rattle.network.specs.Check.{checkLines, checkRun, headOf}
 use Rattle.network.specs.Faults.{branchFaults, busFaults, headFaults, switchFaults}
 use Rattle.network.specs.Limits.{okBase, okLoad, okR, ties}
 use Rattle.network.specs.Records.{Network}
@@ -20,7 +20,7 @@ use Rattle.lines.specs.Frames.{frameText}
 use Rattle.lines.specs.Hex.{digit, digits, isDigit, number, readFields, value, writeFields}
 use Rattle.lines.specs.Lines.{cut, lineFaults, put}
 use Rattle.record_lines.specs.Kinds.{fieldsOf, isFrame, methodOf, readOne, without}
-use Rattle.frames.specs.Text.{asOption, atMostOne, follow, pure, readEnd, readLines, readRun, readText}
+use Rattle.frames.specs.Text.{asOption, atMostOne, follow, pure, readEnd, readAs, readLines, readRun, readText}
 use Rattle.printing.specs.Calls.{called, checkRoom}
 use Rattle.printing.specs.Printed.{answerText, formText, operationText, pairText, refusalText}
 use Rattle.graph.specs.Radial.{radial}
@@ -31,7 +31,7 @@ use Rattle.graph.specs.Sides.{away, towards}
 use Rattle.graph.specs.Walk.{across, back, bfsPath, byOf, enter, enterAll, far, neighbours, reached, turn, walk, walkBy}
 use Rattle.feeders.specs.Feeder.{endsPath, feeder, formIn, position, radialIn}
 use Rattle.feeders.specs.StateCalls.{checkRadial}
-use Rattle.feeders.specs.Supply.{checkNetwork, checkSupply, supplyFaults}
+use Rattle.feeders.specs.Supply.{checkNetwork, checkSupplyLine, checkAs, supplyFaults}
 use Rattle.losses.specs.Loss.{downstream, drawn, loss, lossIn, termOf, totalOf, walkLoad}
 use Rattle.losses.specs.LossCall.{lossCall}
 use Rattle.plan.specs.Plan.{closings, exchanged, openSwitches, opening, pairs, pairsFrom, plan, planText, ranks}
@@ -44,7 +44,7 @@ use Rattle.reconfiguration.specs.Solve.{best, bestBy, result, solved}
 use Rattle.operations.specs.Operations.{operationTo, operations, operationsText}
 use Rattle.answers.specs.Printing.{moveLines, networkText, operationLines, planLines, printed, resultLines, resultText}
 use Rattle.examples.specs.Feeders.{branches, buses, fedFrom, float, records, section, triangle}
-use Rattle.examples.specs.Searches.{Row, Value, _gives_, finds, inState, ofState, plain, reckoned, said, searched, stands, turned}
+use Rattle.examples.specs.Searches.{Row, Value, _gives_, finds, inState, ofState, plain, reckoned, refuses, said, searched, stands, turned}
 use Rattle.examples.specs.Texts.{busLines, headLine, line, refusedAs, switchLines, triangleText}
 
 -- the triangle with its tie normally closed: its base is not radial
@@ -54,10 +54,6 @@ looped = records buses branches (section 10 1 ∷ section 11 2 ∷ [])
 -- no loss beside this refusal
 abbrev withoutLoss : Bool → Form → ℕ → ℕ → Value
 withoutLoss isRadial is number place = ofState (accepted isRadial) (accepted is) (refused number place)
-
--- each of the calls is refused
-abbrev refuses : ℕ → ℕ → Value
-refuses number place = ofState (refused number place) (refused number place) (refused number place)
 
 abbrev cases : List Row
 cases =
@@ -81,7 +77,7 @@ cases =
     ∷ []
 
 pub supply-cases : map reckoned cases ≡ map said cases
-unfolding checkRadial supplyFaults away towards solved solvedBy resultBy reduction called checkRoom checkState every lossCall checkNetwork checkSupply checkRecords headOf checkRun headFaults busFaults branchFaults switchFaults times okBase okLoad okR ties judge _andThen_ neg best bestBy exchangeBest tabuBest exhaustiveBest exchange untilEnded lastSome afterRound roundOf improved improves trial swapWith sectionOf loopOf swapped tabu bestMove afterMove lastSeven lesserBy allowed among toggled exhaustive tryMask leastOrBase masked lossIn drawn loss totalOf termOf downstream walkLoad radialIn formIn form islands closes links label relabel endsPath feeder position radial bfsPath back across byOf walk walkBy turn enterAll enter reached neighbours far baseState live openOn those least firstSome firstOf indexOf _orElse_ count upTo table ofBits add sub mul div lt le
+unfolding checkRadial supplyFaults away towards solved solvedBy resultBy reduction called checkRoom checkState every lossCall checkNetwork checkAs checkLines checkSupplyLine headOf checkRun headFaults busFaults branchFaults switchFaults times okBase okLoad okR ties judge _andThen_ neg best bestBy exchangeBest tabuBest exhaustiveBest exchange untilEnded lastSome afterRound roundOf improved improves trial swapWith sectionOf loopOf swapped tabu bestMove afterMove lastSeven lesserBy allowed among toggled exhaustive tryMask leastOrBase masked lossIn drawn loss totalOf termOf downstream walkLoad radialIn formIn form islands closes links label relabel endsPath feeder position radial bfsPath back across byOf walk walkBy turn enterAll enter reached neighbours far baseState live openOn those least firstSome firstOf indexOf _orElse_ count upTo table ofBits add sub mul div lt le
 supply-cases = refl
 
 -- ---- the line
@@ -92,7 +88,7 @@ turnedText =
 abbrev noBuses : List ℕ
 noBuses = line 36 0x010000000000003FF0000000000000000064
 
-abbrev supplyLine : ℕ → List ℕ
+abbrev pub supplyLine : ℕ → List ℕ
 supplyLine id = line 6 (0x050000 + id)
 
 pub supplies-read :
@@ -101,7 +97,7 @@ pub supplies-read :
     × refusedAs 14 10 (triangleText ++ supplyLine 9)
     × refusedAs 2 11 (triangleText ++ (supplyLine 1 ++ supplyLine 1))  -- a second line
     × refusedAs 14 2 (noBuses ++ supplyLine 1)
-unfolding readText readLines readOne readRun atMostOne asOption readEnd without judge _andThen_ follow pure cut put every lineFaults isFrame fieldsOf methodOf number value digit digits isDigit readFields headFaults busFaults branchFaults switchFaults times okBase okLoad okR among ties ofBits le neg supplyFaults radialIn formIn form islands closes links label relabel feeder position radial walk walkBy turn enterAll enter reached neighbours far baseState live openOn indexOf count upTo
+unfolding readText readAs readLines readOne readRun atMostOne asOption readEnd without judge _andThen_ follow pure cut put every lineFaults isFrame fieldsOf methodOf number value digit digits isDigit readFields headFaults busFaults branchFaults switchFaults times okBase okLoad okR among ties ofBits le neg supplyFaults radialIn formIn form islands closes links label relabel feeder position radial walk walkBy turn enterAll enter reached neighbours far baseState live openOn indexOf count upTo
 supplies-read = (refl, refl, refl, refl, refl)
 
 -- the program's lines: those of document 01's triangle, however branch 0 is drawn; and no 82 line from bus 3

@@ -12,7 +12,7 @@ use Rattle.network.specs.Faults.{headFaults, busFaults, branchFaults, switchFau
 use Rattle.lines.specs.Hex.{isDigit, value, digit, number, digits, readFields}
 use Rattle.lines.specs.Lines.{put, cut, lineFaults}
 use Rattle.record_lines.specs.Kinds.{isFrame, fieldsOf, methodOf, readOne, without}
-use Rattle.frames.specs.Text.{follow, pure, readRun, readEnd, atMostOne, asOption, readLines, readText}
+use Rattle.frames.specs.Text.{follow, pure, readRun, readEnd, atMostOne, asOption, readLines, readAs, readText}
 use Rattle.frames.specs.Conditions.{judgementOf}
 use Rattle.record_bytes.specs.RecordBytes.{frameBytes, linesOfBytes, textOfBytes, numberBytes}
 use Rattle.examples.specs.Feeders.{triangle}
@@ -38,7 +38,7 @@ abbrev pub triangleText : List ℕ
 triangleText = headLine ++ (busLines ++ (branchLines ++ switchLines))
 
 pub triangle-read : readText triangleText ≡ accepted triangle
-unfolding readText readLines readOne readRun atMostOne asOption readEnd without judge _andThen_ follow pure cut put every lineFaults isFrame fieldsOf methodOf number value digit digits isDigit readFields headFaults busFaults branchFaults switchFaults times okBase okLoad okR among ties ofBits le neg
+unfolding readText readAs readLines readOne readRun atMostOne asOption readEnd without judge _andThen_ follow pure cut put every lineFaults isFrame fieldsOf methodOf number value digit digits isDigit readFields headFaults busFaults branchFaults switchFaults times okBase okLoad okR among ties ofBits le neg
 triangle-read = refl
 
 -- its records in bytes: the same digits, two in a byte
@@ -74,7 +74,7 @@ pub table-rows :
     × refusedAs 6 4 (line 36 0x010002000100003FF0000000000000000064 ++ (line 22 0x0200010000000000000000 ++ (line 22 0x0200020000000000000000 ++ line 28 0x0300010009000000000000000000)))  -- end 0009 of buses 1 and 2
     × refusedAs 7 3 (headLine ++ (line 22 0x0200010000000000000000 ++ line 22 0x0200010000000000000000))  -- bus 0001 again
     × refusedAs 8 10 (line 36 0x010003000300033FF0000000000000000064 ++ (busLines ++ (branchLines ++ (line 12 0x04000A000002 ++ (line 12 0x04000B000003 ++ line 12 0x04000C000003)))))  -- three switches on 0000
-unfolding readText readLines readOne readRun atMostOne asOption readEnd without judge _andThen_ follow pure cut put every lineFaults isFrame fieldsOf methodOf number value digit digits isDigit readFields headFaults busFaults branchFaults switchFaults times okBase okLoad okR among ties ofBits le neg
+unfolding readText readAs readLines readOne readRun atMostOne asOption readEnd without judge _andThen_ follow pure cut put every lineFaults isFrame fieldsOf methodOf number value digit digits isDigit readFields headFaults busFaults branchFaults switchFaults times okBase okLoad okR among ties ofBits le neg
 table-rows = (refl, refl, refl, refl, refl, refl, refl, refl)
 
 -- row 9: with method 02, ten ties pass, eleven are refused at the eleventh's line
@@ -90,5 +90,5 @@ abbrev manyTies : ℕ → List ℕ
 manyTies n = line 36 (0x010002000000003FF0000000000000020000 + n * 0x100010000000000000000000000) ++ (line 22 0x0200010000000000000000 ++ (line 22 0x0200020000000000000000 ++ (parallels n ++ tieLines n)))
 
 many-ties : (judgementOf (readText (manyTies 10)) ≡ accepted tt) × refusedAs 9 25 (manyTies 11)
-unfolding readText readLines readOne readRun atMostOne asOption readEnd without judge _andThen_ follow pure cut put every lineFaults isFrame fieldsOf methodOf number value digit digits isDigit readFields headFaults busFaults branchFaults switchFaults times okBase okLoad okR among ties ofBits le neg judgementOf
+unfolding readText readAs readLines readOne readRun atMostOne asOption readEnd without judge _andThen_ follow pure cut put every lineFaults isFrame fieldsOf methodOf number value digit digits isDigit readFields headFaults busFaults branchFaults switchFaults times okBase okLoad okR among ties ofBits le neg judgementOf
 many-ties = (refl, refl)

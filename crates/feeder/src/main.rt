@@ -8,51 +8,21 @@ ghost use Rattle.printing.specs.Lengths.{printedLength};
 ghost use Rattle.answers.specs.Printing.{printed};
 use answers::printer::TextAnswer;
 use answers::printer::answer_text;
+use input::Input;
+use input::read_input;
 use libc::STDERR_FILENO;
-use libc::STDIN_FILENO;
 use libc::STDOUT_FILENO;
 use numbers::wide16;
 use printing::lengths::MAX_LENGTH;
 use printing::lengths::REFUSAL_LENGTH;
 use printing::writer::write_refusal;
 
-// How many bytes of the input were read, and whether a read failed.
-struct Input {
-    count: usize,
-    failed: bool,
-}
-
-// One read: a count of 0 where the input ends, and where the read failed.
-fn read_some(room: &mut [u8]) -> Input
-    ensures { λ r. ⌜ Counts (r .count) (now (room .exit)) ⌝ }
-{
-    let got = libc::read(STDIN_FILENO, room);
-    Input {
-        count: io::count(got, room),
-        failed: got < 0,
-    }
-}
-
-// Reads to the input's end, or until the room is full: it holds all that can decide a text (answers/specs/PrintingLaws, printed-early).
-fn read_input(room: &mut [u8]) -> Input
+// Reads a text into room for all that can decide it (answers/specs/PrintingLaws, printed-early), which is demanded of the room alone.
+fn read_whole(room: &mut [u8]) -> Input
     requires { ⌜ decidingLength ≤ length (now room) ⌝ }
     ensures { λ r. ⌜ Counts (r .count) (now (room .exit)) ⌝ }
 {
-    let mut count = 0usize;
-    while count < room.len() {
-        let more = read_some(&mut room[count..]);
-        if more.count == 0 {
-            return Input {
-                count,
-                failed: more.failed,
-            };
-        }
-        count += more.count;
-    }
-    Input {
-        count,
-        failed: false,
-    }
+    read_input(room)
 }
 
 // What is printed for a text, at the front of the slice, and how many bytes it is: the lines that are answered, or the 8F line of a refusal.
@@ -72,7 +42,7 @@ fn print_text(text: &[u8], out: &mut [u8]) -> usize
 
 fn main() {
     let mut text = io::large_buffer();
-    let input = read_input(&mut text);
+    let input = read_whole(&mut text);
     if input.failed {
         io::write_all(STDERR_FILENO, b"feeder: the input cannot be read\n");
         return;

@@ -1,5 +1,5 @@
--- Document 02: the optional line that names the supply bus, its refusals 14 and 15, and with it the first test of every call.
-use mathlib.Core.Bool.{Bool, not}
+-- Document 02: the optional line that names the supply bus, its refusals 14 and 15, and with it the first test of every call; and the same of a stored text, Point 7.
+use mathlib.Core.Bool.{Bool, true, false, cond, not}
 use mathlib.Core.List.{List, [], _∷_, map}
 use mathlib.Core.Option.{Option, none, some}
 use Prim.Native.Nat.{ℕ, _+_}
@@ -12,7 +12,8 @@ use Rattle.network.specs.declared.switch.ReconfigAlgorithm.the-variants.{Branch
 use Rattle.network.specs.Records.{Network}
 use Rattle.network.specs.Answers.{_andThen_, Fault, _if_, Judgement}
 use Rattle.network.specs.Limits.{busId}
-use Rattle.network.specs.Check.{headOf, checkRun, checkRecords}
+use Rattle.network.specs.Check.{headOf, checkRun, checkLines}
+use Rattle.own_loops.specs.OwnLoops.{withoutOwn}
 use Rattle.states.specs.Live.{baseState}
 use Rattle.feeders.specs.Feeder.{radialIn}
 
@@ -21,24 +22,39 @@ abbrev pub recordsAlone : List Bus → List Branch → List Switch → Network
 recordsAlone buses branches switches =
     record { base = zero64; algorithm = BranchExchange; iterations = 0; buses = buses; branches = branches; switches = switches; supply = none }
 
-abbrev pub baseRadial : List Bus → List Branch → List Switch → Bool
-baseRadial buses branches switches = let N = recordsAlone buses branches switches in radialIn N (baseState N)
+-- the records whose base is judged: "judges 15 after the dropping", where the text is a stored one
+abbrev pub leftIf : Bool → Network → Network
+leftIf stored N = cond stored (withoutOwn N) N
+
+abbrev pub baseRadial : Bool → List Bus → List Branch → List Switch → Bool
+baseRadial stored buses branches switches = let N = leftIf stored (recordsAlone buses branches switches) in radialIn N (baseState N)
 
 -- "14, bus not listed; 15, base not radial .. lower number first"
-unfoldable pub supplyFaults : List Bus → List Branch → List Switch → ℕ → List Fault
-supplyFaults buses branches switches id = (14 if not (among id (map busId buses))) ∷ (15 if not (baseRadial buses branches switches)) ∷ []
+unfoldable pub supplyFaults : Bool → List Bus → List Branch → List Switch → ℕ → List Fault
+supplyFaults stored buses branches switches id = (14 if not (among id (map busId buses))) ∷ (15 if not (baseRadial stored buses branches switches)) ∷ []
 
 -- "One optional last line": the ids that it gives, one or none
 abbrev pub supplies : Option ℕ → List ℕ
 supplies none = []
 supplies (some id) = id ∷ []
 
--- "both at the 05 line", which stands behind those of the switches
-unfoldable pub checkSupply : Network → Judgement
-checkSupply N =
+-- "both at the 05 line", which stands behind those of the switches as they are listed: "its place the old line"
+unfoldable pub checkSupplyLine : Bool → Network → Judgement
+checkSupplyLine stored N =
     let h = headOf N in
-    checkRun (λ before. supplyFaults (N .buses) (N .branches) (N .switches)) [] (2 + h .buses + h .branches + h .switches) (supplies (N .supply))
+    checkRun (λ before. supplyFaults stored (N .buses) (N .branches) (N .switches)) [] (2 + h .buses + h .branches + h .switches) (supplies (N .supply))
 
--- what every call tests first: the records by document 01, then the supply
+unfoldable pub checkSupply : Network → Judgement
+checkSupply N = checkSupplyLine false N
+
+-- the records of a text, stored or not, then its supply
+unfoldable pub checkAs : Bool → Network → Judgement
+checkAs stored N = checkLines stored N andThen checkSupplyLine stored N
+
+-- what every call tests first
 unfoldable pub checkNetwork : Network → Judgement
-checkNetwork N = checkRecords N andThen checkSupply N
+checkNetwork N = checkAs false N
+
+-- the records of a stored text
+unfoldable pub checkStored : Network → Judgement
+checkStored N = checkAs true N

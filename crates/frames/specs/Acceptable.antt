@@ -11,7 +11,8 @@ use Rattle.network.specs.declared.switch.Switch.{Switch}
 use Rattle.network.specs.Records.{Network}
 use Rattle.network.specs.Limits.{Head, methodByte}
 use Rattle.network.specs.Check as check
-use Rattle.network.specs.Inside.{Each, Inside}
+use Rattle.network.specs.Inside.{Each, Inside, Proper}
+use Rattle.own_loops.specs.OwnLoops.{withoutOwn}
 use Rattle.feeders.specs.Supply.{supplies}
 use Rattle.feeders.specs.Supplied.{Supplied}
 use Rattle.lines.specs.Hex.{Fields}
@@ -95,6 +96,16 @@ pub record Acceptable (t : List ℕ) (N : Network) : Type 0 where
   pub text : t ≡ textOf N
   -- counts, ranges, ids, ends and positions as document 01 allows them
   pub inside : Inside N
+  -- no branch from a bus to itself
+  pub proper : Proper N
   -- a supply and its base as document 02 allows them
   pub supplied : Supplied N
+  pub writable : Writable N
+
+-- ---- a stored text that can be repaired, with these records
+pub record Repairable (t : List ℕ) (N : Network) : Type 0 where
+  pub text : t ≡ textOf N
+  pub inside : Inside N
+  -- what the dropping leaves has a supply and a base as document 02 allows them
+  pub supplied : Supplied (withoutOwn N)
   pub writable : Writable N

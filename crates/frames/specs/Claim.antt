@@ -1,8 +1,9 @@
 -- What is claimed of document 01's frame text, with document 02's line. Its words are defined in Text (the reader), Acceptable (the text of a network), Lengths,
--- Conditions (the conditions of each line), in crate network in Inside (the limits of document 01), and in crate feeders in Supply (the check of records) and Supplied
+-- Conditions (the conditions of each line), in crate network in Inside (the limits of document 01, and that no branch goes from a bus to itself), and in crate feeders in Supply (the check of records) and Supplied
 -- (the limits of document 02). `Proof.claim` proves it.
 use mathlib.Core.Path.{_≡_}
 use mathlib.Core.Logic.{_↔_}
+use mathlib.Core.Bool.{false}
 use mathlib.Core.List.{List}
 use Prim.Native.Nat.{ℕ, _≤_}
 use lib.ListN.{take}
@@ -12,7 +13,7 @@ use Rattle.network.proofs.topology.PowerNetwork.{the-row}
 use Rattle.network.specs.declared.topology.PowerNetwork.{PowerNetwork}
 use Rattle.network.specs.Answers.{accepted, _andThen_}
 use Rattle.network.specs.Records.{Network, recordsOf}
-use Rattle.network.specs.Inside.{Each, Inside}
+use Rattle.network.specs.Inside.{Each, Inside, Proper}
 use Rattle.lines.specs.Lines.{cut}
 use Rattle.feeders.specs.Supply.{checkNetwork}
 use Rattle.feeders.specs.Supplied.{Supplied}
@@ -26,11 +27,11 @@ pub record Claim : Type 0 where
   pub accepted-texts : (t : List ℕ) (N : Network) → (readText t ≡ accepted N) ↔ Acceptable t N
   -- "The first faulty line decides": over the conditions of each line, found from the text alone. In that line "a line over 36 characters is 2 whatever
   -- they are" comes first, and then the first of its other conditions that is met
-  pub first : (t : List ℕ) → judgementOf (readText t) ≡ judgeLines 1 (conditions (cut t))
+  pub first : (t : List ℕ) → judgementOf (readText t) ≡ judgeLines 1 (conditions false (cut t))
   -- "inside a line the lower number wins": of these other conditions that are met it is the lowest number that is given
-  pub lower : (t : List ℕ) → Each (λ c. LowestWins (c .others)) (conditions (cut t))
+  pub lower : (t : List ℕ) → Each (λ c. LowestWins (c .others)) (conditions false (cut t))
   -- records pass the check exactly where they are inside the limits of both documents
-  pub checked : (N : Network) → (checkNetwork N ≡ accepted tt) ↔ (Inside N × Supplied N)
+  pub checked : (N : Network) → (checkNetwork N ≡ accepted tt) ↔ (Inside N × Proper N × Supplied N)
   -- "Records handed over without text are checked as their lines would be": with the number and the place that their text would get. Of records whose
   -- fields have room in their digits
   pub alike : (N : Network) → Writable N → readText (textOf N) ≡ (checkNetwork N andThen accepted N)

@@ -22,11 +22,11 @@ pub record LineConditions : Type 0 where
   pub others : List Fault
 
 -- over 36 characters comes before the others
-abbrev ranked : LineConditions → List Fault
+abbrev pub ranked : LineConditions → List Fault
 ranked c = (2 if c .over) ∷ c .others
 
 -- "line missing": 2
-abbrev missing : LineConditions
+abbrev pub missing : LineConditions
 missing = record { over = false; others = (2 if true) ∷ [] }
 
 -- of a line: row 1, row 2 where it is not the line that is wanted, and the conditions of its fields
@@ -56,8 +56,8 @@ unfoldable pub switchesOf : ℕ → List Line → List Switch
 switchesOf n ls = map (λ l. switchFrom (fieldsOf switch l)) (take n ls)
 
 -- of the lines behind the head
-unfoldable pub bodyConditions : Head → List Line → List LineConditions
-bodyConditions h ls =
+unfoldable pub bodyConditions : Bool → Head → List Line → List LineConditions
+bodyConditions stored h ls =
     let after-buses = drop (h .buses) ls in
     let after-branches = drop (h .branches) after-buses in
     let after-switches = drop (h .switches) after-branches in
@@ -65,14 +65,15 @@ bodyConditions h ls =
     let branches = branchesOf (h .branches) after-buses in
     let switches = switchesOf (h .switches) after-branches in
     kindConditions bus busFrom busLineFaults [] (h .buses) ls
-    ++ (kindConditions branch branchFrom (λ before. branchLineFaults buses) [] (h .branches) after-buses
+    ++ (kindConditions branch branchFrom (λ before. branchLineFaults stored buses) [] (h .branches) after-buses
     ++ (kindConditions switch switchFrom (switchLineFaults h) [] (h .switches) after-branches
-    ++ (kindConditions supply supplyFrom (λ before. supplyLineFaults buses branches switches) [] (atMostOne after-switches) after-switches
+    ++ (kindConditions supply supplyFrom (λ before. supplyLineFaults stored buses branches switches) [] (atMostOne after-switches) after-switches
     ++ surplusConditions (drop (atMostOne after-switches) after-switches))))
 
-unfoldable pub conditions : List Line → List LineConditions
-conditions [] = missing ∷ []
-conditions (l ∷ ls) = lineConditions (isFrame head l) l (headLineFaults (fieldsOf head l)) ∷ bodyConditions (headFrom (fieldsOf head l)) ls
+-- of all lines of a text, stored or not
+unfoldable pub conditions : Bool → List Line → List LineConditions
+conditions stored [] = missing ∷ []
+conditions stored (l ∷ ls) = lineConditions (isFrame head l) l (headLineFaults (fieldsOf head l)) ∷ bodyConditions stored (headFrom (fieldsOf head l)) ls
 
 -- the first line with a condition met decides, the first that it meets gives the number
 unfoldable pub judgeLines : ℕ → List LineConditions → Judgement

@@ -15,7 +15,7 @@ use Rattle.lines.specs.Hex.{Fields, total}
 use Rattle.lines.specs.Lines.{Line, put, cut, lineFaults}
 use Rattle.lines.specs.Frames.{Frame, layout}
 use Rattle.record_lines.specs.Kinds.{head, bus, branch, switch, supply, isFrame, fieldsOf, headFrom, busFrom, branchFrom, switchFrom, supplyFrom, headLineFaults, busLineFaults, branchLineFaults, switchLineFaults, Reader, readOne, without}
-use Rattle.frames.specs.Text.{follow, pure, readRun, readEnd, atMostOne, supplyLineFaults, supplyPlace, readSupply, readLines, readText}
+use Rattle.frames.specs.Text.{follow, pure, readRun, readEnd, atMostOne, supplyLineFaults, supplyPlace, readSupply, readLines, readAs}
 use Rattle.frames.specs.Lengths.{lineLength, longestText, decidingLine, decidingLength}
 use Rattle.frames.specs.LineLaws.{Sound, head-sound, bus-sound, branch-sound, switch-sound, supply-sound, line-kept, line-long}
 use Rattle.frames.specs.ReadLaws.{head-passed}
@@ -123,12 +123,12 @@ left-same n ls ms h (next k e t) = (refl, omega arith)
 left-same n ls ms h (long a b) = (refl, omega arith)
 left-same n ls ms h (out e) = absurd (omega arith)
 
-supply-same : (buses : List Bus) (branches : List Branch) (switches : List Switch) (p n : ℕ) (ls ms : List Line) → lineLength supply + decidingLine ≤ n → Same n ls ms
-    → Alike decidingLine (readSupply buses branches switches p ls) (readSupply buses branches switches p ms)
-supply-same buses branches switches p n ls ms h t =
+supply-same : (stored : Bool) (buses : List Bus) (branches : List Branch) (switches : List Switch) (p n : ℕ) (ls ms : List Line) → lineLength supply + decidingLine ≤ n → Same n ls ms
+    → Alike decidingLine (readSupply stored buses branches switches p ls) (readSupply stored buses branches switches p ms)
+supply-same stored buses branches switches p n ls ms h t =
     let a = left-same n ls ms (omega arith) t in
     let few = a .1 in
-    rw (a .0) (run-same supply supply-sound supplyFrom (λ before. supplyLineFaults buses branches switches) [] (atMostOne ls) p decidingLine n ls ms (omega arith) (omega arith) t)
+    rw (a .0) (run-same supply supply-sound supplyFrom (λ before. supplyLineFaults stored buses branches switches) [] (atMostOne ls) p decidingLine n ls ms (omega arith) (omega arith) t)
 
 end-same : (p n : ℕ) (ls ms : List Line) → decidingLine ≤ n → Same n ls ms → Alike 0 (readEnd p ls) (readEnd p ms)
 unfolding readEnd lineFaults
@@ -137,9 +137,9 @@ end-same p n ls ms h (next {l = l} {ls = ls′} {ms = ms′} j e t) = then-alike
 end-same p n ls ms h (long {l = l} {m = m} a b) = both-long 0 p _ _ (long-refused false l [] p n _ h a) (long-refused false m [] p n _ h b)
 end-same p n ls ms h (out e) = absurd (omega arith)
 
-lines-same : (n : ℕ) (ls ms : List Line) → decidingLength ≤ n → Same n ls ms → Alike 0 (readLines ls) (readLines ms)
+lines-same : (stored : Bool) (n : ℕ) (ls ms : List Line) → decidingLength ≤ n → Same n ls ms → Alike 0 (readLines stored ls) (readLines stored ms)
 unfolding readLines pure
-lines-same n ls ms h t =
+lines-same stored n ls ms h t =
     follow-alike longestText 0 _ _ _ (one-same head head-sound headFrom headLineFaults 1 longestText n ls ms (omega arith) (omega arith) t)
     λ hd n₀ ls₀ ms₀ e₀ g₀ t₀.
     let c = head-passed ls (hd, ls₀) e₀ .counts in
@@ -151,16 +151,16 @@ lines-same n ls ms h t =
     (run-same bus bus-sound busFrom busLineFaults [] (hd .buses) 2 behind-buses n₀ ls₀ ms₀ (omega arith) (omega arith) t₀)
     λ buses n₁ ls₁ ms₁ e₁ g₁ t₁.
     follow-alike behind-branches 0 _ _ _
-    (run-same branch branch-sound branchFrom (λ before. branchLineFaults buses) [] (hd .branches) (2 + hd .buses) behind-branches n₁ ls₁ ms₁ (omega arith) (omega arith) t₁)
+    (run-same branch branch-sound branchFrom (λ before. branchLineFaults stored buses) [] (hd .branches) (2 + hd .buses) behind-branches n₁ ls₁ ms₁ (omega arith) (omega arith) t₁)
     λ branches n₂ ls₂ ms₂ e₂ g₂ t₂.
     follow-alike behind-switches 0 _ _ _
     (run-same switch switch-sound switchFrom (switchLineFaults hd) [] (hd .switches) (2 + hd .buses + hd .branches) behind-switches n₂ ls₂ ms₂ (omega arith) (omega arith) t₂)
     λ switches n₃ ls₃ ms₃ e₃ g₃ t₃.
-    follow-alike decidingLine 0 _ _ _ (supply-same buses branches switches (supplyPlace hd) n₃ ls₃ ms₃ g₃ t₃)
+    follow-alike decidingLine 0 _ _ _ (supply-same stored buses branches switches (supplyPlace hd) n₃ ls₃ ms₃ g₃ t₃)
     λ ids n₄ ls₄ ms₄ e₄ g₄ t₄.
     follow-alike 0 0 _ _ _ (end-same (supplyPlace hd + 1) n₄ ls₄ ms₄ g₄ t₄)
     λ u n₅ ls₅ ms₅ e₅ g₅ t₅. both-accepted n₅ g₅ t₅
 
-pub read-early : (n : ℕ) (t : List ℕ) → decidingLength ≤ n → readText (take n t) ≡ readText t
-unfolding readText
-read-early n t h = sym (without-alike (lines-same n (cut t) (cut (take n t)) h (cut-take n t)))
+pub read-early : (stored : Bool) (n : ℕ) (t : List ℕ) → decidingLength ≤ n → readAs stored (take n t) ≡ readAs stored t
+unfolding readAs
+read-early stored n t h = sym (without-alike (lines-same stored n (cut t) (cut (take n t)) h (cut-take n t)))

@@ -1,6 +1,6 @@
 -- The reader refuses by the first line that has a condition met, and accepts where there is none: reader and rule go through the same lines, kind by kind.
 use mathlib.Core.Path.{_≡_, refl, sym, ap, _∙_}
-use mathlib.Core.Bool.{false}
+use mathlib.Core.Bool.{Bool, false}
 use mathlib.Core.List.{List, [], _∷_, _++_, map}
 use Prim.Native.Nat.{ℕ, zero, suc, _+_}
 use native.Mathlib.Omega.{arith}
@@ -16,7 +16,7 @@ use Rattle.lines.specs.Hex.{Fields}
 use Rattle.lines.specs.Lines.{Line, cut, lineFaults}
 use Rattle.lines.specs.Frames.{Frame}
 use Rattle.record_lines.specs.Kinds.{head, bus, branch, switch, supply, isFrame, fieldsOf, headFrom, busFrom, branchFrom, switchFrom, supplyFrom, headLineFaults, busLineFaults, branchLineFaults, switchLineFaults, readOne, without}
-use Rattle.frames.specs.Text.{follow, _>>=_, pure, readRun, readEnd, atMostOne, supplyLineFaults, readLines, readText}
+use Rattle.frames.specs.Text.{follow, _>>=_, pure, readRun, readEnd, atMostOne, supplyLineFaults, readLines, readAs}
 use Rattle.record_lines.specs.JudgementLaws.{without-then}
 use Rattle.frames.specs.ReaderLaws.{go-on, network, behindSupply, behindSwitches, behindBranches, behindBuses, behindHead, lines-read}
 use Rattle.frames.specs.Conditions.{kindConditions, surplusConditions, busesOf, branchesOf, switchesOf, bodyConditions, conditions, judgeLines, judgementOf, LineConditions}
@@ -42,7 +42,7 @@ module _ {A : Type 0} (F : Frame) (make : Fields (F .widths) → A) (faults : Li
       ∙ ap (λ x. judge c p andThen x) (go-on v (map made (take n ls), drop n ls) (λ rest. pure (made l ∷ rest)) (run-judged n (before ++ (made l ∷ [])) (suc p) ls))
       ∙ then-assoc (judge c p) v (accepted (made l ∷ map made (take n ls), drop n ls))
 
-  run-append : (n : ℕ) (before : List A) (p : ℕ) (ls : List Line) (rest : List LineConditions)
+  pub run-append : (n : ℕ) (before : List A) (p : ℕ) (ls : List Line) (rest : List LineConditions)
       → judgeLines p (kindConditions F make faults before n ls ++ rest) ≡ (judgeLines p (kindConditions F make faults before n ls) andThen judgeLines (p + n) rest)
   unfolding lineFaults kindConditions judgeLines judge _andThen_
   run-append zero before p ls rest = ap (λ (q : ℕ). judgeLines q rest) (omega arith)
@@ -65,9 +65,9 @@ unfolding atMostOne surplusConditions judgeLines
 behind-supply p [] = refl
 behind-supply p (l ∷ ls) = refl
 
-body-judged : (h : Head) (ls : List Line) → (r : Network × List Line) × (behindHead h ls ≡ (judgeLines 2 (bodyConditions h ls) andThen accepted r))
+body-judged : (stored : Bool) (h : Head) (ls : List Line) → (r : Network × List Line) × (behindHead stored h ls ≡ (judgeLines 2 (bodyConditions stored h ls) andThen accepted r))
 unfolding behindHead behindBuses behindBranches behindSwitches behindSupply bodyConditions busesOf branchesOf switchesOf pure
-body-judged h ls =
+body-judged stored h ls =
     let l₁ : List Line = drop (h .buses) ls in
     let l₂ : List Line = drop (h .branches) l₁ in
     let l₃ : List Line = drop (h .switches) l₂ in
@@ -83,10 +83,10 @@ body-judged h ls =
     let p₃ : ℕ = p₂ + h .branches in
     let p₄ : ℕ = p₃ + h .switches in
     let c₁ : List LineConditions = kindConditions bus busFrom busLineFaults [] (h .buses) ls in
-    let c₂ : List LineConditions = kindConditions branch branchFrom (λ before. branchLineFaults buses) [] (h .branches) l₁ in
+    let c₂ : List LineConditions = kindConditions branch branchFrom (λ before. branchLineFaults stored buses) [] (h .branches) l₁ in
     let c₃ : List LineConditions = kindConditions switch switchFrom (switchLineFaults h) [] (h .switches) l₂ in
     let p₅ : ℕ = p₄ + 1 in
-    let f₄ : List ℕ → Fields (supply .widths) → List Fault = λ before. supplyLineFaults buses branches switches in
+    let f₄ : List ℕ → Fields (supply .widths) → List Fault = λ before. supplyLineFaults stored buses branches switches in
     let c₄ : List LineConditions = kindConditions supply supplyFrom f₄ [] n l₃ in
     let c₅ : List LineConditions = surplusConditions l₄ in
     let v₁ : Judgement = judgeLines 2 c₁ in
@@ -94,15 +94,15 @@ body-judged h ls =
     let v₃ : Judgement = judgeLines p₃ c₃ in
     let v₄ : Judgement = judgeLines p₄ c₄ in
     let v₅ : Judgement = judgeLines p₅ c₅ in
-    let read : behindHead h ls ≡ (v₁ andThen (v₂ andThen (v₃ andThen (v₄ andThen (v₅ andThen end))))) =
-    go-on v₁ (buses, l₁) (behindBuses h) (run-judged bus busFrom busLineFaults (h .buses) [] 2 ls)
-    ∙ ap (λ x. v₁ andThen x) (go-on v₂ (branches, l₂) (behindBranches h buses) (run-judged branch branchFrom (λ before. branchLineFaults buses) (h .branches) [] p₂ l₁)
-    ∙ ap (λ x. v₂ andThen x) (go-on v₃ (switches, l₃) (behindSwitches h buses branches) (run-judged switch switchFrom (switchLineFaults h) (h .switches) [] p₃ l₂)
+    let read : behindHead stored h ls ≡ (v₁ andThen (v₂ andThen (v₃ andThen (v₄ andThen (v₅ andThen end))))) =
+    go-on v₁ (buses, l₁) (behindBuses stored h) (run-judged bus busFrom busLineFaults (h .buses) [] 2 ls)
+    ∙ ap (λ x. v₁ andThen x) (go-on v₂ (branches, l₂) (behindBranches stored h buses) (run-judged branch branchFrom (λ before. branchLineFaults stored buses) (h .branches) [] p₂ l₁)
+    ∙ ap (λ x. v₂ andThen x) (go-on v₃ (switches, l₃) (behindSwitches stored h buses branches) (run-judged switch switchFrom (switchLineFaults h) (h .switches) [] p₃ l₂)
     ∙ ap (λ x. v₃ andThen x) (go-on v₄ (ids, l₄) (behindSupply h buses branches switches) (run-judged supply supplyFrom f₄ n [] p₄ l₃)
     ∙ ap (λ x. v₄ andThen x) (go-on v₅ (tt {0}, drop 1 l₄) _ (end-judged p₅ l₄))))) in
-    let judged : judgeLines 2 (bodyConditions h ls) ≡ (v₁ andThen (v₂ andThen (v₃ andThen (v₄ andThen v₅)))) =
+    let judged : judgeLines 2 (bodyConditions stored h ls) ≡ (v₁ andThen (v₂ andThen (v₃ andThen (v₄ andThen v₅)))) =
     run-append bus busFrom busLineFaults (h .buses) [] 2 ls (c₂ ++ (c₃ ++ (c₄ ++ c₅)))
-    ∙ ap (λ x. v₁ andThen x) (run-append branch branchFrom (λ before. branchLineFaults buses) (h .branches) [] p₂ l₁ (c₃ ++ (c₄ ++ c₅))
+    ∙ ap (λ x. v₁ andThen x) (run-append branch branchFrom (λ before. branchLineFaults stored buses) (h .branches) [] p₂ l₁ (c₃ ++ (c₄ ++ c₅))
     ∙ ap (λ x. v₂ andThen x) (run-append switch switchFrom (switchLineFaults h) (h .switches) [] p₃ l₂ (c₄ ++ c₅)
     ∙ ap (λ x. v₃ andThen x) (run-append supply supplyFrom f₄ n [] p₄ l₃ c₅ ∙ ap (λ x. v₄ andThen x) (behind-supply p₄ l₃)))) in (
       (N, drop 1 l₄),
@@ -114,18 +114,18 @@ body-judged h ls =
           ∙ ap (λ x. x andThen end) (sym judged),
     )
 
-lines-judged : (ls : List Line) → judgementOf (without (readLines ls)) ≡ judgeLines 1 (conditions ls)
+lines-judged : (stored : Bool) (ls : List Line) → judgementOf (without (readLines stored ls)) ≡ judgeLines 1 (conditions stored ls)
 unfolding readLines readOne lineFaults conditions judgeLines judge follow without judgementOf _andThen_
-lines-judged [] = refl
-lines-judged (l ∷ ls) =
+lines-judged stored [] = refl
+lines-judged stored (l ∷ ls) =
     let h : Head = headFrom (fieldsOf head l) in
     let v : Judgement = judge (lineFaults (isFrame head l) l ++ headLineFaults (fieldsOf head l)) 1 in
-    let b = body-judged h ls in
-    let w : Judgement = judgeLines 2 (bodyConditions h ls) in
-    ap (λ x. judgementOf (without x)) (lines-read (l ∷ ls) ∙ go-on v (h, ls) behindHead refl ∙ ap (λ x. v andThen x) (b .1) ∙ then-assoc v w (accepted (b .0)))
+    let b = body-judged stored h ls in
+    let w : Judgement = judgeLines 2 (bodyConditions stored h ls) in
+    ap (λ x. judgementOf (without x)) (lines-read stored (l ∷ ls) ∙ go-on v (h, ls) (behindHead stored) refl ∙ ap (λ x. v andThen x) (b .1) ∙ then-assoc v w (accepted (b .0)))
     ∙ ap judgementOf (without-then (v andThen w) (b .0 .0) (b .0 .1))
     ∙ judgement-then (v andThen w) (b .0 .0)
 
-pub first-fault : (t : List ℕ) → judgementOf (readText t) ≡ judgeLines 1 (conditions (cut t))
-unfolding readText
-first-fault t = lines-judged (cut t)
+pub first-fault : (stored : Bool) (t : List ℕ) → judgementOf (readAs stored t) ≡ judgeLines 1 (conditions stored (cut t))
+unfolding readAs
+first-fault stored t = lines-judged stored (cut t)

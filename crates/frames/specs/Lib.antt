@@ -11,11 +11,15 @@ pub mod HandedOver
 pub mod TypedValues
 pub mod FirstFault
 pub mod Early
+pub mod ConditionLaws
 pub mod LowerNumber
+pub mod StoredLaws
 pub mod Steps
 pub mod Split
 pub mod Claim
 pub mod Proof
+pub mod StoredClaim
+pub mod StoredProof
 pub mod Reading
 pub mod ReadingLaws
 pub mod FrameReads

@@ -1,7 +1,8 @@
 -- Reading in two passes. The first looks at each line's text and at the meaning of its bytes alone (rows 1, 2 and, of branch and switch lines, 3) and
 -- collects the records up to the first line at fault; then the records are checked as records handed over without text are.
--- Split shows that this is readText:
---   split : (t : List ℕ) → readText t ≡ readTwice t
+-- Split shows that this is reading line by line, of a stored text and of another:
+--   split : (stored : Bool) (t : List ℕ) → readAs stored t ≡ readTwice stored t
+use mathlib.Core.Bool.{Bool}
 use mathlib.Core.List.{List, [], _∷_, _++_}
 use Prim.Native.Nat.{ℕ, _+_}
 use Rattle.numbers.specs.UpTo.{upTo}
@@ -15,7 +16,7 @@ use Rattle.lines.specs.Hex.{Fields}
 use Rattle.lines.specs.Lines.{Line, cut}
 use Rattle.lines.specs.Frames.{Frame}
 use Rattle.record_lines.specs.Kinds.{head, bus, branch, switch, supply, headFrom, busFrom, branchFrom, switchFrom, supplyFrom, headLineFaults, busBytes, branchBytes, switchBytes, supplyBytes, readOne, without}
-use Rattle.feeders.specs.Supply.{checkNetwork}
+use Rattle.feeders.specs.Supply.{checkAs}
 use Rattle.frames.specs.Text.{readEnd, atMostOne, asOption, supplyPlace}
 
 -- ---- the pass over the lines of one kind
@@ -103,12 +104,12 @@ collect h ls =
     }
 
 -- the records decide, each at its place, then the line at which the pass stopped, which comes after all of theirs
-abbrev pub settle : Collected → Answer Network
-settle c = checkNetwork (c .network) andThen c .stopped andThen accepted (c .network)
+abbrev pub settle : Bool → Collected → Answer Network
+settle stored c = checkAs stored (c .network) andThen c .stopped andThen accepted (c .network)
 
-unfoldable pub afterHead : Answer (Head × List Line) → Answer Network
-afterHead (accepted r) = settle (collect (r .0) (r .1))
-afterHead (refused n place) = refused n place
+unfoldable pub afterHead : Bool → Answer (Head × List Line) → Answer Network
+afterHead stored (accepted r) = settle stored (collect (r .0) (r .1))
+afterHead stored (refused n place) = refused n place
 
-unfoldable pub readTwice : List ℕ → Answer Network
-readTwice t = afterHead (readOne head headFrom headLineFaults 1 (cut t))
+unfoldable pub readTwice : Bool → List ℕ → Answer Network
+readTwice stored t = afterHead stored (readOne head headFrom headLineFaults 1 (cut t))

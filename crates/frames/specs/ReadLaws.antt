@@ -1,7 +1,7 @@
 -- The reader against the check of records and the text of a network: what is written is judged as the records are (`read-written`), and what is
 -- accepted was written so (`accepted-written`). Both go line by line, from the laws of a line's characters and of a record's fields.
 use mathlib.Core.Path.{_≡_, refl, sym, ap, ap₂, _∙_, subst}
-use mathlib.Core.Bool.{false, not, false≢true}
+use mathlib.Core.Bool.{Bool, false, not, false≢true}
 use mathlib.Core.List.{List, [], _∷_, _++_, map, flatMap, append-nil, append-assoc}
 use mathlib.Core.Option.{Option, none, some}
 use Prim.Native.Nat.{ℕ, zero, suc, _+_, _≤_}
@@ -19,15 +19,15 @@ use Rattle.network.specs.Faults.{headFaults, busFaults, branchFaults, switchFau
 use Rattle.network.specs.AnswerLaws.{judge-iff, no-refusal, then-assoc, same-value}
 use Rattle.network.specs.InsideLaws.{HeadInside, head-iff}
 use Rattle.network.specs.Check as check
-use Rattle.network.specs.Check.{checkRun, checkRecords}
+use Rattle.network.specs.Check.{checkRun, checkLines}
 use Rattle.network.specs.Inside.{Each}
-use Rattle.feeders.specs.Supply.{supplyFaults, supplies, checkSupply, checkNetwork}
+use Rattle.feeders.specs.Supply.{supplyFaults, supplies, checkSupplyLine, checkAs}
 use Rattle.network.specs.EachLaws.{each-append}
 use Rattle.lines.specs.Hex.{Fields}
 use Rattle.lines.specs.Lines.{Line, cut, lineFaults}
 use Rattle.lines.specs.Frames.{frameText}
 use Rattle.record_lines.specs.Kinds.{isFrame, fieldsOf, head, supply, headFrom, supplyFrom, headLineFaults, readOne, without}
-use Rattle.frames.specs.Text.{follow, _>>=_, pure, readRun, readEnd, atMostOne, asOption, supplyLineFaults, supplyPlace, readLines, readText}
+use Rattle.frames.specs.Text.{follow, _>>=_, pure, readRun, readEnd, atMostOne, asOption, supplyLineFaults, supplyPlace, readLines, readAs}
 use Rattle.frames.specs.Acceptable.{textOf, Writable}
 use Rattle.lines.specs.JudgeLaws.{judge-passed, judge-append, line-passed}
 use Rattle.record_lines.specs.JudgementLaws.{then-accepted, without-then}
@@ -114,16 +114,16 @@ bus-ranged : (before : List Bus) (b : Bus) (p : ℕ) → judge (busFaults before
 unfolding busFaults
 bus-ranged before b p e = not-false _ (judge-passed 5 (not (okLoad (b .pd .0))) _ p e .0)
 
-branch-ranged : (buses : List Bus) (before : List Branch) (b : Branch) (p : ℕ) → judge (branchFaults buses b) p ≡ accepted tt → branchKind .Ranged b
+branch-ranged : (stored : Bool) (buses : List Bus) (before : List Branch) (b : Branch) (p : ℕ) → judge (branchFaults stored buses b) p ≡ accepted tt → branchKind .Ranged b
 unfolding branchFaults
-branch-ranged buses before b p e = not-false _ (judge-passed 5 (not (okR (b .r))) _ p e .0)
+branch-ranged stored buses before b p e = not-false _ (judge-passed 5 (not (okR (b .r))) _ p e .0)
 
 switch-ranged : (h : Head) (before : List Switch) (s : Switch) (p : ℕ) → judge (switchFaults h before s) p ≡ accepted tt → switchKind .Ranged s
 switch-ranged h before s p e = tt
 
-supply-ranged : (buses : List Bus) (branches : List Branch) (switches : List Switch) (before : List ℕ) (id p : ℕ) → judge (supplyFaults buses branches switches id) p ≡ accepted tt
+supply-ranged : (stored : Bool) (buses : List Bus) (branches : List Branch) (switches : List Switch) (before : List ℕ) (id p : ℕ) → judge (supplyFaults stored buses branches switches id) p ≡ accepted tt
     → supplyKind .Ranged id
-supply-ranged buses branches switches before id p e = tt
+supply-ranged stored buses branches switches before id p e = tt
 
 -- a head that the reader accepts is inside the limits
 pub head-passed : (ls : List Line) (r : Head × List Line) → readOne head headFrom headLineFaults 1 ls ≡ accepted r → HeadInside (r .0)
@@ -158,9 +158,9 @@ linesOf N =
     recordLine headKind (check.headOf N)
     ∷ (map (recordLine busKind) (N .buses) ++ (map (recordLine branchKind) (N .branches) ++ (map (recordLine switchKind) (N .switches) ++ map (recordLine supplyKind) (supplies (N .supply)))))
 
-lines-written : (N : Network) → Writable N → readLines (linesOf N) ≡ (checkNetwork N andThen accepted (N, []))
-unfolding linesOf checkNetwork checkSupply checkRecords check.headOf behindHead behindBuses behindBranches behindSwitches behindSupply readEnd follow pure
-lines-written N w =
+lines-written : (stored : Bool) (N : Network) → Writable N → readLines stored (linesOf N) ≡ (checkAs stored N andThen accepted (N, []))
+unfolding linesOf checkAs checkSupplyLine checkLines check.headOf behindHead behindBuses behindBranches behindSwitches behindSupply readEnd follow pure
+lines-written stored N w =
     let h : Head = check.headOf N in
     let z-lines : List Line = map (recordLine supplyKind) (supplies (N .supply)) in
     let s-lines : List Line = map (recordLine switchKind) (N .switches) ++ z-lines in
@@ -171,9 +171,9 @@ lines-written N w =
     let p₄ : ℕ = p₃ + h .switches in
     let v₀ : Judgement = judge (headFaults h) 1 in
     let v₁ : Judgement = checkRun busFaults [] 2 (N .buses) in
-    let v₂ : Judgement = checkRun (λ before. branchFaults (N .buses)) [] p₂ (N .branches) in
+    let v₂ : Judgement = checkRun (λ before. branchFaults stored (N .buses)) [] p₂ (N .branches) in
     let v₃ : Judgement = checkRun (switchFaults h) [] p₃ (N .switches) in
-    let v₄ : Judgement = checkRun (λ before. supplyFaults (N .buses) (N .branches) (N .switches)) [] p₄ (supplies (N .supply)) in
+    let v₄ : Judgement = checkRun (λ before. supplyFaults stored (N .buses) (N .branches) (N .switches)) [] p₄ (supplies (N .supply)) in
     let end : Answer (Network × List Line) = accepted (N, []) in
     let same : network h (N .buses) (N .branches) (N .switches) (supplies (N .supply)) ≡ N = λ i. record {
       base = N .base;
@@ -184,21 +184,21 @@ lines-written N w =
       switches = N .switches;
       supply = first-supply (N .supply) i;
     } in
-    let f₄ : List ℕ → ℕ → List Fault = λ before. supplyFaults (N .buses) (N .branches) (N .switches) in
-    let run : ℕ → List Line → Answer (List ℕ × List Line) = λ n. readRun supply supplyFrom (λ before. supplyLineFaults (N .buses) (N .branches) (N .switches)) [] n p₄ in
+    let f₄ : List ℕ → ℕ → List Fault = λ before. supplyFaults stored (N .buses) (N .branches) (N .switches) in
+    let run : ℕ → List Line → Answer (List ℕ × List Line) = λ n. readRun supply supplyFrom (λ before. supplyLineFaults stored (N .buses) (N .branches) (N .switches)) [] n p₄ in
     let supply-read = ap₂ run (lines-left (N .supply)) (sym (append-nil z-lines))
-    ∙ run-written supplyKind f₄ (supply-ranged (N .buses) (N .branches) (N .switches)) [] (supplies (N .supply)) p₄ [] (w .supply-room) in
-    lines-read (linesOf N)
-    ∙ go-on v₀ (h, b-lines) behindHead (one-written headKind (λ before. headFaults) head-ranged [] 1 h (w .head-room) b-lines)
-    ∙ ap (λ x. v₀ andThen x) (go-on v₁ (N .buses, r-lines) (behindBuses h) (run-written busKind busFaults bus-ranged [] (N .buses) 2 r-lines (w .bus-room))
-    ∙ ap (λ x. v₁ andThen x) (go-on v₂ (N .branches, s-lines) (behindBranches h (N .buses)) (run-written branchKind (λ before. branchFaults (N .buses)) (branch-ranged (N .buses)) [] (N .branches) p₂ s-lines (w .branch-room))
-    ∙ ap (λ x. v₂ andThen x) (go-on v₃ (N .switches, z-lines) (behindSwitches h (N .buses) (N .branches)) (run-written switchKind (switchFaults h) (switch-ranged h) [] (N .switches) p₃ z-lines (w .switch-room))
+    ∙ run-written supplyKind f₄ (supply-ranged stored (N .buses) (N .branches) (N .switches)) [] (supplies (N .supply)) p₄ [] (w .supply-room) in
+    lines-read stored (linesOf N)
+    ∙ go-on v₀ (h, b-lines) (behindHead stored) (one-written headKind (λ before. headFaults) head-ranged [] 1 h (w .head-room) b-lines)
+    ∙ ap (λ x. v₀ andThen x) (go-on v₁ (N .buses, r-lines) (behindBuses stored h) (run-written busKind busFaults bus-ranged [] (N .buses) 2 r-lines (w .bus-room))
+    ∙ ap (λ x. v₁ andThen x) (go-on v₂ (N .branches, s-lines) (behindBranches stored h (N .buses)) (run-written branchKind (λ before. branchFaults stored (N .buses)) (branch-ranged stored (N .buses)) [] (N .branches) p₂ s-lines (w .branch-room))
+    ∙ ap (λ x. v₂ andThen x) (go-on v₃ (N .switches, z-lines) (behindSwitches stored h (N .buses) (N .branches)) (run-written switchKind (switchFaults h) (switch-ranged h) [] (N .switches) p₃ z-lines (w .switch-room))
     ∙ ap (λ x. v₃ andThen x) (go-on v₄ (supplies (N .supply), []) (behindSupply h (N .buses) (N .branches) (N .switches)) supply-read
     ∙ ap (λ (M : Network). v₄ andThen accepted (M, [])) same))))
     ∙ ap (λ z. v₀ andThen (v₁ andThen z)) (then-assoc v₂ v₃ (v₄ andThen end)) ∙ regroup v₀ v₁ (v₂ andThen v₃) v₄ end
 
 -- what the reader has found once it accepts: a head and a network whose lines are all there are
-record Found (h : Head) (N : Network) (ls : List Line) : Type 0 where
+record Found (stored : Bool) (h : Head) (N : Network) (ls : List Line) : Type 0 where
   lines : ls ≡ recordLine headKind h ∷ (map (recordLine busKind) (N .buses) ++ (map (recordLine branchKind) (N .branches) ++ (map (recordLine switchKind) (N .switches) ++ map (recordLine supplyKind) (supplies (N .supply)))))
   head-room : headKind .Room h
   bus-room : Each (busKind .Room) (N .buses)
@@ -207,9 +207,9 @@ record Found (h : Head) (N : Network) (ls : List Line) : Type 0 where
   supply-room : Each (supplyKind .Room) (supplies (N .supply))
   head-clear : judge (headFaults h) 1 ≡ accepted tt
   buses-clear : checkRun busFaults [] 2 (N .buses) ≡ accepted tt
-  branches-clear : checkRun (λ before. branchFaults (N .buses)) [] (2 + h .buses) (N .branches) ≡ accepted tt
+  branches-clear : checkRun (λ before. branchFaults stored (N .buses)) [] (2 + h .buses) (N .branches) ≡ accepted tt
   switches-clear : checkRun (switchFaults h) [] (2 + h .buses + h .branches) (N .switches) ≡ accepted tt
-  supply-clear : checkRun (λ before. supplyFaults (N .buses) (N .branches) (N .switches)) [] (supplyPlace h) (supplies (N .supply)) ≡ accepted tt
+  supply-clear : checkRun (λ before. supplyFaults stored (N .buses) (N .branches) (N .switches)) [] (supplyPlace h) (supplies (N .supply)) ≡ accepted tt
 
 end-kept : (p : ℕ) (ls : List Line) (r : Unit {0} × List Line) → readEnd p ls ≡ accepted r → ls ≡ []
 unfolding readEnd lineFaults
@@ -218,14 +218,14 @@ end-kept p (l ∷ ls) r e =
     let t = then-accepted (judge (lineFaults false l) p) (accepted (tt, ls)) e in
     absurd (false≢true (line-passed false l [] p (t .0) .2))
 
-found : (h : Head) (N : Network) (n : ℕ) (l₀ l₁ l₂ l₃ l₄ l₅ : List Line)
+found : (stored : Bool) (h : Head) (N : Network) (n : ℕ) (l₀ l₁ l₂ l₃ l₄ l₅ : List Line)
     → (l₀ ≡ recordLine headKind h ∷ l₁) × headKind .Room h × (judge (headFaults h) 1 ≡ accepted tt)
     → Kept busKind busFaults bus-ranged (h .buses) [] 2 l₁ (N .buses, l₂)
-    → Kept branchKind (λ before. branchFaults (N .buses)) (branch-ranged (N .buses)) (h .branches) [] (2 + h .buses) l₂ (N .branches, l₃)
+    → Kept branchKind (λ before. branchFaults stored (N .buses)) (branch-ranged stored (N .buses)) (h .branches) [] (2 + h .buses) l₂ (N .branches, l₃)
     → Kept switchKind (switchFaults h) (switch-ranged h) (h .switches) [] (2 + h .buses + h .branches) l₃ (N .switches, l₄)
-    → Kept supplyKind (λ before. supplyFaults (N .buses) (N .branches) (N .switches)) (supply-ranged (N .buses) (N .branches) (N .switches)) n [] (supplyPlace h) l₄ (supplies (N .supply), l₅)
-    → l₅ ≡ [] → Found h N l₀
-found h N n l₀ l₁ l₂ l₃ l₄ l₅ one buses branches switches ids left =
+    → Kept supplyKind (λ before. supplyFaults stored (N .buses) (N .branches) (N .switches)) (supply-ranged stored (N .buses) (N .branches) (N .switches)) n [] (supplyPlace h) l₄ (supplies (N .supply), l₅)
+    → l₅ ≡ [] → Found stored h N l₀
+found stored h N n l₀ l₁ l₂ l₃ l₄ l₅ one buses branches switches ids left =
     let z-lines : l₄ ≡ map (recordLine supplyKind) (supplies (N .supply)) = ids .lines ∙ ap (λ (x : List Line). map (recordLine supplyKind) (supplies (N .supply)) ++ x) left ∙ append-nil _ in
     let s-lines = switches .lines ∙ ap (λ (x : List Line). map (recordLine switchKind) (N .switches) ++ x) z-lines in
     let r-lines = branches .lines ∙ ap (λ (x : List Line). map (recordLine branchKind) (N .branches) ++ x) s-lines in
@@ -243,35 +243,35 @@ found h N n l₀ l₁ l₂ l₃ l₄ l₅ one buses branches switches ids left =
       supply-clear = ids .clear;
     }
 
-lines-found : (ls : List Line) (r : Network × List Line) → readLines ls ≡ accepted r → (h : Head) × (h ≡ check.headOf (r .0)) × Found h (r .0) ls
+lines-found : (stored : Bool) (ls : List Line) (r : Network × List Line) → readLines stored ls ≡ accepted r → (h : Head) × (h ≡ check.headOf (r .0)) × Found stored h (r .0) ls
 unfolding behindHead behindBuses behindBranches behindSwitches behindSupply check.headOf pure
-lines-found ls r e =
-    follow-accepted (readOne head headFrom headLineFaults 1 ls) behindHead (sym (lines-read ls) ∙ e) λ a e₀ k₀.
-    follow-accepted _ (behindBuses (a .0)) k₀ λ b e₁ k₁.
-    follow-accepted _ (behindBranches (a .0) (b .0)) k₁ λ c e₂ k₂.
-    follow-accepted _ (behindSwitches (a .0) (b .0) (c .0)) k₂ λ d e₃ k₃.
+lines-found stored ls r e =
+    follow-accepted (readOne head headFrom headLineFaults 1 ls) (behindHead stored) (sym (lines-read stored ls) ∙ e) λ a e₀ k₀.
+    follow-accepted _ (behindBuses stored (a .0)) k₀ λ b e₁ k₁.
+    follow-accepted _ (behindBranches stored (a .0) (b .0)) k₁ λ c e₂ k₂.
+    follow-accepted _ (behindSwitches stored (a .0) (b .0) (c .0)) k₂ λ d e₃ k₃.
     follow-accepted _ (behindSupply (a .0) (b .0) (c .0) (d .0)) k₃ λ g e₄ k₄.
     follow-accepted _ _ k₄ λ f e₅ k₅.
     let h : Head = a .0 in
     let N : Network = network h (b .0) (c .0) (d .0) (g .0) in
     let one = one-kept headKind (λ before. headFaults) head-ranged [] 1 ls a e₀ in
     let buses = run-kept busKind busFaults bus-ranged (h .buses) [] 2 (a .1) b e₁ in
-    let branches = run-kept branchKind (λ before. branchFaults (b .0)) (branch-ranged (b .0)) (h .branches) [] (2 + h .buses) (b .1) c e₂ in
+    let branches = run-kept branchKind (λ before. branchFaults stored (b .0)) (branch-ranged stored (b .0)) (h .branches) [] (2 + h .buses) (b .1) c e₂ in
     let switches = run-kept switchKind (switchFaults h) (switch-ranged h) (h .switches) [] (2 + h .buses + h .branches) (c .1) d e₃ in
     let p : ℕ = 2 + h .buses + h .branches + h .switches in
-    let ids = run-kept supplyKind (λ before. supplyFaults (b .0) (c .0) (d .0)) (supply-ranged (b .0) (c .0) (d .0)) (atMostOne (d .1)) [] p (d .1) g e₄ in
-    let supply-kept = subst (λ (l : List ℕ). Kept supplyKind (λ before. supplyFaults (b .0) (c .0) (d .0)) (supply-ranged (b .0) (c .0) (d .0)) (atMostOne (d .1)) [] p (d .1) (l, g .1))
+    let ids = run-kept supplyKind (λ before. supplyFaults stored (b .0) (c .0) (d .0)) (supply-ranged stored (b .0) (c .0) (d .0)) (atMostOne (d .1)) [] p (d .1) g e₄ in
+    let supply-kept = subst (λ (l : List ℕ). Kept supplyKind (λ before. supplyFaults stored (b .0) (c .0) (d .0)) (supply-ranged stored (b .0) (c .0) (d .0)) (atMostOne (d .1)) [] p (d .1) (l, g .1))
     (sym (one-supply (d .1) (g .0) (le-of-eq (ids .many)))) ids in
     let left = end-kept (supplyPlace h + 1) (g .1) f e₅ in
     let counts : check.headOf N ≡ h = λ i. record { buses = buses .many i; branches = branches .many i; switches = switches .many i; base = h .base; algorithm = h .algorithm; iterations = h .iterations } in
-    subst (λ (q : Network × List Line). (k : Head) × (k ≡ check.headOf (q .0)) × Found k (q .0) ls) (same-value k₅)
-    (h, sym counts, found h N (atMostOne (d .1)) ls (a .1) (b .1) (c .1) (d .1) (g .1) one buses branches switches supply-kept left)
+    subst (λ (q : Network × List Line). (k : Head) × (k ≡ check.headOf (q .0)) × Found stored k (q .0) ls) (same-value k₅)
+    (h, sym counts, found stored h N (atMostOne (d .1)) ls (a .1) (b .1) (c .1) (d .1) (g .1) one buses branches switches supply-kept left)
 
-lines-kept : (ls : List Line) (r : Network × List Line) → readLines ls ≡ accepted r → (ls ≡ linesOf (r .0)) × Writable (r .0) × (checkNetwork (r .0) ≡ accepted tt)
-unfolding linesOf checkNetwork checkSupply checkRecords _andThen_
-lines-kept ls r e =
-    let t = lines-found ls r e in
-    let f : Found (check.headOf (r .0)) (r .0) ls = subst (λ h. Found h (r .0) ls) (t .1) (t .2) in (
+lines-kept : (stored : Bool) (ls : List Line) (r : Network × List Line) → readLines stored ls ≡ accepted r → (ls ≡ linesOf (r .0)) × Writable (r .0) × (checkAs stored (r .0) ≡ accepted tt)
+unfolding linesOf checkAs checkSupplyLine checkLines _andThen_
+lines-kept stored ls r e =
+    let t = lines-found stored ls r e in
+    let f : Found stored (check.headOf (r .0)) (r .0) ls = subst (λ h. Found stored h (r .0) ls) (t .1) (t .2) in (
       f .lines,
       record { head-room = f .head-room; bus-room = f .bus-room; branch-room = f .branch-room; switch-room = f .switch-room; supply-room = f .supply-room },
       rw (f .head-clear, f .buses-clear, f .branches-clear, f .switches-clear, f .supply-clear),
@@ -315,19 +315,19 @@ all-digits N w =
 
 -- ---- the laws
 -- what is written is judged as the records are
-pub read-written : (N : Network) → Writable N → readText (textOf N) ≡ (checkNetwork N andThen accepted N)
-unfolding readText
-read-written N w =
-    ap (λ t. without (readLines (cut t))) (sym (joined-lines N))
-    ∙ ap (λ x. without (readLines x)) (cut-joined (linesOf N) (digit-lines (linesOf N) (all-digits N w)))
-    ∙ ap without (lines-written N w)
-    ∙ without-then (checkNetwork N) N []
+pub read-written : (stored : Bool) (N : Network) → Writable N → readAs stored (textOf N) ≡ (checkAs stored N andThen accepted N)
+unfolding readAs
+read-written stored N w =
+    ap (λ t. without (readLines stored (cut t))) (sym (joined-lines N))
+    ∙ ap (λ x. without (readLines stored x)) (cut-joined (linesOf N) (digit-lines (linesOf N) (all-digits N w)))
+    ∙ ap without (lines-written stored N w)
+    ∙ without-then (checkAs stored N) N []
 
 -- what is accepted was written so
-pub accepted-written : (t : List ℕ) (N : Network) → readText t ≡ accepted N → (t ≡ textOf N) × Writable N × (checkNetwork N ≡ accepted tt)
-unfolding readText
-accepted-written t N e =
-    without-accepted (readLines (cut t)) e λ r e₁ same.
-    let k = lines-kept (cut t) r e₁ in
-    subst (λ (M : Network). (t ≡ textOf M) × Writable M × (checkNetwork M ≡ accepted tt)) same
+pub accepted-written : (stored : Bool) (t : List ℕ) (N : Network) → readAs stored t ≡ accepted N → (t ≡ textOf N) × Writable N × (checkAs stored N ≡ accepted tt)
+unfolding readAs
+accepted-written stored t N e =
+    without-accepted (readLines stored (cut t)) e λ r e₁ same.
+    let k = lines-kept stored (cut t) r e₁ in
+    subst (λ (M : Network). (t ≡ textOf M) × Writable M × (checkAs stored M ≡ accepted tt)) same
     (sym (joined-cut t) ∙ ap joined (k .0) ∙ joined-lines (r .0), k .1, k .2)

@@ -1,5 +1,6 @@
 -- Laws of readers: one that goes on after a judgement, and the lines behind the head.
 use mathlib.Core.Path.{_≡_, refl, sym, ap, _∙_}
+use mathlib.Core.Bool.{Bool}
 use mathlib.Core.List.{List, [], _∷_}
 use Prim.Native.Nat.{ℕ, _+_}
 use Rattle.network.specs.Answers.{Answer, accepted, refused, _andThen_, Judgement}
@@ -54,18 +55,18 @@ behindSupply h buses branches switches ids =
       _ ← readEnd (supplyPlace h + 1)
       pure (network h buses branches switches ids)
 
-unfoldable pub behindSwitches : Head → List Bus → List Branch → List Switch → Reader Network
-behindSwitches h buses branches switches = readSupply buses branches switches (supplyPlace h) >>= behindSupply h buses branches switches
+unfoldable pub behindSwitches : Bool → Head → List Bus → List Branch → List Switch → Reader Network
+behindSwitches stored h buses branches switches = readSupply stored buses branches switches (supplyPlace h) >>= behindSupply h buses branches switches
 
-unfoldable pub behindBranches : Head → List Bus → List Branch → Reader Network
-behindBranches h buses branches = readRun switch switchFrom (switchLineFaults h) [] (h .switches) (2 + h .buses + h .branches) >>= behindSwitches h buses branches
+unfoldable pub behindBranches : Bool → Head → List Bus → List Branch → Reader Network
+behindBranches stored h buses branches = readRun switch switchFrom (switchLineFaults h) [] (h .switches) (2 + h .buses + h .branches) >>= behindSwitches stored h buses branches
 
-unfoldable pub behindBuses : Head → List Bus → Reader Network
-behindBuses h buses = readRun branch branchFrom (λ before. branchLineFaults buses) [] (h .branches) (2 + h .buses) >>= behindBranches h buses
+unfoldable pub behindBuses : Bool → Head → List Bus → Reader Network
+behindBuses stored h buses = readRun branch branchFrom (λ before. branchLineFaults stored buses) [] (h .branches) (2 + h .buses) >>= behindBranches stored h buses
 
-unfoldable pub behindHead : Head → Reader Network
-behindHead h = readRun bus busFrom busLineFaults [] (h .buses) 2 >>= behindBuses h
+unfoldable pub behindHead : Bool → Head → Reader Network
+behindHead stored h = readRun bus busFrom busLineFaults [] (h .buses) 2 >>= behindBuses stored h
 
-pub lines-read : (ls : List Line) → readLines ls ≡ follow (readOne head headFrom headLineFaults 1 ls) behindHead
+pub lines-read : (stored : Bool) (ls : List Line) → readLines stored ls ≡ follow (readOne head headFrom headLineFaults 1 ls) (behindHead stored)
 unfolding readLines behindHead behindBuses behindBranches behindSwitches behindSupply
-lines-read ls = refl
+lines-read stored ls = refl

@@ -2,6 +2,7 @@
 -- (`run-split`), since a line's own conditions come before its record's; then kind after kind, since the records collected have the counts of the head as
 -- far as the pass came.
 use mathlib.Core.Path.{_≡_, refl, sym, ap, ap₂, _∙_}
+use mathlib.Core.Bool.{Bool}
 use mathlib.Core.List.{List, [], _∷_, _++_, append-assoc}
 use Prim.Native.Nat.{ℕ, zero, suc, _+_, _≤_}
 use native.Mathlib.Nat.{add-zero, le-of-eq}
@@ -18,13 +19,13 @@ use Rattle.network.specs.Faults.{headFaults, busFaults, branchFaults, switchFau
 use Rattle.network.specs.AnswerLaws.{judge-iff, no-refusal, then-assoc}
 use Rattle.network.specs.InsideLaws.{HeadInside, head-iff}
 use Rattle.network.specs.Check as check
-use Rattle.network.specs.Check.{checkRun, checkRecords}
+use Rattle.network.specs.Check.{checkRun, checkLines}
 use Rattle.lines.specs.Hex.{Fields}
 use Rattle.lines.specs.Lines.{Line, cut, lineFaults}
 use Rattle.lines.specs.Frames.{Frame}
 use Rattle.record_lines.specs.Kinds.{head, bus, branch, switch, supply, isFrame, fieldsOf, headFrom, busFrom, branchFrom, switchFrom, supplyFrom, headLineFaults, busLineFaults, branchLineFaults, switchLineFaults, Reader, readOne, without, busBytes, branchBytes, switchBytes, supplyBytes}
-use Rattle.feeders.specs.Supply.{supplyFaults, supplies, checkSupply, checkNetwork}
-use Rattle.frames.specs.Text.{follow, _>>=_, pure, readRun, readEnd, atMostOne, asOption, supplyPlace, readSupply, readText}
+use Rattle.feeders.specs.Supply.{supplyFaults, supplies, checkSupplyLine, checkAs}
+use Rattle.frames.specs.Text.{follow, _>>=_, pure, readRun, readEnd, atMostOne, asOption, supplyPlace, readSupply, readAs}
 use Rattle.lines.specs.JudgeLaws.{judge-append}
 use Rattle.frames.specs.ReaderLaws.{go-on, network, behindSupply, behindSwitches, behindBranches, behindBuses, behindHead, lines-read}
 use Rattle.frames.specs.ReadLaws.{head-passed, regroup, one-supply}
@@ -185,36 +186,36 @@ unfolding without follow pure _andThen_
 end-then (accepted r) N = refl
 end-then (refused n p) N = refl
 
-module _ (h : Head) (inside : HeadInside h) where
+module _ (stored : Bool) (h : Head) (inside : HeadInside h) where
   busCheck : List Bus → Judgement
   busCheck buses = checkRun busFaults [] 2 buses
 
   branchCheck : List Bus → List Branch → Judgement
-  branchCheck buses branches = checkRun (λ before. branchFaults buses) [] (2 + h .buses) branches
+  branchCheck buses branches = checkRun (λ before. branchFaults stored buses) [] (2 + h .buses) branches
 
   switchCheck : List Switch → Judgement
   switchCheck switches = checkRun (switchFaults h) [] (2 + h .buses + h .branches) switches
 
   supplyCheck : List Bus → List Branch → List Switch → List ℕ → Judgement
-  supplyCheck buses branches switches ids = checkRun (λ before. supplyFaults buses branches switches) [] (supplyPlace h) ids
+  supplyCheck buses branches switches ids = checkRun (λ before. supplyFaults stored buses branches switches) [] (supplyPlace h) ids
 
   -- the records collected, checked with their own counts
   settled : (buses : List Bus) (branches : List Branch) (switches : List Switch) (ids : List ℕ) (v₂ v₃ v₄ stopped : Judgement)
       → length buses ≤ h .buses → length branches ≤ h .branches → length switches ≤ h .switches
-      → checkRun (λ before. branchFaults buses) [] (2 + length buses) branches ≡ v₂
+      → checkRun (λ before. branchFaults stored buses) [] (2 + length buses) branches ≡ v₂
       → checkRun (switchFaults (check.headOf (network h buses branches switches ids))) [] (2 + length buses + length branches) switches ≡ v₃
-      → checkRun (λ before. supplyFaults buses branches switches) [] (2 + length buses + length branches + length switches) (supplies (asOption ids)) ≡ v₄
-      → settle (record { network = network h buses branches switches ids; stopped = stopped })
+      → checkRun (λ before. supplyFaults stored buses branches switches) [] (2 + length buses + length branches + length switches) (supplies (asOption ids)) ≡ v₄
+      → settle stored (record { network = network h buses branches switches ids; stopped = stopped })
       ≡ (busCheck buses andThen (v₂ andThen (v₃ andThen (v₄ andThen (stopped andThen accepted (network h buses branches switches ids))))))
-  unfolding checkNetwork checkSupply checkRecords _andThen_ check.headOf busCheck
+  unfolding checkAs checkSupplyLine checkLines _andThen_ check.headOf busCheck
   settled buses branches switches ids v₂ v₃ v₄ stopped b r s e₂ e₃ e₄ =
       let N = network h buses branches switches ids in
       rw (fewer h (check.headOf N) b r s refl refl inside, e₂, e₃, e₄) (sym (regroup (busCheck buses) v₂ v₃ v₄ (stopped andThen accepted N)))
 
   -- counts that are the head's put the records at the head's places
-  branch-places : (buses : List Bus) (branches : List Branch) → length buses ≡ h .buses → checkRun (λ before. branchFaults buses) [] (2 + length buses) branches ≡ branchCheck buses branches
+  branch-places : (buses : List Bus) (branches : List Branch) → length buses ≡ h .buses → checkRun (λ before. branchFaults stored buses) [] (2 + length buses) branches ≡ branchCheck buses branches
   unfolding branchCheck
-  branch-places buses branches b = ap (λ (n : ℕ). checkRun (λ before. branchFaults buses) [] (2 + n) branches) b
+  branch-places buses branches b = ap (λ (n : ℕ). checkRun (λ before. branchFaults stored buses) [] (2 + n) branches) b
 
   switch-places : (buses : List Bus) (branches : List Branch) (switches : List Switch) (ids : List ℕ) → length buses ≡ h .buses → length branches ≡ h .branches
       → checkRun (switchFaults (check.headOf (network h buses branches switches ids))) [] (2 + length buses + length branches) switches ≡ switchCheck switches
@@ -224,15 +225,15 @@ module _ (h : Head) (inside : HeadInside h) where
 
   supply-places : (buses : List Bus) (branches : List Branch) (switches : List Switch) (ids : List ℕ) → length buses ≡ h .buses → length branches ≡ h .branches → length switches ≡ h .switches
       → supplies (asOption ids) ≡ ids
-      → checkRun (λ before. supplyFaults buses branches switches) [] (2 + length buses + length branches + length switches) (supplies (asOption ids)) ≡ supplyCheck buses branches switches ids
+      → checkRun (λ before. supplyFaults stored buses branches switches) [] (2 + length buses + length branches + length switches) (supplies (asOption ids)) ≡ supplyCheck buses branches switches ids
   unfolding supplyCheck
   supply-places buses branches switches ids b r s one =
       let place : 2 + length buses + length branches + length switches ≡ supplyPlace h = omega arith in
-      ap₂ (λ (n : ℕ) (l : List ℕ). checkRun (λ before. supplyFaults buses branches switches) [] n l) place one
+      ap₂ (λ (n : ℕ) (l : List ℕ). checkRun (λ before. supplyFaults stored buses branches switches) [] n l) place one
 
   -- the records with what stands behind the pass over the supply's line
   abbrev finished : Network → Pass ℕ → Answer Network
-  finished N pass = settle (record { network = N; stopped = pass .stopped andThen without (readEnd (supplyPlace h + 1) (pass .left)) })
+  finished N pass = settle stored (record { network = N; stopped = pass .stopped andThen without (readEnd (supplyPlace h + 1) (pass .left)) })
 
   from-supply : (buses : List Bus) (branches : List Branch) (switches : List Switch) (pass : Pass ℕ) → length buses ≡ h .buses → length branches ≡ h .branches
       → length switches ≡ h .switches → supplies (asOption (pass .records)) ≡ pass .records
@@ -253,14 +254,14 @@ module _ (h : Head) (inside : HeadInside h) where
 
   from-switches : (buses : List Bus) (branches : List Branch) (switches : List Switch) (left : List Line) (stopped : Judgement) → length buses ≡ h .buses
       → length branches ≡ h .branches → Counted (h .switches) (record { records = switches; left = left; stopped = stopped })
-      → (busCheck buses andThen (branchCheck buses branches andThen (switchCheck switches andThen (stopped andThen without (behindSwitches h buses branches switches left)))))
+      → (busCheck buses andThen (branchCheck buses branches andThen (switchCheck switches andThen (stopped andThen without (behindSwitches stored h buses branches switches left)))))
       ≡ (let z = onward left stopped (passSupply (supplyPlace h)) in finished (network h buses branches switches (z .records)) z)
   unfolding onward _andThen_ behindSwitches supplyCheck checkRun asOption whole checked
   from-switches buses branches switches left (accepted u) b r c =
       let p = supplyPlace h in
       let z = passSupply p left in
-      let read = pass-then (readSupply buses branches switches p left) (supplyCheck buses branches switches (z .records)) z (behindSupply h buses branches switches)
-      (run-split supply supplyFrom supplyBytes (λ before. supplyFaults buses branches switches) (atMostOne left) [] p left) in
+      let read = pass-then (readSupply stored buses branches switches p left) (supplyCheck buses branches switches (z .records)) z (behindSupply h buses branches switches)
+      (run-split supply supplyFrom supplyBytes (λ before. supplyFaults stored buses branches switches) (atMostOne left) [] p left) in
       ap (λ x. busCheck buses andThen (branchCheck buses branches andThen (switchCheck switches andThen x))) read
       ∙ from-supply buses branches switches z b r (c .full refl) (one-supply left (z .records) (pass-counted supply supplyFrom supplyBytes (atMostOne left) p left .within))
   from-switches buses branches switches left (refused n p) b r c =
@@ -269,14 +270,14 @@ module _ (h : Head) (inside : HeadInside h) where
 
   from-branches : (buses : List Bus) (branches : List Branch) (left : List Line) (stopped : Judgement) → length buses ≡ h .buses
       → Counted (h .branches) (record { records = branches; left = left; stopped = stopped })
-      → (busCheck buses andThen (branchCheck buses branches andThen (stopped andThen without (behindBranches h buses branches left))))
+      → (busCheck buses andThen (branchCheck buses branches andThen (stopped andThen without (behindBranches stored h buses branches left))))
       ≡ (let s = onward left stopped (passSwitches h) in
       let z = after s (passSupply (supplyPlace h)) in
       finished (network h buses branches (s .records) (z .records)) z)
   unfolding onward _andThen_ behindBranches branchCheck switchCheck checkRun asOption whole checked
   from-branches buses branches left (accepted u) b c =
       let s = passSwitches h left in
-      let read = pass-then (readRun switch switchFrom (switchLineFaults h) [] (h .switches) (2 + h .buses + h .branches) left) (switchCheck (s .records)) s (behindSwitches h buses branches)
+      let read = pass-then (readRun switch switchFrom (switchLineFaults h) [] (h .switches) (2 + h .buses + h .branches) left) (switchCheck (s .records)) s (behindSwitches stored h buses branches)
       (run-split switch switchFrom switchBytes (switchFaults h) (h .switches) [] (2 + h .buses + h .branches) left) in
       ap (λ x. busCheck buses andThen (branchCheck buses branches andThen x)) read
       ∙ from-switches buses branches (s .records) (s .left) (s .stopped) b (c .full refl) (pass-counted switch switchFrom switchBytes (h .switches) (2 + h .buses + h .branches) left)
@@ -284,7 +285,7 @@ module _ (h : Head) (inside : HeadInside h) where
       sym (settled buses branches [] [] (branchCheck buses branches) (accepted tt) (accepted tt) (refused n p) (le-of-eq b) (c .within) (omega arith) (branch-places buses branches b) refl refl)
 
   from-buses : (buses : List Bus) (left : List Line) (stopped : Judgement) → Counted (h .buses) (record { records = buses; left = left; stopped = stopped })
-      → (busCheck buses andThen (stopped andThen without (behindBuses h buses left)))
+      → (busCheck buses andThen (stopped andThen without (behindBuses stored h buses left)))
       ≡ (let r = onward left stopped (passBranches h) in
       let s = after r (passSwitches h) in
       let z = after s (passSupply (supplyPlace h)) in
@@ -292,23 +293,23 @@ module _ (h : Head) (inside : HeadInside h) where
   unfolding onward _andThen_ behindBuses branchCheck checkRun asOption whole checked
   from-buses buses left (accepted u) c =
       let r = passBranches h left in
-      let read = pass-then (readRun branch branchFrom (λ before. branchLineFaults buses) [] (h .branches) (2 + h .buses) left) (branchCheck buses (r .records)) r (behindBranches h buses)
-      (run-split branch branchFrom branchBytes (λ before. branchFaults buses) (h .branches) [] (2 + h .buses) left) in
+      let read = pass-then (readRun branch branchFrom (λ before. branchLineFaults stored buses) [] (h .branches) (2 + h .buses) left) (branchCheck buses (r .records)) r (behindBranches stored h buses)
+      (run-split branch branchFrom branchBytes (λ before. branchFaults stored buses) (h .branches) [] (2 + h .buses) left) in
       ap (λ x. busCheck buses andThen x) read
       ∙ from-branches buses (r .records) (r .left) (r .stopped) (c .full refl) (pass-counted branch branchFrom branchBytes (h .branches) (2 + h .buses) left)
   from-buses buses left (refused n p) c = sym (settled buses [] [] [] (accepted tt) (accepted tt) (accepted tt) (refused n p) (c .within) (omega arith) (omega arith) refl refl refl)
 
-  body-split : (ls : List Line) → without (behindHead h ls) ≡ settle (collect h ls)
+  body-split : (ls : List Line) → without (behindHead stored h ls) ≡ settle stored (collect h ls)
   unfolding behindHead collect _andThen_ busCheck checkRun whole checked
   body-split ls =
       let b = passBuses h ls in
-      pass-then (readRun bus busFrom busLineFaults [] (h .buses) 2 ls) (busCheck (b .records)) b (behindBuses h) (run-split bus busFrom busBytes busFaults (h .buses) [] 2 ls)
+      pass-then (readRun bus busFrom busLineFaults [] (h .buses) 2 ls) (busCheck (b .records)) b (behindBuses stored h) (run-split bus busFrom busBytes busFaults (h .buses) [] 2 ls)
       ∙ from-buses (b .records) (b .left) (b .stopped) (pass-counted bus busFrom busBytes (h .buses) 2 ls)
 
-pub split : (t : List ℕ) → readText t ≡ readTwice t
-unfolding readText readTwice without follow afterHead
-split t = ap without (lines-read (cut t)) ∙ go (readOne head headFrom headLineFaults 1 (cut t)) refl
+pub split : (stored : Bool) (t : List ℕ) → readAs stored t ≡ readTwice stored t
+unfolding readAs readTwice without follow afterHead
+split stored t = ap without (lines-read stored (cut t)) ∙ go (readOne head headFrom headLineFaults 1 (cut t)) refl
   where
-    go : (x : Answer (Head × List Line)) → readOne head headFrom headLineFaults 1 (cut t) ≡ x → without (follow x behindHead) ≡ afterHead x
-    go (accepted r) e = body-split (r .0) (head-passed (cut t) r e) (r .1)
+    go : (x : Answer (Head × List Line)) → readOne head headFrom headLineFaults 1 (cut t) ≡ x → without (follow x (behindHead stored)) ≡ afterHead stored x
+    go (accepted r) e = body-split stored (r .0) (head-passed (cut t) r e) (r .1)
     go (refused n p) e = refl

@@ -1,5 +1,5 @@
--- Document 01's frame text, with document 02's last line: the reader takes its lines, kind after kind, and what a text means.
-use mathlib.Core.Bool.{false}
+-- Document 01's frame text, with document 02's last line: the reader takes its lines, kind after kind, and what a text means, a new one or a stored one (document 02, Point 7).
+use mathlib.Core.Bool.{Bool, true, false}
 use mathlib.Core.List.{List, [], _∷_, _++_}
 use mathlib.Core.Option.{Option, none, some}
 use Prim.Native.Nat.{ℕ, zero, suc, _+_}
@@ -53,28 +53,36 @@ asOption [] = none
 asOption (id ∷ ids) = some id
 
 -- refusals of the line behind 1 and 2: "14, bus not listed; 15, base not radial"
-abbrev pub supplyLineFaults : List Bus → List Branch → List Switch → Fields (supply .widths) → List Fault
-supplyLineFaults buses branches switches f = supplyBytes f ++ supplyFaults buses branches switches (supplyFrom f)
+abbrev pub supplyLineFaults : Bool → List Bus → List Branch → List Switch → Fields (supply .widths) → List Fault
+supplyLineFaults stored buses branches switches f = supplyBytes f ++ supplyFaults stored buses branches switches (supplyFrom f)
 
 -- its place, behind the lines that the head counts
 abbrev pub supplyPlace : Head → ℕ
 supplyPlace h = 2 + h .buses + h .branches + h .switches
 
-abbrev pub readSupply : List Bus → List Branch → List Switch → ℕ → Reader (List ℕ)
-readSupply buses branches switches place ls = readRun supply supplyFrom (λ before. supplyLineFaults buses branches switches) [] (atMostOne ls) place ls
+abbrev pub readSupply : Bool → List Bus → List Branch → List Switch → ℕ → Reader (List ℕ)
+readSupply stored buses branches switches place ls = readRun supply supplyFrom (λ before. supplyLineFaults stored buses branches switches) [] (atMostOne ls) place ls
 
 -- "Lines come in this order, as many as the head says", then the supply's line, if a line is left
-unfoldable pub readLines : Reader Network
-readLines =
+unfoldable pub readLines : Bool → Reader Network
+readLines stored =
     do
       h ← readOne head headFrom headLineFaults 1
       buses ← readRun bus busFrom busLineFaults [] (h .buses) 2
-      branches ← readRun branch branchFrom (λ before. branchLineFaults buses) [] (h .branches) (2 + h .buses)
+      branches ← readRun branch branchFrom (λ before. branchLineFaults stored buses) [] (h .branches) (2 + h .buses)
       switches ← readRun switch switchFrom (switchLineFaults h) [] (h .switches) (2 + h .buses + h .branches)
-      ids ← readSupply buses branches switches (supplyPlace h)
+      ids ← readSupply stored buses branches switches (supplyPlace h)
       _ ← readEnd (supplyPlace h + 1)
       pure (record { base = h .base; algorithm = h .algorithm; iterations = h .iterations; buses = buses; branches = branches; switches = switches; supply = asOption ids })
 
--- what a text means: its records, or the first refusal with its place
+-- what a text means, stored or not: its records, or the first refusal with its place
+unfoldable pub readAs : Bool → List ℕ → Answer Network
+readAs stored t = without (readLines stored (cut t))
+
+-- "New texts with one are refused"
 unfoldable pub readText : List ℕ → Answer Network
-readText t = without (readLines (cut t))
+readText t = readAs false t
+
+-- a stored text: its branches from a bus to itself pass, and its base is judged without them
+unfoldable pub readStored : List ℕ → Answer Network
+readStored t = readAs true t

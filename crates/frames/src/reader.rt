@@ -5,8 +5,8 @@ ghost use lib.ListN.{length, drop};
 ghost use Rattle.network.specs.Answers.{accepted, refused, answerOf, _andThen_};
 ghost use Rattle.network.specs.Records.{networkOf, recordsOf};
 ghost use Rattle.lines.specs.Lines.{cut};
-ghost use Rattle.feeders.specs.Supply.{checkNetwork};
-ghost use Rattle.frames.specs.Text.{readText};
+ghost use Rattle.feeders.specs.Supply.{checkAs};
+ghost use Rattle.frames.specs.Text.{readAs, readText, readStored};
 ghost use Rattle.frames.specs.Passes.{collect};
 ghost use Rattle.record_lines.specs.LineAnswers.{headOfCode};
 ghost use Rattle.frames.specs.FrameReads.{AreRecords, IsCollected};
@@ -16,7 +16,7 @@ use crate::bus;
 use crate::pass::Pass;
 use crate::supply;
 use crate::switch;
-use feeders::supply::check_network;
+use feeders::supply::check_as;
 use lines::line::judge_end;
 use network::error::Verdict;
 use network::switch::ReconfigAlgorithm;
@@ -94,12 +94,12 @@ fn refusal(number: u8, place: u16) -> Reading
 }
 
 // The records decide first: their lines stand before the line at which reading stopped.
-fn settle(pass: Pass) -> Reading
+fn settle(pass: Pass, stored: bool) -> Reading
     requires { ⌜ pass .network ≡ networkOf (recordsOf (pass .network)) ⌝ }
-    ensures { λ r. ⌜ r ≡ readingOf (checkNetwork (recordsOf (pass .network)) andThen answerOf (pass .stopped) andThen accepted (recordsOf (pass .network))) ⌝ }
+    ensures { λ r. ⌜ r ≡ readingOf (checkAs stored (recordsOf (pass .network)) andThen answerOf (pass .stopped) andThen accepted (recordsOf (pass .network))) ⌝ }
 {
     let network = pass.network;
-    let v = check_network(network);
+    let v = check_as(network, stored);
     if let Verdict::Refused { number, place } = v {
         return refusal(number, place);
     }
@@ -113,12 +113,26 @@ fn settle(pass: Pass) -> Reading
     }
 }
 
+// What a text means, stored or not.
+fn read_as(text: &[u8], stored: bool) -> Reading
+    ensures { λ r. ⌜ r ≡ readingOf (readAs stored (now (text .entry))) ⌝ }
+{
+    match head::head_line(text) {
+        HeadRead::Refused { number, place } => refusal(number, place),
+        HeadRead::Made(head) => settle(read_body(text, head), stored),
+    }
+}
+
 // What a text means: its records, or the first refusal with its place.
 pub fn read_text(text: &[u8]) -> Reading
     ensures { λ r. ⌜ r ≡ readingOf (readText (now (text .entry))) ⌝ }
 {
-    match head::head_line(text) {
-        HeadRead::Refused { number, place } => refusal(number, place),
-        HeadRead::Made(head) => settle(read_body(text, head)),
-    }
+    read_as(text, false)
+}
+
+// What a stored text means: branches from a bus to itself pass, and 15 is judged of what is left without them.
+pub fn read_stored(text: &[u8]) -> Reading
+    ensures { λ r. ⌜ r ≡ readingOf (readStored (now (text .entry))) ⌝ }
+{
+    read_as(text, true)
 }

@@ -60,12 +60,13 @@ fn print_answer(answer: LossAnswer) {
     }
 }
 
-// The line has the change and the state. A text that the reader refuses is said to be no feeder: such a case is wrongly made.
+// The line has the change and the state. The text is read as a stored one, so that it is the call that refuses a branch from a bus to itself. A text that is refused here is
+// said to be no feeder: such a case is wrongly made.
 fn print_text(text: &[u8], line: &[u8]) {
     if line.len() < 2 {
         return;
     }
-    let reading = frames::reader::read_text(text);
+    let reading = frames::reader::read_stored(text);
     let verdict = reading.verdict;
     let Verdict::Accepted = verdict else {
         io::write_all(STDOUT_FILENO, b" no feeder\n");

@@ -28,11 +28,11 @@ use Rattle.graph.specs.SideLaws.{away-sound}
 use Rattle.drawing.specs.Drawing.{drawnGraph}
 use Rattle.drawing.specs.DrawingLaws.{drawnFroms, drawnTos, drawn-graph, drawn-ends}
 use Rattle.feeders.specs.Feeder.{position, feeder}
-use Rattle.feeders.specs.FeederLaws.{feeder-sound, feeder-small, feeder-few, radial-in}
+use Rattle.feeders.specs.FeederLaws.{feeder-sound, feeder-small, feeder-few, radial-in, position-listed}
 use Rattle.feeders.specs.FeederRowLaws.{flags-live, same-buses, same-branches, end-position, feeder-ends}
 use Rattle.feeders.specs.FeederRows.{listedIds, endAt, feederGraph, liveFlags, fromEnds, toEnds, endsNet}
-use Rattle.feeders.specs.Supply.{checkNetwork}
-use Rattle.feeders.specs.SupplyLaws.{network-inside, network-records, supply-listed, value-supplied, value-unsupplied}
+use Rattle.feeders.specs.Supply.{checkSupply}
+use Rattle.feeders.specs.SupplyLaws.{records-supplied, value-supplied, value-unsupplied}
 use Rattle.losses.specs.declared.loads.Loads.{Loads}
 use Rattle.losses.specs.Loss.{loadAt, resistanceAt, loss, lossIn}
 use Rattle.losses.specs.LossSame.{loss-same}
@@ -125,13 +125,10 @@ module _ (n : PowerNetwork) (sized : length (n .buses) ≡ 256) (ok : checkRecor
               let d = drawn-ends _ _ (fromEnds n) (toEnds n) flags z small few short ends-net-sound ends-net-tree (omega (arith, same-buses n sized ok)) k (omega (arith, same-branches n sized ok)) in
               (a .0 ∙ d .0, a .1 ∙ d .1)
 
--- of an accepted feeder: in every state without a supply, in every radial one with it
-module _ (n : PowerNetwork) (sized : length (n .buses) ≡ 256) (passed : checkNetwork (recordsOf n) ≡ accepted tt) (s : State) (fed : Fed (recordsOf n) s) where
+-- of a feeder whose records and supply are checked: in every state without a supply, in every radial one with it
+module _ (n : PowerNetwork) (sized : length (n .buses) ≡ 256) (ok : checkRecords (recordsOf n) ≡ accepted tt) (fed-so : checkSupply (recordsOf n) ≡ accepted tt) (s : State) (fed : Fed (recordsOf n) s) where
   abbrev M : Network
   M = recordsOf n
-
-  ok : checkRecords M ≡ accepted tt
-  ok = network-records M passed
 
   abbrev flags : List Bool
   flags = liveFlags M s
@@ -153,9 +150,10 @@ module _ (n : PowerNetwork) (sized : length (n .buses) ≡ 256) (passed : checkN
       → listLoss (drawnGraph (feederGraph n) flags (endAt (listedIds n) (n .supply))) (loadsAt (n .buses)) (n .branches) (n .«base_mva») flags ≡ lossIn M s
   from-supply e =
       let named = value-supplied n e in
-      let z = end-position n sized ok (n .supply) (network-inside M .0 passed .1 (n .supply) named .0) in
+      let listed = records-supplied M ok fed-so (n .supply) named .0 in
+      let z = end-position n sized ok (n .supply) listed in
       let tree = ap (radial (feeder M)) live-so ∙ sym (radial-in M s) ∙ fed (n .supply) named in
-      rw z (drawn-loss n sized ok flags short (position M (n .supply)) (supply-listed M passed (n .supply) named) tree)
+      rw z (drawn-loss n sized ok flags short (position M (n .supply)) (position-listed M (n .supply) listed) tree)
       ∙ by-flags (λ E. away (feeder M) E (position M (n .supply)))
       ∙ sym (supplied-loss M s (n .supply) named)
 

@@ -1,4 +1,4 @@
--- Document 01's table of refusals, rows 3 to 9: the conditions that a record meets or not, each kind's in the order in which they win.
+-- Document 01's table of refusals, rows 3 to 9, and document 02's 17: the conditions that a record meets or not, each kind's in the order in which they win.
 use mathlib.Core.Bool.{Bool, not, _&&_, _||_}
 use mathlib.Core.List.{List, [], _∷_, map}
 use Prim.Native.Nat.{ℕ}
@@ -11,7 +11,7 @@ use Rattle.network.specs.declared.branch.Branch.{Branch}
 use Rattle.network.specs.declared.switch.Switch.{Switch}
 use Rattle.network.specs.declared.switch.ReconfigAlgorithm.{ReconfigAlgorithm}
 use Rattle.network.specs.Answers.{Fault, _if_}
-use Rattle.network.specs.Limits.{Head, methodByte, okBase, okLoad, okR, busId, switchId, on, ties}
+use Rattle.network.specs.Limits.{Head, methodByte, okBase, okLoad, okR, busId, switchId, isOwnLoop, on, ties}
 
 -- ---- the table's rows, each kind's conditions once. Row 3 has "iterations over 1,000" alone: a record's method, status and flags always have a meaning
 -- a head, from its counts of buses, branches and switches, its base_mva and its iterations
@@ -29,11 +29,13 @@ busRow b twice =
     ∷ (7 if twice)
     ∷ []
 
--- a branch; whether a bus with the id of its from end is listed, and of its to end
-abbrev pub branchRow : Branch → Bool → Bool → List Fault
-branchRow b fromListed toListed =
+-- a branch, of a stored text or not; whether a bus with the id of its from end is listed, and of its to end
+abbrev pub branchRow : Bool → Branch → Bool → Bool → List Fault
+branchRow stored b fromListed toListed =
     (5 if not (okR (b .r)))
     ∷ (6 if (not fromListed || not toListed))
+    -- document 02, Point 7: "17, equal ends, at the branch line, after 6 and before 7"; a stored text may have such branches
+    ∷ (17 if (not stored && isOwnLoop b))
     ∷ []
 
 -- a switch; how many branches there are, the method, whether a switch before it has its id, how many before it are on its branch, and how many before it are ties
@@ -55,8 +57,8 @@ unfoldable pub busFaults : List Bus → Bus → List Fault
 busFaults before b = busRow b (among (b .id) (map busId before))
 
 -- of a branch, with all buses
-unfoldable pub branchFaults : List Bus → Branch → List Fault
-branchFaults buses b = branchRow b (among (b .«from_bus») (map busId buses)) (among (b .«to_bus») (map busId buses))
+unfoldable pub branchFaults : Bool → List Bus → Branch → List Fault
+branchFaults stored buses b = branchRow stored b (among (b .«from_bus») (map busId buses)) (among (b .«to_bus») (map busId buses))
 
 -- of a switch, with the head and the switches before it
 unfoldable pub switchFaults : Head → List Switch → Switch → List Fault

@@ -1,6 +1,7 @@
--- Document 01's limits, and document 02's of switches on a branch, as statements about a network. No refusal number occurs here.
+-- Document 01's limits, and document 02's of switches on a branch and of branches from a bus to itself, as statements about a network. No refusal number occurs here.
 use mathlib.Core.List.{List, [], _∷_, map, List·Memᴰ}
 use mathlib.Core.Path.{_≡_}
+use mathlib.Core.Logic.{_≢_}
 use mathlib.Core.Bool.{true}
 use Prim.Native.Nat.{ℕ, _≤_, _<_}
 use lib.ListN.{length}
@@ -36,3 +37,7 @@ pub record Inside (N : Network) : Type 0 where
   pub at-most-two : (k : ℕ) → times k (map on (N .switches)) ≤ 2
   -- at most ten normally open switches with method 02
   pub few-ties : methodByte (N .algorithm) ≡ 2 → ties (N .switches) ≤ 10
+
+-- document 02, Point 7: no branch goes from a bus to itself
+abbrev pub Proper : Network → Type 0
+Proper N = Each (λ b. b .«from_bus» ≢ b .«to_bus») (N .branches)

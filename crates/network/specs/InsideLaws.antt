@@ -1,12 +1,12 @@
--- The check of records finds nothing exactly where the network is inside document 01's limits.
+-- The check of records finds nothing exactly where the network is inside document 01's limits and, in a new text, no branch goes from a bus to itself.
 use mathlib.Core.Path.{_≡_, refl, sym, ap, _∙_}
-use mathlib.Core.Logic.{_⊎_, inl, inr, _↔_}
+use mathlib.Core.Logic.{_⊎_, inl, inr, _↔_, _≢_}
 use mathlib.Core.Bool.{Bool, true, false, cond, not, _&&_, _||_, true≢false}
 use mathlib.Core.List.{List, [], _∷_, _++_, map, Memᴰ·append-left, Memᴰ·append-right, List·Memᴰ·append-cases, List·Memᴰ·eq-of-singleton, List·Memᴰ, List·Memᴰ·head, List·Memᴰ·tail, List·Memᴰ·not-nil, List·Memᴰ·cases-cons, Memᴰ·cast}
 use Prim.Native.Nat.{ℕ, suc, _+_, _≤_, _<_}
 use native.Mathlib.Omega.{arith}
 use lib.Dec.{leb, ltb, eqb}
-use borrow.Author.Tests.{ltb-false, le-ltb, leb-false, lt-leb, eqb-true, eq-eqb, not-false}
+use borrow.Author.Tests.{ltb-false, le-ltb, leb-false, lt-leb, eqb-true, eq-eqb, eqb-false, ne-eqb, not-false}
 use Rattle.numbers.specs.Choose.{among}
 use Rattle.numbers.specs.ChooseLaws.{among-mem, mem-among, not-among}
 use Rattle.numbers.specs.TableLaws.{map-snoc}
@@ -20,11 +20,11 @@ use Rattle.network.specs.declared.switch.Switch.{Switch}
 use Rattle.network.specs.Records.{Network}
 use Rattle.network.specs.Answers.{accepted, Fault, judge}
 use Rattle.network.specs.AnswerLaws.{Passes, judge-iff, then-iff}
-use Rattle.network.specs.Limits.{Head, okBase, okLoad, okR, busId, switchId, on, ties, methodByte}
+use Rattle.network.specs.Limits.{Head, okBase, okLoad, okR, busId, switchId, isOwnLoop, on, ties, methodByte}
 use Rattle.network.specs.Faults.{headFaults, busFaults, branchFaults, switchFaults}
 use Rattle.network.specs.TieLaws.{ties-counting}
-use Rattle.network.specs.Check.{headOf, checkRun, checkRecords}
-use Rattle.network.specs.Inside.{Each, HasBus, Inside}
+use Rattle.network.specs.Check.{headOf, checkRun, checkLines, checkRecords}
+use Rattle.network.specs.Inside.{Each, HasBus, Inside, Proper}
 use Rattle.network.specs.EachLaws.{each-map}
 
 -- ---- Q holds of each of the list, with those before it
@@ -225,35 +225,51 @@ buses-iff l = (left, right)
         (zip (λ e a. okLoad (a .pd .0) ≡ true) (New busId) [] l (each-through (λ b. okLoad (b .pd .0) ≡ true) [] l (i .0)) (distinct-new busId [] l (i .1) (first-apart busId l)))
 
 -- what a branch's conditions leave
-record BranchInside (ids : List ℕ) (b : Branch) : Type 0 where
+record BranchInside (stored : Bool) (ids : List ℕ) (b : Branch) : Type 0 where
   resistance : okR (b .r) ≡ true
   from-listed : List·Memᴰ (b .«from_bus») ids
   to-listed : List·Memᴰ (b .«to_bus») ids
+  proper : stored ≡ false → b .«from_bus» ≢ b .«to_bus»
 
-branch-iff : (buses : List Bus) (b : Branch) → Passes (branchFaults buses b) ↔ BranchInside (map busId buses) b
+-- 17's condition
+own-iff : (stored : Bool) (b : Branch) → ((not stored && isOwnLoop b) ≡ false) ↔ (stored ≡ false → b .«from_bus» ≢ b .«to_bus»)
+own-iff true b = (λ e s. absurd (true≢false s), λ h. refl)
+own-iff false b = (λ e s. eqb-false (b .«from_bus») (b .«to_bus») e, λ h. ne-eqb (b .«from_bus») (b .«to_bus») (h refl))
+
+branch-iff : (stored : Bool) (buses : List Bus) (b : Branch) → Passes (branchFaults stored buses b) ↔ BranchInside stored (map busId buses) b
 unfolding branchFaults
-branch-iff buses b = (left, right)
+branch-iff stored buses b = (left, right)
   where
-    left : Passes (branchFaults buses b) → BranchInside (map busId buses) b
+    left : Passes (branchFaults stored buses b) → BranchInside stored (map busId buses) b
     left p =
         let n = neither (not (among (b .«from_bus») (map busId buses))) (not (among (b .«to_bus») (map busId buses))) (p .1 .0) in
         record {
           resistance = not-false (okR (b .r)) (p .0);
           from-listed = among-mem (b .«from_bus») (map busId buses) (not-false _ (n .0));
           to-listed = among-mem (b .«to_bus») (map busId buses) (not-false _ (n .1));
+          proper = own-iff stored b .0 (p .1 .1 .0);
         }
 
-    right : BranchInside (map busId buses) b → Passes (branchFaults buses b)
+    right : BranchInside stored (map busId buses) b → Passes (branchFaults stored buses b)
     right i = (
       ap not (i .resistance),
-      (or-none _ _ (ap not (mem-among (b .«from_bus») (map busId buses) (i .from-listed))) (ap not (mem-among (b .«to_bus») (map busId buses) (i .to-listed))), tt),
+      (
+        or-none _ _ (ap not (mem-among (b .«from_bus») (map busId buses) (i .from-listed))) (ap not (mem-among (b .«to_bus») (map busId buses) (i .to-listed))),
+        (own-iff stored b .1 (i .proper), tt),
+      ),
     )
 
-branches-iff : (buses : List Bus) (l : List Branch) → Through (λ b a. Passes (branchFaults buses a)) [] l ↔ Each (BranchInside (map busId buses)) l
-branches-iff buses l = (
-  λ t. through-each (BranchInside (map busId buses)) [] l (weaken (λ b a. Passes (branchFaults buses a)) (λ e a. BranchInside (map busId buses) a) [] l (λ e a p. branch-iff buses a .0 p) t),
-  λ i. weaken (λ e a. BranchInside (map busId buses) a) (λ b a. Passes (branchFaults buses a)) [] l (λ e a p. branch-iff buses a .1 p) (each-through (BranchInside (map busId buses)) [] l i),
+branches-iff : (stored : Bool) (buses : List Bus) (l : List Branch) → Through (λ b a. Passes (branchFaults stored buses a)) [] l ↔ Each (BranchInside stored (map busId buses)) l
+branches-iff stored buses l = (
+  λ t. through-each Fits [] l (weaken Judged (λ e a. Fits a) [] l (λ e a p. branch-iff stored buses a .0 p) t),
+  λ i. weaken (λ e a. Fits a) Judged [] l (λ e a p. branch-iff stored buses a .1 p) (each-through Fits [] l i),
 )
+  where
+    Judged : List Branch → Branch → Type 0
+    Judged before a = Passes (branchFaults stored buses a)
+
+    Fits : Branch → Type 0
+    Fits = BranchInside stored (map busId buses)
 
 record SwitchesInside (h : Head) (l : List Switch) : Type 0 where
   positions : Each (λ s. s .«branch_idx» < h .branches) l
@@ -284,48 +300,67 @@ switches-iff h l = (left, right)
         (zip _ _ [] l t₁ (zip (New switchId) _ [] l t₂ (zip (NoThird on) (FewTies h) [] l t₃ t₄)))
 
 -- ---- the whole network
-pub check-inside : (N : Network) → (checkRecords N ≡ accepted tt) ↔ Inside N
-unfolding checkRecords headOf
-check-inside N = (left, right)
+pub lines-inside : (stored : Bool) (N : Network) → (checkLines stored N ≡ accepted tt) ↔ (Inside N × (stored ≡ false → Proper N))
+unfolding checkLines headOf
+lines-inside stored N = (left, right)
   where
     h : Head
     h = headOf N
 
-    left : checkRecords N ≡ accepted tt → Inside N
+    left : checkLines stored N ≡ accepted tt → Inside N × (stored ≡ false → Proper N)
     left e =
         let t₀ = then-iff (judge (headFaults h) 1) _ .0 e in
         let t₁ = then-iff (checkRun busFaults [] 2 (N .buses)) _ .0 (t₀ .1) in
-        let t₂ = then-iff (checkRun (λ before. branchFaults (N .buses)) [] (2 + h .buses) (N .branches)) _ .0 (t₁ .1) in
+        let t₂ = then-iff (checkRun (λ before. branchFaults stored (N .buses)) [] (2 + h .buses) (N .branches)) _ .0 (t₁ .1) in
         let i = head-iff h .0 (judge-iff (headFaults h) 1 .0 (t₀ .0)) in
         let b = buses-iff (N .buses) .0 (run-iff busFaults [] 2 (N .buses) .0 (t₁ .0)) in
-        let r = branches-iff (N .buses) (N .branches) .0 (run-iff (λ before. branchFaults (N .buses)) [] (2 + h .buses) (N .branches) .0 (t₂ .0)) in
-        let s = switches-iff h (N .switches) .0 (run-iff (switchFaults h) [] (2 + h .buses + h .branches) (N .switches) .0 (t₂ .1)) in
-        record {
-          iterations = i .iterations;
-          counts = i .counts;
-          base = i .base;
-          loads = b .0;
-          bus-ids = b .1;
-          resistances = each-map _ _ (N .branches) (λ a p. p .resistance) r;
-          ends = each-map _ _ (N .branches) (λ a p. (p .from-listed, p .to-listed)) r;
-          positions = s .positions;
-          switch-ids = s .ids;
-          at-most-two = s .at-most-two;
-          few-ties = s .few-ties;
-        }
+        let r = branches-iff stored (N .buses) (N .branches) .0 (run-iff (λ before. branchFaults stored (N .buses)) [] (2 + h .buses) (N .branches) .0 (t₂ .0)) in
+        let s = switches-iff h (N .switches) .0 (run-iff (switchFaults h) [] (2 + h .buses + h .branches) (N .switches) .0 (t₂ .1)) in (
+          record {
+            iterations = i .iterations;
+            counts = i .counts;
+            base = i .base;
+            loads = b .0;
+            bus-ids = b .1;
+            resistances = each-map _ _ (N .branches) (λ a p. p .resistance) r;
+            ends = each-map _ _ (N .branches) (λ a p. (p .from-listed, p .to-listed)) r;
+            positions = s .positions;
+            switch-ids = s .ids;
+            at-most-two = s .at-most-two;
+            few-ties = s .few-ties;
+          },
+          λ new. each-map _ _ (N .branches) (λ a p. p .proper new) r,
+        )
 
-    right : Inside N → checkRecords N ≡ accepted tt
-    right i =
+    right : Inside N × (stored ≡ false → Proper N) → checkLines stored N ≡ accepted tt
+    right (i, proper) =
         let v₀ = judge-iff (headFaults h) 1 .1 (head-iff h .1 (record { iterations = i .iterations; counts = i .counts; base = i .base })) in
         let v₁ = run-iff busFaults [] 2 (N .buses) .1 (buses-iff (N .buses) .1 (i .loads, i .bus-ids)) in
-        let ends : Each (BranchInside (map busId (N .buses))) (N .branches) = each-zip (N .branches) (i .resistances) (i .ends) in
-        let v₂ = run-iff (λ before. branchFaults (N .buses)) [] (2 + h .buses) (N .branches) .1 (branches-iff (N .buses) (N .branches) .1 ends) in
+        let ends : Each (BranchInside stored (map busId (N .buses))) (N .branches) = each-zip (N .branches) (i .resistances) (i .ends) proper in
+        let v₂ = run-iff (λ before. branchFaults stored (N .buses)) [] (2 + h .buses) (N .branches) .1 (branches-iff stored (N .buses) (N .branches) .1 ends) in
         let v₃ = run-iff (switchFaults h) [] (2 + h .buses + h .branches) (N .switches) .1 (switches-iff h (N .switches) .1 (record { positions = i .positions; ids = i .switch-ids; at-most-two = i .at-most-two; few-ties = i .few-ties })) in
-        then-iff (judge (headFaults h) 1) _ .1 (v₀, then-iff (checkRun busFaults [] 2 (N .buses)) _ .1 (v₁, then-iff (checkRun (λ before. branchFaults (N .buses)) [] (2 + h .buses) (N .branches)) _ .1 (v₂, v₃)))
+        then-iff (judge (headFaults h) 1) _ .1 (v₀, then-iff (checkRun busFaults [] 2 (N .buses)) _ .1 (v₁, then-iff (checkRun (λ before. branchFaults stored (N .buses)) [] (2 + h .buses) (N .branches)) _ .1 (v₂, v₃)))
       where
-        each-zip : (l : List Branch) → Each (λ b. okR (b .r) ≡ true) l → Each (λ b. HasBus N (b .«from_bus») × HasBus N (b .«to_bus»)) l → Each (BranchInside (map busId (N .buses))) l
-        each-zip [] q r = tt
-        each-zip (b ∷ rest) q r = (record { resistance = q .0; from-listed = r .0 .0; to-listed = r .0 .1 }, each-zip rest (q .1) (r .1))
+        each-zip :
+            (l : List Branch)
+            → Each (λ b. okR (b .r) ≡ true) l
+            → Each (λ b. HasBus N (b .«from_bus») × HasBus N (b .«to_bus»)) l
+            → (stored ≡ false → Each (λ b. b .«from_bus» ≢ b .«to_bus») l)
+            → Each (BranchInside stored (map busId (N .buses))) l
+        each-zip [] q r o = tt
+        each-zip (b ∷ rest) q r o = (
+          record { resistance = q .0; from-listed = r .0 .0; to-listed = r .0 .1; proper = λ new. o new .0 },
+          each-zip rest (q .1) (r .1) (λ new. o new .1),
+        )
+
+-- document 01's rows alone
+pub check-inside : (N : Network) → (checkRecords N ≡ accepted tt) ↔ Inside N
+unfolding checkRecords
+check-inside N = (λ e. lines-inside true N .0 e .0, λ i. lines-inside true N .1 (i, λ new. absurd (true≢false new)))
+
+-- lines that pass are records that do
+pub lines-records : (stored : Bool) (N : Network) → checkLines stored N ≡ accepted tt → checkRecords N ≡ accepted tt
+lines-records stored N e = check-inside N .1 (lines-inside stored N .0 e .0)
 
 -- "A switch that was accepted before is accepted": no switch is a third where no branch has two
 pub once-few : (N : Network) → Distinct (map on (N .switches)) → (k : ℕ) → times k (map on (N .switches)) ≤ 2

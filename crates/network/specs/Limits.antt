@@ -1,10 +1,12 @@
--- The words of document 01's limits: the method byte, what a head says, the ranges of floats, ids, and ties. No refusal number occurs here.
+-- The words of document 01's limits: the method byte, what a head says, the ranges of floats, ids, own loops (document 02), and ties. No refusal number occurs here.
 use mathlib.Core.Bool.{Bool, cond, _&&_}
 use mathlib.Core.List.{List, [], _∷_}
 use Prim.Native.Nat.{ℕ, suc}
+use lib.Dec.{eqb}
 use lib.Ieee.{Float, le}
 use Rattle.numbers.specs.Constants.{zero64, thousandth, thousand, million, minusMillion}
 use Rattle.network.specs.declared.bus.Bus.{Bus}
+use Rattle.network.specs.declared.branch.Branch.{Branch}
 use Rattle.network.specs.declared.switch.Switch.{Switch}
 use Rattle.network.specs.declared.switch.ReconfigAlgorithm.{ReconfigAlgorithm}
 use Rattle.network.specs.declared.switch.ReconfigAlgorithm.the-variants.{BranchExchange, TabuSearch, Exhaustive}
@@ -41,12 +43,16 @@ okLoad x = inRange minusMillion million x
 unfoldable pub okR : Float → Bool
 okR x = inRange zero64 thousand x
 
--- ---- ids, the branch that a switch is on, ties
+-- ---- ids, own loops, the branch that a switch is on, ties
 abbrev pub busId : Bus → ℕ
 busId b = b .id
 
 abbrev pub switchId : Switch → ℕ
 switchId s = s .id
+
+-- document 02, Point 7: a branch "from a bus to itself"
+abbrev pub isOwnLoop : Branch → Bool
+isOwnLoop b = eqb (b .«from_bus») (b .«to_bus»)
 
 abbrev pub on : Switch → ℕ
 on s = s .«branch_idx»

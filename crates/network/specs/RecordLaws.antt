@@ -8,7 +8,7 @@ use Rattle.numbers.specs.TableLaws.{as-table}
 use Rattle.numbers.specs.Arrays.{padded, getD-padded}
 use Rattle.network.specs.Records.{Network, noBus, noBranch, noSwitch, listed, recordsOf, networkOf, supplyOf, hasSupply, supplyId}
 
-read-back : {A : Type 0} (size : ℕ) (empty : A) (l : List A) → listed empty (padded size empty l) (length l) ≡ l
+pub read-back : {A : Type 0} (size : ℕ) (empty : A) (l : List A) → listed empty (padded size empty l) (length l) ≡ l
 read-back size empty l = sym (as-table _ (length l) empty l refl (λ i h. sym (getD-padded size empty l i)))
 
 supply-back : (z : Option ℕ) → supplyOf (hasSupply z) (supplyId z) ≡ z

@@ -1,9 +1,9 @@
 -- Counts under two tests, one of which passes where the other does, or all but at one number.
 use mathlib.Core.Path.{_≡_, refl}
 use mathlib.Core.Logic.{_≢_}
-use mathlib.Core.Bool.{Bool, true, false}
-use Prim.Native.Nat.{ℕ, zero, suc, _≤_, _<_}
-use native.Mathlib.Decide.{ℕ-discrete}
+use mathlib.Core.Bool.{Bool, true, false, cond}
+use Prim.Native.Nat.{ℕ, zero, suc, _+_, _≤_, _<_}
+use native.Mathlib.Decide.{ℕ-discrete, decLt}
 use native.Mathlib.Omega.{arith}
 use Rattle.numbers.specs.Counts.{count, count-yes, count-no}
 use Rattle.numbers.specs.Tests.{clash}
@@ -41,3 +41,27 @@ counted-before p (suc n) i l t = go (ℕ-discrete i n) (p n) refl (λ k. counted
     go (yes e) b q ih = rw (← e, count-yes p i t) (omega arith)
     go (no d) true q ih = omega (arith, count-yes p n q, ih (omega arith))
     go (no d) false q ih = omega (arith, count-no p n q, ih (omega arith))
+
+-- two that pass, with as many before the one as before the other, are the same
+pub count-apart : (p : ℕ → Bool) (i j : ℕ) → p i ≡ true → p j ≡ true → count p i ≡ count p j → i ≡ j
+count-apart p i j t u e = go (decLt i j) (decLt j i)
+  where
+    go : Dec (i < j) → Dec (j < i) → i ≡ j
+    go (yes h) d = absurd (omega (arith, counted-before p j i h t))
+    go (no h) (yes d) = absurd (omega (arith, counted-before p i j d u))
+    go (no h) (no d) = omega arith
+
+-- counted from the front
+pub count-front : (p : ℕ → Bool) (n : ℕ) → count p (suc n) ≡ cond (p zero) 1 0 + count (λ k. p (suc k)) n
+unfolding count
+count-front p zero = go (p zero)
+  where
+    go : (b : Bool) → cond b 1 0 ≡ cond b 1 0 + 0
+    go true = refl
+    go false = refl
+count-front p (suc n) = go (p (suc n)) (count-front p n)
+  where
+    go : (b : Bool) → count p (suc n) ≡ cond (p zero) 1 0 + count (λ k. p (suc k)) n
+        → cond b (suc (count p (suc n))) (count p (suc n)) ≡ cond (p zero) 1 0 + cond b (suc (count (λ k. p (suc k)) n)) (count (λ k. p (suc k)) n)
+    go true e = rw e (omega arith)
+    go false e = e

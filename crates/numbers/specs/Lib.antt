@@ -10,6 +10,7 @@ pub mod Tests
 pub mod Every
 pub mod CountLaws
 pub mod Times
+pub mod Keep
 pub mod ChooseLaws
 pub mod IfSome
 pub mod FirstLaws
@@ -19,5 +20,6 @@ pub mod Signs
 pub mod Sums
 pub mod RangeLaws
 pub mod Distinct
+pub mod KeepLaws
 pub mod Matching
 pub mod Members

@@ -25,6 +25,10 @@ idLength = 4
 abbrev pub longestPair : ℕ
 longestPair = pairHeadLength + idLength * 4
 
+-- a line 87: a line that a repair dropped
+abbrev pub droppedLength : ℕ
+droppedLength = 9
+
 -- a line 8F: a refusal
 abbrev pub refusalLength : ℕ
 refusalLength = 9

@@ -1,5 +1,5 @@
 -- Lines: how many bytes a frame's line has, that those which are printed have the lengths of `Lengths`, and lines of one length, one for each entry of a list.
-use mathlib.Core.Path.{_≡_, sym}
+use mathlib.Core.Path.{_≡_, refl, sym, ap, _∙_}
 use mathlib.Core.Bool.{Bool}
 use mathlib.Core.List.{List, [], _∷_, _++_, flatMap, append-assoc, append-nil}
 use Prim.Native.Nat.{ℕ, _+_, _*_}
@@ -11,8 +11,8 @@ use Rattle.lines.specs.Hex.{digits, Fields, total}
 use Rattle.lines.specs.Frames.{Frame, layout, frameText}
 use Rattle.lines.specs.HexLaws.{length-digits, length-fields}
 use Rattle.printing.specs.declared.writer.SwitchOperation.{SwitchOperation}
-use Rattle.printing.specs.Printed.{answer, answerText, formFrame, formFields, formText, operation, operationText, idsText, pairText, refusal, refusalText}
-use Rattle.printing.specs.Lengths.{answerLength, formLength, operationLength, pairHeadLength, idLength, refusalLength}
+use Rattle.printing.specs.Printed.{answer, answerText, formFrame, formFields, formText, operation, operationText, idsText, pairText, dropped, droppedText, refusal, refusalText}
+use Rattle.printing.specs.Lengths.{answerLength, formLength, operationLength, pairHeadLength, idLength, droppedLength, refusalLength}
 
 -- its line feed included
 pub length-frame : (F : Frame) (f : Fields (F .widths)) → length (frameText F f) ≡ total (layout F) + 1
@@ -31,15 +31,23 @@ pub length-operation : (o : SwitchOperation) → length (operationText o) ≡ op
 unfolding operationText
 length-operation o = length-frame operation _
 
+pub length-dropped : (line reason : ℕ) → length (droppedText line reason) ≡ droppedLength
+unfolding droppedText
+length-dropped line reason = length-frame dropped _
+
 pub length-refusal : (number place : ℕ) → length (refusalText number place) ≡ refusalLength
 unfolding refusalText
 length-refusal number place = length-frame refusal _
 
 module _ {A : Type 0} (line : A → List ℕ) where
+  pub lines-append : (l m : List A) → flatMap line (l ++ m) ≡ flatMap line l ++ flatMap line m
+  unfolding flatMap
+  lines-append [] m = refl
+  lines-append (x ∷ l) m = rw (lines-append l m) (sym (append-assoc (line x) (flatMap line l) (flatMap line m)))
+
   pub lines-more : (l : List A) (x : A) → flatMap line (l ++ (x ∷ [])) ≡ flatMap line l ++ line x
   unfolding flatMap
-  lines-more [] x = append-nil (line x)
-  lines-more (y ∷ l) x = rw (lines-more l x) (sym (append-assoc (line y) (flatMap line l) (line x)))
+  lines-more l x = lines-append l (x ∷ []) ∙ ap (λ (b : List ℕ). flatMap line l ++ b) (append-nil (line x))
 
   pub length-lines : (width : ℕ) → ((x : A) → length (line x) ≡ width) → (l : List A) → length (flatMap line l) ≡ width * length l
   unfolding flatMap

@@ -1,4 +1,4 @@
--- The frames that are printed (document 01, section Triangle; 84 and 86 by document 02, points 5 and 6).
+-- The frames that are printed (document 01, section Triangle; 84, 86 and 87 by document 02, points 5 to 7).
 use mathlib.Core.Bool.{Bool, cond}
 use mathlib.Core.List.{List, [], _∷_, _++_, flatMap}
 use Prim.Native.Nat.{ℕ}
@@ -6,6 +6,8 @@ use lib.ListN.{length}
 use Rattle.printing.specs.declared.writer.SwitchAction.{SwitchAction}
 use Rattle.printing.specs.declared.writer.SwitchOperation.{SwitchOperation}
 use Rattle.printing.specs.declared.writer.SwitchAction.the-variants.{Open, Close}
+use Rattle.printing.specs.declared.writer.DropReason.{DropReason}
+use Rattle.printing.specs.declared.writer.DropReason.the-variants.{Branch, Switch}
 use Rattle.graph.specs.declared.form.Form.{Form}
 use Rattle.graph.specs.Form.{islandsField, branchField}
 use Rattle.lines.specs.Hex.{digits, Fields}
@@ -61,6 +63,18 @@ idsText ids = digits 2 (length ids) ++ flatMap (digits 4) ids
 
 unfoldable pub pairText : List ℕ → List ℕ → List ℕ
 pairText closes opens = digits 2 0x86 ++ (idsText closes ++ (idsText opens ++ (10 ∷ [])))
+
+-- ---- 87
+-- "old line number u16, reason byte 01 branch or 02 switch"
+abbrev pub dropped : Frame
+dropped = record { kind = 0x87; widths = 4 ∷ 2 ∷ [] }
+
+abbrev pub reasonByte : DropReason → ℕ
+reasonByte Branch = 1
+reasonByte Switch = 2
+
+unfoldable pub droppedText : ℕ → ℕ → List ℕ
+droppedText line reason = frameText dropped (line, (reason, tt))
 
 -- ---- 8F
 -- "number byte, place (u16)"

@@ -7,6 +7,8 @@ pub const FORM_LENGTH: usize = 11;
 
 pub const OPERATION_LENGTH: usize = 9;
 
+pub const DROPPED_LENGTH: usize = 9;
+
 // A pair without its ids.
 pub const PAIR_HEAD_LENGTH: usize = 7;
 

@@ -7,7 +7,7 @@ ghost use Prim.Native.Nat.{_≤_};
 ghost use lib.ListN.{length};
 ghost use Rattle.lines.specs.Hex.{digits};
 ghost use Rattle.slices.specs.Written.{written, lastDigits};
-ghost use Rattle.printing.specs.Printed.{truthByte, actionByte, answerText, formText, operationText, idsText, pairText, refusalText};
+ghost use Rattle.printing.specs.Printed.{truthByte, actionByte, answerText, formText, operationText, idsText, pairText, refusalText, reasonByte, droppedText};
 ghost use Rattle.printing.specs.Stored.{idsIn, noIds};
 ghost use Rattle.printing.specs.Lengths.{longestPair};
 use crate::lengths::ANSWER_LENGTH;
@@ -31,6 +31,12 @@ pub enum SwitchAction {
 pub struct SwitchOperation {
     pub switch_id: u16,
     pub action: SwitchAction,
+}
+
+// Why a repair dropped a line: it was a branch from a bus to itself, or a switch on one.
+pub enum DropReason {
+    Branch,
+    Switch,
 }
 
 // The ids of switches of one branch that a pair moves, in list order: the first `count` of them, both where it is larger.
@@ -73,6 +79,15 @@ fn action_byte(action: SwitchAction) -> u8
     match action {
         SwitchAction::Open => 0,
         SwitchAction::Close => 1,
+    }
+}
+
+fn reason_byte(reason: DropReason) -> u8
+    ensures { λ r. ⌜ r ≡ reasonByte reason ⌝ }
+{
+    match reason {
+        DropReason::Branch => 1,
+        DropReason::Switch => 2,
     }
 }
 
@@ -190,4 +205,12 @@ pub fn write_refusal(out: &mut [u8], number: u8, place: u16)
 {
     let fields = 0x1_0000 * number as u64 + place as u64;
     write_line(out, 8, 0x8F00_0000 + fields);
+}
+
+// The frame 87: a line that a repair dropped, by its old number, and why.
+pub fn write_dropped(out: &mut [u8], line: u16, reason: DropReason)
+    ensures { λ _. ⌜ now (out .exit) ≡ written (droppedText line (reasonByte reason)) (now (out .entry)) ⌝ }
+{
+    let fields = 0x100 * line as u64 + reason_byte(reason) as u64;
+    write_line(out, 8, 0x8700_0000 + fields);
 }

@@ -42,10 +42,10 @@ fn print_cases(input: &[u8]) {
 }
 
 // Room for all cases.
-fn buffer() -> [u8; 589824]
-    ensures { λ r. ⌜ 589824 ≡ length r ⌝ }
+fn buffer() -> [u8; 622592]
+    ensures { λ r. ⌜ 622592 ≡ length r ⌝ }
 {
-    [0; 589824]
+    [0; 622592]
 }
 
 fn main() {

@@ -47,7 +47,7 @@ unfoldable pub textOfBytes : List ℕ → List ℕ
 textOfBytes bytes = linesOfBytes (length bytes) bytes
 
 -- the refusal of that text, then 13, else how many bytes it has, and the text at the slice's front. Where the text is accepted with N that is what `write_text`
--- answers for N (`RecordBytesLaws.records-accepted`); of bytes the refusal is 2 to 9, 14, 15 or 13 (`RecordRefusals.records-refusals`)
+-- answers for N (`RecordBytesLaws.records-accepted`); of bytes the refusal is 2 to 9, 14, 15, 17 or 13 (`RecordRefusals.records-refusals`)
 unfoldable pub writtenRecords : List ℕ → List ℕ → Call ℕ
 writtenRecords bytes out = called (judgementOf (readText (textOfBytes bytes))) (length (textOfBytes bytes)) (textOfBytes bytes) out
 

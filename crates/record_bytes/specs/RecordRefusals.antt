@@ -13,6 +13,7 @@ use Rattle.numbers.specs.Tests.{clash}
 use Rattle.network.specs.Answers.{Answer, accepted, refused, _andThen_, Fault, _if_, judge, Judgement}
 use Rattle.network.specs.AnswerLaws.{no-refusal}
 use Rattle.network.specs.Inside.{Each}
+use Rattle.network.specs.EachLaws.{each-take, each-drop}
 use Rattle.network.specs.Limits.{Head}
 use Rattle.network.specs.Records.{Network}
 use Rattle.network.specs.declared.bus.Bus.{Bus}
@@ -24,11 +25,11 @@ use Rattle.lines.specs.Hex.{isDigit, digits, Fields, writeFields}
 use Rattle.lines.specs.HexLaws.{length-digits, every-fields}
 use Rattle.lines.specs.Lines.{Line, cut, isMiswritten}
 use Rattle.lines.specs.CutLaws.{cut-ended, digit-lines}
-use Rattle.lines.specs.Frames.{Frame}
-use Rattle.record_lines.specs.Kinds.{head, bus, branch, switch, supply, fieldsOf, headFrom, busFrom, branchFrom, switchFrom, supplyFrom, headLineFaults, busLineFaults, branchLineFaults, switchLineFaults}
-use Rattle.frames.specs.Conditions.{LineConditions, kindConditions, surplusConditions, busesOf, branchesOf, switchesOf, bodyConditions, conditions, judgeLines, judgementOf}
+use Rattle.record_lines.specs.Kinds.{head, bus, branch, switch, supply, fieldsOf, headLineFaults, busLineFaults, branchLineFaults, switchLineFaults}
+use Rattle.frames.specs.Conditions.{LineConditions, conditions, judgeLines, judgementOf}
+use Rattle.frames.specs.ConditionLaws.{OfKinds, all-each}
 use Rattle.frames.specs.Proof.{claim}
-use Rattle.frames.specs.Text.{atMostOne, supplyLineFaults, readText}
+use Rattle.frames.specs.Text.{supplyLineFaults, readText}
 use Rattle.frames.specs.Lengths.{longestText}
 use Rattle.printing.specs.CallLaws.{call-refusals}
 use Rattle.printing.specs.LineTexts.{length-lines}
@@ -39,17 +40,6 @@ use Rattle.record_bytes.specs.RecordBytesLaws.{Byte}
 -- ---- the lines of the text
 abbrev Well : Line → Type 0
 Well l = isMiswritten l ≡ false
-
-module _ {A : Type 0} (P : A → Type 0) where
-  each-take : (n : ℕ) (l : List A) → Each P l → Each P (take n l)
-  each-take zero l h = tt
-  each-take (suc n) [] h = tt
-  each-take (suc n) (a ∷ l) h = (h .0, each-take n l (h .1))
-
-  each-drop : (n : ℕ) (l : List A) → Each P l → Each P (drop n l)
-  each-drop zero l h = h
-  each-drop (suc n) [] h = tt
-  each-drop (suc n) (a ∷ l) h = each-drop n l (h .1)
 
 bytes-digits : (frame : List ℕ) → Each Byte frame → every isDigit (flatMap (digits 2) frame) ≡ true
 unfolding every flatMap
@@ -83,9 +73,9 @@ lines-well (suc more) (kind ∷ bytes) h =
     (line-well frame small, lines-well more (drop n (kind ∷ bytes)) (each-drop Byte n (kind ∷ bytes) h))
 
 -- ---- the refusals of such lines
--- rows 2 to 9 of document 01's table, and document 02's two
+-- rows 2 to 9 of document 01's table, and document 02's 14, 15 and 17
 abbrev Row : ℕ → Type 0
-Row n = ((2 ≤ n) × (n ≤ 9)) ⊎ ((14 ≤ n) × (n ≤ 15))
+Row n = ((2 ≤ n) × (n ≤ 9)) ⊎ (((14 ≤ n) × (n ≤ 15)) ⊎ (n ≡ 17))
 
 abbrev ByRow : Judgement → Type 0
 ByRow (accepted u) = Unit {0}
@@ -107,7 +97,11 @@ unfolding _andThen_
 then-rows (accepted u) w h k = k
 then-rows (refused n p) w h k = h
 
-lines-rows : (p : ℕ) (cs : List LineConditions) → Each (λ c. Rows (c .others)) cs → ByRow (judgeLines p cs)
+-- behind the condition on lines over 36 characters
+abbrev RowsOf : LineConditions → Type 0
+RowsOf c = Rows (c .others)
+
+lines-rows : (p : ℕ) (cs : List LineConditions) → Each RowsOf cs → ByRow (judgeLines p cs)
 unfolding judgeLines
 lines-rows p [] h = tt
 lines-rows p (c ∷ cs) h = then-rows _ _ (judge-rows ((2 if c .over) ∷ c .others) p (λ e. inl (lit≤ tt, lit≤ tt), h .0)) (lines-rows (suc p) cs (h .1))
@@ -115,18 +109,6 @@ lines-rows p (c ∷ cs) h = then-rows _ _ (judge-rows ((2 if c .over) ∷ c .oth
 -- a line that is not miswritten, with the conditions of its fields
 others-rows : (l : Line) (wrong : Bool) (fields : List Fault) → Well l → Rows fields → Rows ((1 if isMiswritten l) ∷ (2 if wrong) ∷ fields)
 others-rows l wrong fields w h = (λ e. clash e w, (λ e. inl (lit≤ tt, lit≤ tt), h))
-
-module _ {A : Type 0} (F : Frame) (make : Fields (F .widths) → A) (faults : List A → Fields (F .widths) → List Fault)
-    (rows : (before : List A) (f : Fields (F .widths)) → Rows (faults before f)) where
-  kind-rows : (before : List A) (n : ℕ) (ls : List Line) (rest : List LineConditions) → Each Well ls → Each (λ c. Rows (c .others)) rest
-      → Each (λ c. Rows (c .others)) (kindConditions F make faults before n ls ++ rest)
-  unfolding kindConditions
-  kind-rows before zero ls rest w h = h
-  kind-rows before (suc n) [] rest w h = ((λ e. inl (lit≤ tt, lit≤ tt), tt), kind-rows before n [] rest tt h)
-  kind-rows before (suc n) (l ∷ ls) rest w h = (
-    others-rows l _ (faults before (fieldsOf F l)) (w .0) (rows before (fieldsOf F l)),
-    kind-rows (before ++ (make (fieldsOf F l) ∷ [])) n ls rest (w .1) h,
-  )
 
 head-rows : (f : Fields (head .widths)) → Rows (headLineFaults f)
 unfolding headFaults
@@ -136,62 +118,46 @@ bus-rows : (before : List Bus) (f : Fields (bus .widths)) → Rows (busLineFault
 unfolding busFaults
 bus-rows before f = (λ e. inl (lit≤ tt, lit≤ tt), (λ e. inl (lit≤ tt, lit≤ tt), tt))
 
-branch-rows : (buses : List Bus) (f : Fields (branch .widths)) → Rows (branchLineFaults buses f)
+branch-rows : (buses : List Bus) (f : Fields (branch .widths)) → Rows (branchLineFaults false buses f)
 unfolding branchFaults
-branch-rows buses f = (λ e. inl (lit≤ tt, lit≤ tt), (λ e. inl (lit≤ tt, lit≤ tt), (λ e. inl (lit≤ tt, lit≤ tt), tt)))
+branch-rows buses f = (λ e. inl (lit≤ tt, lit≤ tt), (λ e. inl (lit≤ tt, lit≤ tt), (λ e. inl (lit≤ tt, lit≤ tt), (λ e. inr (inr refl), tt))))
 
 switch-rows : (h : Head) (before : List Switch) (f : Fields (switch .widths)) → Rows (switchLineFaults h before f)
 unfolding switchFaults
 switch-rows h before f = (λ e. inl (lit≤ tt, lit≤ tt), (λ e. inl (lit≤ tt, lit≤ tt), (λ e. inl (lit≤ tt, lit≤ tt), (λ e. inl (lit≤ tt, lit≤ tt), (λ e. inl (lit≤ tt, lit≤ tt), tt)))))
 
-supply-rows : (buses : List Bus) (branches : List Branch) (switches : List Switch) (f : Fields (supply .widths)) → Rows (supplyLineFaults buses branches switches f)
+supply-rows : (buses : List Bus) (branches : List Branch) (switches : List Switch) (f : Fields (supply .widths)) → Rows (supplyLineFaults false buses branches switches f)
 unfolding supplyFaults
-supply-rows buses branches switches f = (λ e. inr (lit≤ tt, lit≤ tt), (λ e. inr (lit≤ tt, lit≤ tt), tt))
+supply-rows buses branches switches f = (λ e. inr (inl (lit≤ tt, lit≤ tt)), (λ e. inr (inl (lit≤ tt, lit≤ tt)), tt))
 
-surplus-rows : (ls : List Line) → Each Well ls → Each (λ c. Rows (c .others)) (surplusConditions ls)
-unfolding surplusConditions
-surplus-rows [] w = tt
-surplus-rows (l ∷ ls) w = (others-rows l _ [] (w .0) tt, tt)
-
-body-rows : (h : Head) (ls : List Line) → Each Well ls → Each (λ c. Rows (c .others)) (bodyConditions h ls)
-unfolding bodyConditions
-body-rows h ls w =
-    let after-buses = drop (h .buses) ls in
-    let after-branches = drop (h .branches) after-buses in
-    let after-switches = drop (h .switches) after-branches in
-    let buses = busesOf (h .buses) ls in
-    let branches = branchesOf (h .branches) after-buses in
-    let switches = switchesOf (h .switches) after-branches in
-    let b = each-drop Well (h .buses) ls w in
-    let s = each-drop Well (h .branches) after-buses b in
-    let z = each-drop Well (h .switches) after-branches s in
-    kind-rows bus busFrom busLineFaults bus-rows [] (h .buses) ls _ w
-    (kind-rows branch branchFrom (λ before. branchLineFaults buses) (λ before. branch-rows buses) [] (h .branches) after-buses _ b
-    (kind-rows switch switchFrom (switchLineFaults h) (switch-rows h) [] (h .switches) after-branches _ s
-    (kind-rows supply supplyFrom (λ before. supplyLineFaults buses branches switches) (λ before. supply-rows buses branches switches) [] (atMostOne after-switches) after-switches _ z
-    (surplus-rows (drop (atMostOne after-switches) after-switches) (each-drop Well (atMostOne after-switches) after-switches z)))))
-
-all-rows : (ls : List Line) → Each Well ls → Each (λ c. Rows (c .others)) (conditions ls)
-unfolding conditions
-all-rows [] w = ((λ e. inl (lit≤ tt, lit≤ tt), tt), tt)
-all-rows (l ∷ ls) w = (others-rows l _ (headLineFaults (fieldsOf head l)) (w .0) (head-rows (fieldsOf head l)), body-rows (headFrom (fieldsOf head l)) ls (w .1))
+-- each kind's conditions, of lines that are not miswritten
+rows-kinds : OfKinds false Well RowsOf
+rows-kinds = record {
+  of-missing = (λ e. inl (lit≤ tt, lit≤ tt), tt);
+  of-surplus = λ l w. others-rows l _ [] w tt;
+  of-head = λ l w. others-rows l _ (headLineFaults (fieldsOf head l)) w (head-rows (fieldsOf head l));
+  of-bus = λ before l w. others-rows l _ (busLineFaults before (fieldsOf bus l)) w (bus-rows before (fieldsOf bus l));
+  of-branch = λ buses l w. others-rows l _ (branchLineFaults false buses (fieldsOf branch l)) w (branch-rows buses (fieldsOf branch l));
+  of-switch = λ h before l w. others-rows l _ (switchLineFaults h before (fieldsOf switch l)) w (switch-rows h before (fieldsOf switch l));
+  of-supply = λ buses branches switches l w. others-rows l _ (supplyLineFaults false buses branches switches (fieldsOf supply l)) w (supply-rows buses branches switches (fieldsOf supply l));
+}
 
 -- ---- the answer
 text-rows : (bytes : List ℕ) → Each Byte bytes → ByRow (judgementOf (readText (textOfBytes bytes)))
 unfolding textOfBytes
 text-rows bytes h =
     subst ByRow (sym (claim .first (textOfBytes bytes)))
-    (lines-rows 1 (conditions (cut (textOfBytes bytes))) (all-rows (cut (textOfBytes bytes)) (lines-well (length bytes) bytes h)))
+    (lines-rows 1 (conditions false (cut (textOfBytes bytes))) (all-each false Well RowsOf rows-kinds (cut (textOfBytes bytes)) (lines-well (length bytes) bytes h)))
 
 -- a row of the table, or 13 where the slice is shorter than the text
 pub records-refusals : (bytes out : List ℕ) → Each Byte bytes → (number place : ℕ) → writtenRecords bytes out .answer ≡ refused number place
-    → (((2 ≤ number) × (number ≤ 9)) ⊎ ((14 ≤ number) × (number ≤ 15))) ⊎ ((number ≡ 13) × (place ≡ 0) × (length out < length (textOfBytes bytes)))
+    → (((2 ≤ number) × (number ≤ 9)) ⊎ (((14 ≤ number) × (number ≤ 15)) ⊎ (number ≡ 17))) ⊎ ((number ≡ 13) × (place ≡ 0) × (length out < length (textOfBytes bytes)))
 unfolding writtenRecords
 records-refusals bytes out h number place e = go (call-refusals (judgementOf (readText (textOfBytes bytes))) (length (textOfBytes bytes)) (textOfBytes bytes) out e)
   where
     go : (judgementOf (readText (textOfBytes bytes)) ≡ refused number place)
         ⊎ ((judgementOf (readText (textOfBytes bytes)) ≡ accepted tt) × (number ≡ 13) × (place ≡ 0) × (length out < length (textOfBytes bytes)))
-        → (((2 ≤ number) × (number ≤ 9)) ⊎ ((14 ≤ number) × (number ≤ 15))) ⊎ ((number ≡ 13) × (place ≡ 0) × (length out < length (textOfBytes bytes)))
+        → (((2 ≤ number) × (number ≤ 9)) ⊎ (((14 ≤ number) × (number ≤ 15)) ⊎ (number ≡ 17))) ⊎ ((number ≡ 13) × (place ≡ 0) × (length out < length (textOfBytes bytes)))
     go (inl tests) = inl (subst ByRow tests (text-rows bytes h))
     go (inr (passed, n, p, short)) = inr (n, p, short)
 

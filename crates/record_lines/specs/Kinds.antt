@@ -1,4 +1,4 @@
--- Document 01's four kinds of frame and document 02's fifth: the record that each makes, refusals 3 to 9 of the four, and one line of a kind.
+-- Document 01's four kinds of frame and document 02's fifth: the record that each makes, refusals 3 to 9 and 17 of the four, and one line of a kind.
 use mathlib.Core.Bool.{Bool}
 use mathlib.Core.List.{List, [], _∷_, _++_}
 use Prim.Native.Nat.{ℕ, zero, suc, _%_, _/_}
@@ -98,15 +98,15 @@ switchBytes f = (3 if ltb 3 (f .1 .1 .0)) ∷ []
 abbrev pub supplyBytes : Fields (supply .widths) → List Fault
 supplyBytes f = []
 
--- ---- refusals 3 to 9 of a line: first a byte without a meaning, then the record's own conditions
+-- ---- refusals 3 to 9, and 17, of a line: first a byte without a meaning, then the record's own conditions
 abbrev pub headLineFaults : Fields (head .widths) → List Fault
 headLineFaults f = headBytes f ++ headFaults (headFrom f)
 
 abbrev pub busLineFaults : List N-bus.Bus → Fields (bus .widths) → List Fault
 busLineFaults before f = busBytes f ++ busFaults before (busFrom f)
 
-abbrev pub branchLineFaults : List N-bus.Bus → Fields (branch .widths) → List Fault
-branchLineFaults buses f = branchBytes f ++ branchFaults buses (branchFrom f)
+abbrev pub branchLineFaults : Bool → List N-bus.Bus → Fields (branch .widths) → List Fault
+branchLineFaults stored buses f = branchBytes f ++ branchFaults stored buses (branchFrom f)
 
 abbrev pub switchLineFaults : Head → List N-switch.Switch → Fields (switch .widths) → List Fault
 switchLineFaults h before f = switchBytes f ++ switchFaults h before (switchFrom f)

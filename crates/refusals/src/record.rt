@@ -1,4 +1,4 @@
-// A line's refusals 3 to 9, from its record and what the records before it say of it.
+// A line's refusals 3 to 9, and 17, from its record and what the records before it say of it.
 ghost use mathlib.Core.Path.{_≡_};
 ghost use mathlib.Core.Bool.{_&&_};
 ghost use lib.Dec.{eqb, leb};
@@ -64,9 +64,16 @@ pub fn judge_bus(bus: Bus, twice: bool, place: u16) -> Verdict
     Verdict::Accepted
 }
 
-// A branch line's refusals; the flags say whether a bus with the id of each end is listed.
-pub fn judge_branch(branch: Branch, from_listed: bool, to_listed: bool, place: u16) -> Verdict
-    ensures { λ r. ⌜ answerOf r ≡ judge (branchRow branch «from_listed» «to_listed») place ⌝ }
+// A branch line's refusals; the flags say whether a bus with the id of each end is listed, and whether the text is a stored one: there
+// a branch from a bus to itself passes.
+pub fn judge_branch(
+    branch: Branch,
+    from_listed: bool,
+    to_listed: bool,
+    stored: bool,
+    place: u16,
+) -> Verdict
+    ensures { λ r. ⌜ answerOf r ≡ judge (branchRow stored branch «from_listed» «to_listed») place ⌝ }
 {
     // r from 0 to 1,000
     if !in_range(branch.r, 0.0, 1000.0) {
@@ -77,6 +84,9 @@ pub fn judge_branch(branch: Branch, from_listed: bool, to_listed: bool, place: u
     }
     if !to_listed {
         return Verdict::Refused { number: 6, place };
+    }
+    if !stored && branch.from_bus == branch.to_bus {
+        return Verdict::Refused { number: 17, place };
     }
     Verdict::Accepted
 }

@@ -269,12 +269,13 @@ fn print_states(network: PowerNetwork, line: &[u8], wanted: &[u8], calls: &[u8])
     print_calls(network, &from[0..n], &to[0..m], calls);
 }
 
-// A text that the reader refuses is said to be no feeder: such a case is wrongly made.
+// The text is read as a stored one, so that it is the call that refuses a branch from a bus to itself. A text that is refused here is said to be no feeder: such a case is
+// wrongly made.
 fn feeder(text: &[u8], before: PowerNetwork) -> PowerNetwork {
     if text.len() == 0 {
         return before;
     }
-    let reading = frames::reader::read_text(text);
+    let reading = frames::reader::read_stored(text);
     let verdict = reading.verdict;
     let Verdict::Accepted = verdict else {
         io::write_all(STDOUT_FILENO, b"no feeder\n");

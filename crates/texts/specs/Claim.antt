@@ -1,5 +1,5 @@
 -- What is claimed of the text that is made of records. Its words are defined in `Texts` (the call), in crate frames in Acceptable (`textOf`, room in the digits) and Text (the reader), in crate
--- network in Records (what is listed) and Inside, in crate feeders in Supply (the check) and Supplied, and in printing/specs/Calls (13, the bytes that are kept). `Proof.claim` proves it.
+-- network in Records (what is listed) and Inside (the limits, and no branch from a bus to itself), in crate feeders in Supply (the check) and Supplied, and in printing/specs/Calls (13, the bytes that are kept). `Proof.claim` proves it.
 use mathlib.Core.Path.{_≡_}
 use mathlib.Core.List.{List, _++_}
 use Prim.Native.Nat.{ℕ, _≤_, _<_, _^_}
@@ -11,7 +11,7 @@ use Rattle.network.proofs.topology.PowerNetwork.{the-row}
 use Rattle.network.specs.declared.topology.PowerNetwork.{PowerNetwork}
 use Rattle.network.specs.Answers.{accepted, refused}
 use Rattle.network.specs.Records.{Network, recordsOf}
-use Rattle.network.specs.Inside.{Inside}
+use Rattle.network.specs.Inside.{Inside, Proper}
 use Rattle.feeders.specs.Supply.{checkNetwork}
 use Rattle.feeders.specs.Supplied.{Supplied}
 use Rattle.frames.specs.Text.{readText}
@@ -24,7 +24,7 @@ pub record Claim : Type 0 where
   -- and switches, and the same supply. What stands behind its counts is no record
   pub read-back : (n : PowerNetwork) (vs : List Val) → Is the-row n vs → checkNetwork (recordsOf n) ≡ accepted tt → readText (textOf (recordsOf n)) ≡ accepted (recordsOf n)
   -- and of all records inside the limits of both documents whose fields have room in their digits
-  pub records-back : (N : Network) → Inside N → Supplied N → Writable N → readText (textOf N) ≡ accepted N
+  pub records-back : (N : Network) → Inside N → Proper N → Supplied N → Writable N → readText (textOf N) ≡ accepted N
   -- and of what `write_text` left in the lent slice: its first `count` bytes, where it answered `count`
   pub slice-back : (n : PowerNetwork) (vs : List Val) → Is the-row n vs → (out after : List ℕ) (count : ℕ)
       → record { answer = accepted count; out = after } ≡ writtenText (recordsOf n) out → readText (take count after) ≡ accepted (recordsOf n)
@@ -45,9 +45,9 @@ pub record Claim : Type 0 where
   pub written-back : (t : List ℕ) (N : Network) (out : List ℕ) → readText t ≡ accepted N → length t ≤ length out
       → writtenText N out ≡ record { answer = accepted (length t); out = t ++ drop (length t) out }
   -- inside the limits of both documents the text is written in full where it has room
-  pub written-in-full : (N : Network) (out : List ℕ) → Inside N → Supplied N → length (textOf N) ≤ length out
+  pub written-in-full : (N : Network) (out : List ℕ) → Inside N → Proper N → Supplied N → length (textOf N) ≤ length out
       → writtenText N out ≡ record { answer = accepted (length (textOf N)); out = textOf N ++ drop (length (textOf N)) out }
   -- "A short lent slice gets refusal 13": it keeps every byte, and nothing else is refused
-  pub too-short : (N : Network) (out : List ℕ) → Inside N → Supplied N → length out < length (textOf N) → writtenText N out ≡ record { answer = refused 13 0; out = out }
-  pub only-13 : (N : Network) (out : List ℕ) → Inside N → Supplied N → (number place : ℕ) → writtenText N out .answer ≡ refused number place
+  pub too-short : (N : Network) (out : List ℕ) → Inside N → Proper N → Supplied N → length out < length (textOf N) → writtenText N out ≡ record { answer = refused 13 0; out = out }
+  pub only-13 : (N : Network) (out : List ℕ) → Inside N → Proper N → Supplied N → (number place : ℕ) → writtenText N out .answer ≡ refused number place
       → (number ≡ 13) × (place ≡ 0) × (length out < length (textOf N))

@@ -82,7 +82,7 @@ two-zeros e =
 pub claim : Claim
 claim = record {
   read-back = λ n vs h ok. accepted-back (recordsOf n) ok (typed-writable n (value-typed n vs h));
-  records-back = λ N inside supplied room. accepted-back N (frames.claim .checked N .1 (inside, supplied)) room;
+  records-back = λ N inside proper supplied room. accepted-back N (frames.claim .checked N .1 (inside, proper, supplied)) room;
   slice-back = λ n vs h out after count e. front-back (recordsOf n) out (typed-writable n (value-typed n vs h)) after count e;
   same-bits = λ x y. (ap bitsOf, held-bits x y);
   bits-kept = bits-kept;
@@ -92,7 +92,7 @@ claim = record {
   only-records = only-records;
   refused-first = records-refused;
   written-back = λ t N out e room. rw (only-text t N e) (text-in-full N out (frames.passed t N e) (rw (sym (only-text t N e)) room));
-  written-in-full = λ N out inside supplied room. text-in-full N out (frames.claim .checked N .1 (inside, supplied)) room;
-  too-short = λ N out inside supplied short. text-short-slice N out (frames.claim .checked N .1 (inside, supplied)) short;
-  only-13 = λ N out inside supplied n p e. refused-13 N out (frames.claim .checked N .1 (inside, supplied)) n p e;
+  written-in-full = λ N out inside proper supplied room. text-in-full N out (frames.claim .checked N .1 (inside, proper, supplied)) room;
+  too-short = λ N out inside proper supplied short. text-short-slice N out (frames.claim .checked N .1 (inside, proper, supplied)) short;
+  only-13 = λ N out inside proper supplied n p e. refused-13 N out (frames.claim .checked N .1 (inside, proper, supplied)) n p e;
 }

@@ -150,7 +150,7 @@ fn write_lines(out: &mut [u8], network: PowerNetwork)
 }
 
 // How many bytes the text has.
-fn text_length(network: PowerNetwork) -> usize
+pub fn text_length(network: PowerNetwork) -> usize
     ensures { λ r. ⌜ r ≡ length (textOf (recordsOf network)) ⌝ }
 {
     let buses = (bus::SIZE + 1) * wide16(network.bus_count);

@@ -1,6 +1,6 @@
 // What the letter of a case does to the records once they are read: A (65) to P (80) give them a fault (O, an eleventh tie, with method 02 or a supply only), but for M (77), a second
 // switch on a branch; X (88) is a third. Q (81) and R (82) put records behind the counts that would be refused if they were listed, R with fewer listed than were read, S (83) lists
-// more of each kind, T (84) gives the first of each kind values from the ends of their ranges. U (85) makes 3 the number of the supply, V (86) says that there is one, W (87) that
+// more buses and switches, Y (89) and Z (90) a branch more, with them and alone; T (84) gives the first of each kind values from the ends of their ranges. U (85) makes 3 the number of the supply, V (86) says that there is one, W (87) that
 // there is none.
 use network::branch::Branch;
 use network::bus::Bus;
@@ -29,12 +29,14 @@ pub(crate) fn changed(mut network: PowerNetwork, change: u8) -> PowerNetwork {
         80 => return two_faults(network),
         81 => return unlisted(network),
         82 => return unlisted(with_counts(network, 2, 2, 1)),
-        83 => return with_counts(network, 4, 4, 3),
+        83 => return with_counts(network, 4, 3, 3),
         84 => return with_ends(network),
         85 => network.supply = 3,
         86 => network.has_supply = true,
         87 => network.has_supply = false,
         88 => return three_on_a_branch(network),
+        89 => return with_counts(network, 4, 4, 3),
+        90 => return with_counts(network, 3, 4, 2),
         _ => return network,
     }
     network

@@ -1,4 +1,4 @@
-// The texts of the cases on standard input, read and written again. A case is a line 'LENGTH NAME', a frame text, a line feed, and a line with one letter: what is
+// The texts of the cases on standard input, read as stored ones and written again. A case is a line 'LENGTH NAME', a frame text, a line feed, and a line with one letter: what is
 // changed in the records once they are read (src/changes.rt), a hyphen for nothing. The records are written into five slices of dots: an empty one, one a byte shorter
 // than the text that was read, one as long as it, one a byte longer, one 80 bytes longer. For each there is a line 'NAME LENGTH: ANSWER, SLICE'. SLICE is 'kept' where
 // every byte is a dot still, 'as read' where the slice has the text that was read at its front and dots behind it, else the slice itself, its line feeds as they are.
@@ -12,7 +12,7 @@ use cases::first_case;
 use cases::line_behind;
 use cases::part_of;
 use changes::changed;
-use frames::reader::read_text;
+use frames::reader::read_stored;
 use libc::STDOUT_FILENO;
 use network::error::Verdict;
 use network::topology::PowerNetwork;
@@ -104,7 +104,7 @@ fn print_answer(network: PowerNetwork, room: usize, name: &[u8], text: &[u8])
 // A text that the reader refuses is said to be no feeder: such a case is wrongly made.
 fn print_text(name: &[u8], text: &[u8], change: u8) {
     let n = at_most(text.len(), LONGEST_TEXT);
-    let reading = read_text(text);
+    let reading = read_stored(text);
     let verdict = reading.verdict;
     let Verdict::Accepted = verdict else {
         io::write_all(STDOUT_FILENO, b"no feeder\n");

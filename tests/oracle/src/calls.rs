@@ -2,17 +2,18 @@
 //! operations and plans between any two states, plans cut off, the text of the records. A question is a case of the program `call_cases`
 //! (crates/call_cases/src/calls.rt), its answer what that program is to print.
 
-use crate::cases::{Case, Cases, LONG_PAIRS, LOSSES_OF_TWO, STATES_OF_TWO, TEXTS_OF_TWO};
+use crate::cases::{self, Case, Cases, LONG_PAIRS, LOSSES_OF_TWO, STATES_OF_TWO, TEXTS_OF_TWO};
 use crate::compare::Right;
 use crate::driver::Original;
 use crate::feeder::Feeder;
 use crate::random::Random;
 use crate::reckoning::form::{self, Form};
 use crate::reckoning::plan::{self, plan, well_formed, Pair};
+use crate::reckoning::repair::repaired;
 use crate::reckoning::{judge, reader, resume, searches, Network, Refusal};
 use crate::states::{any_cut_plan, any_plan, any_state, more_closed, near, OPERATION_LENGTH};
 use crate::wrong_forms::Mistake;
-use crate::{damage, ends, forms, shapes, supplied, supply, wrong_ends};
+use crate::{damage, ends, forms, loops, shapes, short, supplied, supply, wrong_ends};
 
 /// One question of a program under test.
 pub struct Question {
@@ -37,18 +38,20 @@ enum Call {
     Plan,
     Text,
     CutPlan,
+    Repair,
 }
 
 type Listed = (char, Call, &'static str);
 
 /// The letter of each call, and what is asked.
-const CALLS: [Listed; 6] = [
+const CALLS: [Listed; 7] = [
     ('S', Call::State, "radiality, form and loss of a state"),
     ('B', Call::Best, "the best state in a slice"),
     ('O', Call::Operations, "operations in a slice"),
     ('P', Call::Plan, "a plan in a slice"),
     ('T', Call::Text, "the text read, in a slice"),
     ('R', Call::CutPlan, "a plan cut off, in two slices"),
+    ('D', Call::Repair, "the repair of a text, in a slice"),
 ];
 
 /// What an answered call prints: its fields, and what it writes into the slices.
@@ -176,6 +179,31 @@ pub fn written_back(texts: Cases) -> impl Iterator<Item = Vec<u8>> + Send {
     })
 }
 
+pub const REPAIRS: &str = "repair: questions";
+
+/// The repair of the feeders with own loops that are left out of the comparison with the Rust, in turn without a supply, with one and with another
+/// id; then of drawn and damaged texts and of any bytes. The slice is about as long as the repair.
+pub fn repairs(count: usize, seed: u64) -> impl Iterator<Item = Vec<u8>> + Send {
+    let listed = short::two_buses().chain(short::two_switches(cases::OWN_LOOPS_STEP)).filter(Feeder::has_own_loop);
+    let supplied = listed.enumerate().map(|(number, feeder)| {
+        let supply = [None, Some(0), Some(9)][number % 3];
+        Feeder { supply, ..feeder }.text()
+    });
+    let drawn = (0..count).map(move |number| {
+        let random = &mut Random::new(seed, REPAIRS, number);
+        random.pick(&[loops::drawn, loops::drawn, loops::drawn, loops::damaged, loops::damaged, loops::any_bytes])(
+            random,
+        )
+    });
+    supplied.chain(drawn).enumerate().map(move |(number, text)| {
+        let fitting = repaired(&text).map_or(0, |left| left.output().len());
+        let rooms = vec![near(&mut Random::new(seed, "repair: slices", number), fitting)];
+        let (present, wanted) = (Vec::new(), Vec::new());
+        let name = format!("D{number}");
+        Question { name, text, call: Call::Repair, change: '-', present, wanted, count: 0, rooms }.written()
+    })
+}
+
 /// The questions in runs of the program, each of one to so many, and of no more bytes than the program has room for.
 pub fn runs(kind: &'static str, questions: impl Iterator<Item = Vec<u8>> + Send + 'static) -> Cases {
     const MOST: usize = 20;
@@ -250,7 +278,7 @@ fn asked(random: &mut Random, listed: Listed, number: usize, text: Vec<u8>, netw
         Call::Operations => one(any_operations(random, network)),
         Call::Plan => one(any_plan(random, network)),
         Call::CutPlan => any_cut_plan(random, network),
-        Call::Text => unreachable!("each text of a set is asked for"),
+        Call::Text | Call::Repair => unreachable!("each text of a set is asked for"),
     };
     let name = format!("{letter}{number}");
     Question { name, text, call, change: '-', present, wanted, count, rooms }.written()
@@ -295,7 +323,10 @@ impl Question {
     /// With a mistake about the forms of states, or with none.
     fn printed_with(&self, mistake: Option<Mistake>) -> Printed {
         let network = self.network();
-        let answer = network.as_ref().map_err(|refusal| *refusal).and_then(|network| self.answer(network, mistake));
+        let answer = match self.call {
+            Call::Repair => repair_answer(&self.text).and_then(|answer| self.fitting(answer)),
+            _ => network.as_ref().map_err(|refusal| *refusal).and_then(|network| self.answer(network, mistake)),
+        };
         let two = network.is_ok_and(|network| network.has_two_on_branch());
         let mut results = if two { two_results(self, answer.as_ref().ok()) } else { Vec::new() };
         let (result, fields, written) = match answer {
@@ -362,6 +393,7 @@ impl Question {
             Call::Plan => plan_answer(network, &self.present, &self.wanted)?,
             Call::Text => text_answer(changed(&self.text, self.change)),
             Call::CutPlan => cut_plan_answer(network, self)?,
+            Call::Repair => repair_answer(&self.text)?,
         };
         self.fitting(answer)
     }
@@ -464,6 +496,12 @@ fn counted(count: usize, written: Vec<String>) -> Answer {
 fn text_answer(text: Vec<u8>) -> Answer {
     let written = String::from_utf8(text).expect("an accepted text has digits and line feeds");
     counted(written.len(), vec![written])
+}
+
+/// A stored text needs no records.
+fn repair_answer(text: &[u8]) -> Result<Answer, Refusal> {
+    let written = repaired(text)?.output();
+    Ok(counted(written.len(), vec![written]))
 }
 
 /// Document 01: "Records handed over without text are checked as their lines would be." The text of the records with the

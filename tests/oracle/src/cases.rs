@@ -2,7 +2,7 @@
 
 use crate::feeder::Feeder;
 use crate::random::Random;
-use crate::{damage, ends, forms, limits, shapes, short};
+use crate::{damage, ends, forms, limits, loops, shapes, short, supplied};
 
 pub struct Case {
     pub kind: &'static str,
@@ -24,6 +24,9 @@ pub struct Size {
     pub full_queue_questions: usize,
     pub form_questions: usize,
     pub cut_plans: usize,
+    /// Texts with branches from a bus to itself.
+    pub own_loops: usize,
+    pub repairs: Repairs,
     /// The same with the 05 line.
     pub with_line: WithLine,
     pub least: Least,
@@ -37,14 +40,18 @@ pub const LOSSES_OF_TWO: &str = "two switches on a branch: states with radiality
 pub const LONG_PAIRS: &str = "two switches on a branch: plans with a pair of three or four moves";
 
 /// How much of a set is to have two switches on a branch: answered texts; states of questions, those with radiality and loss among them; plans with
-/// a pair that moves three or four.
+/// a pair that moves three or four; and how many repairs are to drop lines.
 #[derive(Clone, Copy)]
 pub struct Least {
     texts: usize,
     states: usize,
     losses: usize,
     long_pairs: usize,
+    repaired: usize,
 }
+
+/// What is counted of repairs: texts that lost lines, without and with the 05 line, and those whose base is a tree without the lost branches alone.
+pub const REPAIRED: [&str; 3] = ["repaired", "repaired, with the 05 line", "repaired: cured of 15"];
 
 impl Least {
     pub fn texts(self) -> Vec<(&'static str, usize)> {
@@ -54,6 +61,20 @@ impl Least {
     pub fn questions(self) -> Vec<(&'static str, usize)> {
         vec![(STATES_OF_TWO, self.states), (LOSSES_OF_TWO, self.losses), (LONG_PAIRS, self.long_pairs)]
     }
+
+    pub fn repairs(self) -> Vec<(&'static str, usize)> {
+        REPAIRED.into_iter().zip([self.repaired, self.repaired / 3, self.repaired / 5]).collect()
+    }
+}
+
+/// How many texts the repair is tried on, as a program and as a call; of the texts of the set one in `step`.
+#[derive(Clone, Copy)]
+pub struct Repairs {
+    pub drawn: usize,
+    pub damaged: usize,
+    pub any_bytes: usize,
+    pub step: usize,
+    pub questions: usize,
 }
 
 #[derive(Clone, Copy)]
@@ -80,6 +101,8 @@ impl Size {
                 full_queue_questions: 60,
                 form_questions: 400,
                 cut_plans: 6_700,
+                own_loops: 600,
+                repairs: Repairs { drawn: 800, damaged: 600, any_bytes: 300, step: 60, questions: 6_000 },
                 with_line: WithLine {
                     few_buses: 600,
                     each_shape: 40,
@@ -88,7 +111,7 @@ impl Size {
                     questions: 2_000,
                     cut_plans: 330,
                 },
-                least: Least { texts: 10_000, states: 20_000, losses: 3_500, long_pairs: 1_000 },
+                least: Least { texts: 10_000, states: 20_000, losses: 3_500, long_pairs: 1_000, repaired: 600 },
             }),
             "large" => Some(Size {
                 each_shape: 10_000,
@@ -101,6 +124,8 @@ impl Size {
                 full_queue_questions: 1_000,
                 form_questions: 8_000,
                 cut_plans: 67_000,
+                own_loops: 30_000,
+                repairs: Repairs { drawn: 40_000, damaged: 30_000, any_bytes: 10_000, step: 20, questions: 120_000 },
                 with_line: WithLine {
                     few_buses: 30_000,
                     each_shape: 2_000,
@@ -109,11 +134,16 @@ impl Size {
                     questions: 50_000,
                     cut_plans: 8_300,
                 },
-                least: Least { texts: 200_000, states: 200_000, losses: 35_000, long_pairs: 10_000 },
+                least: Least { texts: 200_000, states: 200_000, losses: 35_000, long_pairs: 10_000, repaired: 15_000 },
             }),
             _ => None,
         }
     }
+}
+
+/// All texts: those without the 05 line, those with it, those with branches from a bus to itself.
+pub fn set(size: Size, seed: u64) -> Cases {
+    Box::new(cases(size, seed).chain(supplied::cases(size, seed)).chain(own_loops(size, seed)))
 }
 
 /// The set without the 05 line.
@@ -121,8 +151,8 @@ pub fn cases(size: Size, seed: u64) -> Cases {
     let fixed = named("limits", limits::texts().into_iter())
         .chain(named("strings of up to 3 bytes", short::strings()))
         .chain(named("one byte away from the triangle", short::one_byte_away()))
-        .chain(named("all feeders of up to 2 buses and 2 branches", short::two_buses().map(|f| f.text())))
-        .chain(named(TWO_SWITCHES, short::two_switches().map(|f| f.text())))
+        .chain(named("all feeders of up to 2 buses and 2 branches", without_own_loops(short::two_buses())))
+        .chain(named(TWO_SWITCHES, without_own_loops(short::two_switches(TWO_SWITCHES_STEP))))
         .chain(named("triangles with small loads", short::triangle_values().map(|f| f.text())));
     let seeded = three_buses(size.three_buses, seed)
         .chain(every_shape(size.each_shape, seed))
@@ -135,6 +165,40 @@ pub fn cases(size: Size, seed: u64) -> Cases {
         .chain(loops_and_islands(size.loops_and_islands, seed));
     Box::new(fixed.chain(seeded))
 }
+
+/// How the kinds begin whose texts have branches from a bus to itself: nothing of them is compared with the Rust.
+pub const OWN_LOOPS: &str = "own loops: ";
+
+/// What is left out of the whole lists above, then fixed and drawn texts.
+pub fn own_loops(size: Size, seed: u64) -> impl Iterator<Item = Case> + Send {
+    named("own loops: all feeders of up to 2 buses and 2 branches", with_own_loops(short::two_buses()))
+        .chain(named("own loops: two switches on a branch", with_own_loops(short::two_switches(OWN_LOOPS_STEP))))
+        .chain(named("own loops: fixed", loops::fixed().into_iter()))
+        .chain(seeded("own loops: drawn", size.own_loops, seed, loops::drawn))
+}
+
+/// Of the whole lists above, how many are compared with the Rust, and how many are not, for a branch from a bus to itself.
+pub fn left_out() -> String {
+    let line = |kind: &str, feeders: Vec<Feeder>| {
+        let own = feeders.iter().filter(|feeder| feeder.has_own_loop()).count();
+        format!("{:9}  compared with the Rust, {own} with own loops left out: {kind}\n", feeders.len() - own)
+    };
+    let switches = short::two_switches(TWO_SWITCHES_STEP).collect();
+    line("all feeders of up to 2 buses and 2 branches", short::two_buses().collect()) + &line(TWO_SWITCHES, switches)
+}
+
+fn without_own_loops(feeders: impl Iterator<Item = Feeder> + Send) -> impl Iterator<Item = Vec<u8>> + Send {
+    feeders.filter(|feeder| !feeder.has_own_loop()).map(|feeder| feeder.text())
+}
+
+fn with_own_loops(feeders: impl Iterator<Item = Feeder> + Send) -> impl Iterator<Item = Vec<u8>> + Send {
+    feeders.filter(Feeder::has_own_loop).map(|feeder| feeder.text())
+}
+
+/// Of the feeders of two buses and two branches, with two switches on one at least, one in so many: those that are compared with the Rust, and those with
+/// branches from a bus to itself.
+const TWO_SWITCHES_STEP: usize = 15;
+pub const OWN_LOOPS_STEP: usize = 83;
 
 pub const TWO_SWITCHES: &str = "two switches on a branch, up to 2 buses and 2 branches";
 
@@ -158,8 +222,7 @@ fn three_buses(count: usize, seed: u64) -> impl Iterator<Item = Case> + Send {
         let mut random = Random::new(seed, KIND, number);
         let branches = random.pick(&[2, 3, 3, 3]);
         let switches = if number % 3 == 0 { short::AT_MOST_ONE } else { short::AT_MOST_TWO };
-        let feeder = short::numbered(3, branches, switches, random.below(short::how_many(3, branches, switches)));
-        Case { kind: KIND, text: feeder.text() }
+        Case { kind: KIND, text: short::drawn(&mut random, 3, branches, switches).text() }
     })
 }
 

@@ -1,18 +1,19 @@
-//! Document 01's worked examples on the original, those of document 02's Points 2, 4, 5 and 6, and document 01's steps against the original.
+//! Document 01's worked examples on the original, those of document 02's Points 2, 4, 5, 6 and 7, and document 01's steps against the original.
 
 use crate::cases::{Case, Cases};
-use crate::compare::Tally;
+use crate::compare::{Right, Tally};
 use crate::driver::Original;
 use crate::ends::triangle_of_four;
 use crate::expected::{expected, Expected};
 use crate::feeder::{triangle, Feeder, OPERABLE, TIE};
 use crate::forms::{self, joined};
+use crate::loops::triangle_with_own_loop;
 use crate::reckoning::form::{self, Form};
 use crate::reckoning::resume::Move;
 use crate::reckoning::searches::Searches;
 use crate::reckoning::{judge, plan, reader, resume, Network, Refusal, CLOSED, OPEN};
 use crate::shapes::SHAPES;
-use crate::supply;
+use crate::{repairs, supply};
 
 /// Document 01's lines, document 02's "840000FFFF for the triangle", and the frame 86 in place of 83.
 pub const TRIANGLE: &str =
@@ -48,6 +49,9 @@ pub fn worked_examples() -> bool {
     for (name, feeder, output) in supplies() {
         check(name, expected(&feeder).output() == output);
     }
+    for (name, text, new, stored) in own_loops() {
+        check(name, expected(&text).output() == new && repairs::expected(&text).output() == stored);
+    }
     for (name, found, line) in plan_refusals() {
         check(name, found.is_err_and(|refusal| refusal.line() == line));
     }
@@ -72,7 +76,6 @@ fn states() -> Vec<StateCase> {
     vec![
         ("no buses: a tree, loss 0", joined(0, &[]), vec![], Form::Tree, Some(0.0)),
         ("one bus: a tree", joined(1, &[]), vec![], Form::Tree, None),
-        ("one bus, own loop: loop 0", joined(1, &[(1, 1)]), vec![], closed_by(0), None),
         ("two buses, one branch: a tree", joined(2, &[(1, 2)]), vec![], Form::Tree, None),
         ("two parallel: loop 1", joined(2, &[(1, 2), (1, 2)]), vec![], closed_by(1), None),
         ("triangle base loss 4", triangle(), vec![0, 1], Form::Tree, Some(4.0)),
@@ -149,11 +152,58 @@ fn refusals() -> Vec<(&'static str, Vec<u8>, &'static str)> {
         ("7: bus 0001 again", changed(|f| f.buses[1].id = 1), "8F070003\n"),
         ("8: three switches on 0000", three_on_branch(14), "8F08000A\n"),
         ("7 before 8: a third with an id twice", three_on_branch(10), "8F07000A\n"),
-        ("8 before 9: the eleventh tie as a third", eleventh_on(0), "8F080013\n"),
-        ("9: the eleventh tie", eleventh_on(5), "8F090013\n"),
-        ("9: eleven ties", ties(11), "8F090018\n"),
+        ("8 before 9: the eleventh tie as a third", eleventh_on(0), "8F080014\n"),
+        ("9: the eleventh tie", eleventh_on(5), "8F090014\n"),
+        ("9: eleven ties", ties(11), "8F09001A\n"),
+        ("17: one bus, own loop", joined(1, &[(1, 1)]).text(), "8F110003\n"),
         ("ten ties pass", ties(10), none_lost),
     ]
+}
+
+type OwnLoopCase = (&'static str, Vec<u8>, &'static str, String);
+
+/// Document 02's Point 7: what `feeder` and what `repair` print.
+fn own_loops() -> Vec<OwnLoopCase> {
+    let seventeen = "8F110006\n";
+    let with = |supply, change: fn(&mut Feeder)| {
+        let mut feeder = Feeder { supply, ..triangle_with_own_loop() };
+        change(&mut feeder);
+        feeder.text()
+    };
+    let left = |supply| {
+        let text = Feeder { supply, ..triangle() }.text();
+        String::from_utf8(text).expect("digits") + "87000601\n87000A02\n"
+    };
+    let line = |line: &str| line.to_string();
+    let unchanged = String::from_utf8(triangle().text()).expect("digits");
+    let one_bus = "010001000000003FF0000000000000000000\n0200013FF0000000000000\n87000301\n";
+    vec![
+        ("repair: the triangle", with(None, |_| ()), seventeen, left(None)),
+        ("repair: its 05 line stays", with(Some(1), |_| ()), seventeen, left(Some(1))),
+        ("repair: out of service", with(None, |f| f.branches[1].status = 0), seventeen, left(None)),
+        ("repair: 15 stays", with(Some(1), |f| f.switches[2].flags = OPERABLE), seventeen, line("8F0F000C\n")),
+        ("repair: 14", with(Some(9), |_| ()), seventeen, line("8F0E000C\n")),
+        ("repair: one bus", joined(1, &[(1, 1)]).text(), "8F110003\n", line(one_bus)),
+        ("repair: 3 of an own loop", with(None, |f| f.branches[1].status = 2), "8F030006\n", line("8F030006\n")),
+        ("repair: 5 of an own loop", with(None, |f| f.branches[1].r = -1.0), "8F050006\n", line("8F050006\n")),
+        ("repair: 6 of an own loop", with(None, unlisted), "8F060006\n", line("8F060006\n")),
+        (
+            "repair: an id twice, one to be dropped",
+            with(None, |f| f.switches[2].id = 12),
+            seventeen,
+            line("8F07000B\n"),
+        ),
+        ("repair: a third switch to be dropped", with(None, thirds), seventeen, line("8F08000B\n")),
+        ("repair: nothing to drop", triangle().text(), TRIANGLE, unchanged),
+    ]
+}
+
+fn unlisted(feeder: &mut Feeder) {
+    (feeder.branches[1].from, feeder.branches[1].to) = (9, 9);
+}
+
+fn thirds(feeder: &mut Feeder) {
+    feeder.switches.iter_mut().for_each(|switch| switch.branch = 1);
 }
 
 fn buses(count: u16) -> Vec<u8> {
@@ -170,21 +220,21 @@ fn three_on_branch(id: u16) -> Vec<u8> {
     feeder.text()
 }
 
-/// One bus with six branches to itself, ten ties two by two, and an eleventh on that branch, exhaustive.
+/// Two buses with six branches between them, ten ties two by two, and an eleventh on that branch, exhaustive.
 fn eleventh_on(branch: usize) -> Vec<u8> {
     let mut feeder = Feeder { base_mva: 1.0, method: 2, iterations: 0, ..Feeder::default() };
-    feeder.bus(1, 0.0);
-    (0..6).for_each(|_| feeder.branch(1, 1, 0.0));
+    (1..=2).for_each(|id| feeder.bus(id, 0.0));
+    (0..6).for_each(|_| feeder.branch(1, 2, 0.0));
     (0..10).for_each(|i| feeder.switch(i, usize::from(i) / 2, TIE));
     feeder.switch(10, branch, TIE);
     feeder.text()
 }
 
-/// One bus with that many normally open branches to itself, exhaustive.
+/// Two buses joined by that many normally open branches and one more, exhaustive.
 fn ties(count: u16) -> Vec<u8> {
     let mut feeder = Feeder { base_mva: 1.0, method: 2, iterations: 0, ..Feeder::default() };
-    feeder.bus(1, 0.0);
-    (0..count).for_each(|_| feeder.branch(1, 1, 0.0));
+    (1..=2).for_each(|id| feeder.bus(id, 0.0));
+    (0..=count).for_each(|_| feeder.branch(1, 2, 0.0));
     (0..count).for_each(|k| feeder.switch(k, k.into(), TIE));
     feeder.text()
 }
@@ -302,11 +352,12 @@ fn two_pairs(order: [usize; 4]) -> Option<String> {
 }
 
 /// The reckoned steps, loss, radiality and forms (each two ways) against the original on every accepted text of a set; the same steps with the
-/// original's loss, which give the answers with a supply; the reader's verdict against what it must be whatever the text.
+/// original's loss, which give the answers with a supply; the reader's verdict against what it must be whatever the text, and against the reckoning on lines.
 pub fn agree(cases: Cases) -> bool {
     let (mut agreed, mut supplied, mut two, mut refused) = (0, 0, 0, 0);
     for case in cases {
         let right = expected(&case.text);
+        repairs::expected(&case.text);
         if !verdict_holds(&case, &right) {
             println!("{}: the reader contradicts itself on\n{}", case.kind, String::from_utf8_lossy(&case.text));
             return false;

@@ -1,7 +1,7 @@
 //! Runs a program under test on every case of a set, a text of `feeder` or some questions of `call_cases`, and holds its
 //! output against the expected one.
 
-use crate::cases::{Case, Cases, TEXTS_OF_TWO};
+use crate::cases::{Case, Cases, OWN_LOOPS, TEXTS_OF_TWO};
 use crate::expected::{Answered, Expected};
 use crate::program::Running;
 use crate::reckoning::form::{parallel, Form};
@@ -62,9 +62,19 @@ impl Tally {
         missing.map(|(name, least)| format!("{name}: {}, at least {least} are wanted", counted(name))).collect()
     }
 
-    /// How many are of the kinds with the 05 line.
-    fn with_line(&self) -> usize {
-        self.kinds.iter().filter(|(kind, _)| kind.starts_with(supplied::LINE)).map(|(_, count)| count).sum()
+    /// How many are of the kinds that begin so.
+    fn of_kinds(&self, beginning: &str) -> usize {
+        self.kinds.iter().filter(|(kind, _)| kind.starts_with(beginning)).map(|(_, count)| count).sum()
+    }
+
+    /// What was compared: those of the kinds with the 05 line and with own loops for themselves.
+    fn compared(&self, name: &str) -> String {
+        let (with_line, own_loops) = (self.of_kinds(supplied::LINE), self.of_kinds(OWN_LOOPS));
+        let own = if own_loops > 0 { format!(", {own_loops} about own loops") } else { String::new() };
+        format!(
+            "{} {name} and {with_line} with the 05 line compared{own}, no difference",
+            self.total() - with_line - own_loops
+        )
     }
 }
 
@@ -131,10 +141,7 @@ fn form_results(answered: &Answered) -> Vec<&'static str> {
     let network = &answered.network;
     let mut results = vec![answered.form.name()];
     if let Form::Loop { branch, .. } = answered.form {
-        let closing = &network.branches[usize::from(branch)];
-        if closing.from == closing.to {
-            results.push("a loop of a branch with equal ends");
-        } else if parallel(network, &network.live(&answered.best), branch.into()) {
+        if parallel(network, &network.live(&answered.best), branch.into()) {
             results.push("a loop of two parallels");
         }
     }
@@ -181,8 +188,7 @@ pub fn compare<R: Right>(compared: Compared<R>, program: &[String], workers: usi
     println!("{}", tally.lines());
     match first.into_inner().expect("the workers are done") {
         None => {
-            let with_line = tally.with_line();
-            println!("{} {name} and {with_line} with the 05 line compared, no difference", tally.total() - with_line);
+            println!("{}", tally.compared(name));
             let too_few = tally.too_few(&least);
             too_few.iter().for_each(|line| println!("TOO FEW  {line}"));
             too_few.is_empty()

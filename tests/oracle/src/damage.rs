@@ -36,11 +36,11 @@ pub fn damaged_with_line(random: &mut Random) -> Vec<u8> {
     [before.concat(), rest.concat()].concat()
 }
 
-fn lines(text: Vec<u8>) -> Vec<Vec<u8>> {
+pub fn lines(text: Vec<u8>) -> Vec<Vec<u8>> {
     text.split_inclusive(|&c| c == b'\n').map(<[u8]>::to_vec).collect()
 }
 
-fn damage(random: &mut Random, lines: &mut Vec<Vec<u8>>) {
+pub fn damage(random: &mut Random, lines: &mut Vec<Vec<u8>>) {
     for _ in 0..random.pick(&[1, 1, 1, 2, 3]) {
         if !lines.is_empty() {
             random.pick(&DAMAGES)(random, lines);

@@ -163,14 +163,14 @@ fn thirds() -> Vec<Feeder> {
     feeders
 }
 
-/// Exhaustive, one bus: nine to twelve ties, two on each branch or in one place three.
+/// Exhaustive, two buses: nine to twelve ties, two on each branch or in one place three.
 fn among_ties() -> Vec<Feeder> {
     let mut feeders = Vec::new();
     for ties in 9..=12u16 {
         for third in [None, Some(2), Some(9), Some(10), Some(11)] {
             let mut feeder = Feeder { base_mva: 1.0, method: 2, ..Feeder::default() };
-            feeder.bus(1, 1.0);
-            (0..6).for_each(|_| feeder.branch(1, 1, 0.5));
+            (1..=2).for_each(|id| feeder.bus(id, 1.0));
+            (0..6).for_each(|_| feeder.branch(1, 2, 0.5));
             for i in 0..ties {
                 let branch = if third == Some(i) { 0 } else { usize::from(i) / 2 };
                 feeder.switch(i, branch, OPERABLE | TIE);

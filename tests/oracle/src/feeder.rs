@@ -66,6 +66,11 @@ impl Feeder {
         self.switches.push(SwitchLine { id, branch: branch as u16, flags });
     }
 
+    /// Whether a branch goes from a bus to itself.
+    pub fn has_own_loop(&self) -> bool {
+        self.branches.iter().any(|branch| branch.from == branch.to)
+    }
+
     pub fn ties(&self) -> usize {
         self.switches.iter().filter(|s| s.flags & TIE != 0).count()
     }

@@ -243,6 +243,7 @@ fn on_records() -> Vec<RecordFinding> {
     let mut findings = vec![
         ("three buses without a branch (two islands beside the main one), n_islands", "1", islands(&[1, 2, 3], &[])),
         ("a bus with a branch to itself (no islands), n_islands", "1", islands(&[1], &[(1, 1)])),
+        ("the same with 1 MW and r 0.5: verify_radiality, loss", "false, 0.5", own_loop()),
         ("buses 1 and 2, a branch from 1 to an unlisted 9: verify_radiality", "true", unlisted_end()),
         ("the same: degree and neighbors of 9", "1, [1]", unlisted_neighbors()),
         ("a bus id twice, with 1 MW and with 5 MW: loss of a branch to it, verify_radiality", "1, false", bus_twice()),
@@ -312,6 +313,13 @@ fn opening(open_switches: Vec<usize>) -> NetworkConfiguration {
 fn islands(ids: &[usize], ends: &[(u16, u16)]) -> String {
     let result = solver(ReconfigAlgorithm::BranchExchange, vec![]).solve(&network(ids, ends, 1.0));
     result.map_or("an error".to_string(), |result| result.best_configuration.n_islands.to_string())
+}
+
+fn own_loop() -> String {
+    let mut network = network(&[1], &[(1, 1)], 1.0);
+    network.branches[0].r = 0.5;
+    let loss = solver(ReconfigAlgorithm::BranchExchange, vec![]).evaluate_config(&network, &opening(vec![]));
+    format!("{}, {}", verify_radiality(&network, &opening(vec![]), &[]), loss.unwrap_or(f64::NAN))
 }
 
 fn unlisted_end() -> String {

@@ -2,7 +2,7 @@
 //! texts that show it. An entry is a line of eight hexadecimal digits, the text's length and the output's length (u16
 //! each), then the text, then the output.
 
-use crate::cases::{cases, Case, Size, FULL_QUEUE, LOOPS_AND_ISLANDS};
+use crate::cases::{set, Case, Size, FULL_QUEUE, LOOPS_AND_ISLANDS, OWN_LOOPS};
 use crate::compare::Tally;
 use crate::expected::{expected, Expected};
 use crate::supplied;
@@ -14,6 +14,7 @@ const OF_A_KIND: usize = 35;
 const OF_A_KIND_WITH_LINE: usize = 12;
 const OF_A_FULL_QUEUE: usize = 8;
 const OF_LOOPS_AND_ISLANDS: usize = 15;
+const OF_OWN_LOOPS: usize = 12;
 const FOR_A_MISTAKE: usize = 3;
 const OF_A_REFUSAL: usize = 10;
 /// Texts that are longer need a length of more than 16 bits in a program that replays the list.
@@ -21,11 +22,10 @@ const LONGEST: usize = 0x7FFF;
 
 pub fn list(seed: u64) -> Vec<u8> {
     let size = Size::named("small").expect("a size");
-    let cases = cases(size, seed).chain(supplied::cases(size, seed));
-    let all: Vec<Case> = cases.filter(|case| case.text.len() <= LONGEST).collect();
+    let all: Vec<Case> = set(size, seed).filter(|case| case.text.len() <= LONGEST).collect();
     let mut tally = Tally::default();
     let mut unseen: Vec<(Mistake, usize)> = wrong::all().into_iter().map(|mistake| (mistake, 0)).collect();
-    let mut refusals = [0; 16];
+    let mut refusals = [0; 18];
     let mut list = Vec::new();
     for (case, evenly) in all.iter().zip(evenly_chosen(&all)) {
         let right = expected(&case.text);
@@ -54,6 +54,7 @@ fn evenly_chosen(all: &[Case]) -> Vec<bool> {
                     FULL_QUEUE => OF_A_FULL_QUEUE,
                     LOOPS_AND_ISLANDS => OF_LOOPS_AND_ISLANDS,
                     kind if kind.starts_with(supplied::LINE) => OF_A_KIND_WITH_LINE,
+                    kind if kind.starts_with(OWN_LOOPS) => OF_OWN_LOOPS,
                     _ => OF_A_KIND,
                 };
                 kind = (case.kind, of_kind(case.kind).div_ceil(most), 0);

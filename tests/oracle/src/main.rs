@@ -14,10 +14,12 @@ mod flat;
 mod forms;
 mod limits;
 mod list;
+mod loops;
 mod program;
 mod random;
 mod reckoning;
 mod records;
+mod repairs;
 mod shapes;
 mod short;
 mod states;
@@ -28,9 +30,10 @@ mod wrong;
 mod wrong_calls;
 mod wrong_ends;
 mod wrong_forms;
+mod wrong_repairs;
 
 use cases::Size;
-use compare::Compared;
+use compare::{Compared, Right};
 use std::io::{Read, Write};
 use std::process::ExitCode;
 
@@ -42,6 +45,9 @@ const USAGE: &str = "usage:
                                            runs the program on that many questions
   oracle compare-written SIZE SEED PROGRAM [ARG]
                                            runs the program on the accepted texts of the set, to be written back
+  oracle repaired                          text on standard input: what repair is to print
+  oracle compare-repair SIZE SEED PROGRAM [ARG]
+                                           runs the program on texts to be repaired
   oracle check                             document 01's worked examples, on the original
   oracle agree SIZE SEED                   the steps of documents 01 and 02, as reckoned, against the original
   oracle flat                              the original's sensitivities at flat voltage
@@ -49,6 +55,8 @@ const USAGE: &str = "usage:
   oracle wrong NAME                        text on standard input: the output of a program with that mistake
   oracle wrong-programs SIZE SEED          for each mistake, the first text of the set that shows it
   oracle wrong-calls SIZE SEED             for each mistake with a plan cut off, and about what live branches are, the first question that shows it
+  oracle wrong-repair NAME                 text on standard input: the output of a repair with that mistake
+  oracle wrong-repairs SIZE SEED           for each mistake in a repair, the first text that shows it
   oracle smallest NAME                     the smallest feeder that shows a mistake
   oracle list SEED                         the fixed list of texts and expected outputs
   oracle entry FILE NUMBER                 one entry of such a list
@@ -65,6 +73,7 @@ fn main() -> ExitCode {
         ["compare", size, seed, _, ..] => {
             let least = named(size).least.texts();
             let texts = Compared { name: "texts", cases: set(size, seed), expected: expected::expected, least };
+            print!("{}", cases::left_out());
             compare::compare(texts, &arguments[3..], workers())
         }
         ["compare-calls", size, seed, _, ..] => {
@@ -78,6 +87,12 @@ fn main() -> ExitCode {
             let texts = Compared { name: "texts written back", cases, expected: calls::expected, least };
             compare::compare(texts, &arguments[3..], workers())
         }
+        ["repaired"] => print(repairs::expected(&input()).output().as_bytes()),
+        ["compare-repair", size, seed, _, ..] => {
+            let (cases, least) = (repairs::cases(named(size), number(seed)), named(size).least.repairs());
+            let texts = Compared { name: "texts repaired", cases, expected: repairs::expected, least };
+            compare::compare(texts, &arguments[3..], workers())
+        }
         ["check"] => check::worked_examples(),
         ["agree", size, seed] => check::agree(set(size, seed)),
         ["flat"] => flat::all_equal(),
@@ -85,6 +100,8 @@ fn main() -> ExitCode {
         ["wrong", name] => print(wrong::named(name).output(&input()).as_bytes()),
         ["wrong-programs", size, seed] => wrong::all_caught(set(size, seed)),
         ["wrong-calls", size, seed] => wrong_calls::all_caught(named(size), number(seed)),
+        ["wrong-repair", name] => print(wrong_repairs::output(wrong_repairs::named(name), &input()).as_bytes()),
+        ["wrong-repairs", size, seed] => wrong_repairs::all_caught(repairs::cases(named(size), number(seed))),
         ["smallest", name] => print(&wrong::smallest(wrong::named(name))),
         ["list", seed] => print(&list::list(number(seed))),
         ["entry", file, entry] => list::print_entry(&read_file(file), number(entry) as usize),
@@ -107,14 +124,12 @@ fn main() -> ExitCode {
     }
 }
 
-/// The texts without the 05 line, then those with it.
 fn set(size: &str, seed: &str) -> cases::Cases {
-    let (size, seed) = (named(size), number(seed));
-    Box::new(cases::cases(size, seed).chain(supplied::cases(size, seed)))
+    cases::set(named(size), number(seed))
 }
 
 /// Questions on texts without the 05 line, then on feeders with a full queue, then on texts with the line; then on plans cut off; on loops and
-/// islands behind all.
+/// islands; on repairs behind all.
 fn questions(size: &str, seed: &str) -> cases::Cases {
     let (size, seed) = (named(size), number(seed));
     let before = calls::runs("questions", calls::questions(size.questions, seed));
@@ -126,7 +141,8 @@ fn questions(size: &str, seed: &str) -> cases::Cases {
     let cut_with_line = calls::cut_plans_with_line(size.with_line.cut_plans, seed);
     let forms = calls::runs(calls::FORM_QUESTIONS, calls::form_questions(size.form_questions, seed));
     let cut = cut.chain(calls::runs(calls::CUT_PLANS_WITH_LINE, cut_with_line));
-    Box::new(before.chain(later).chain(cut).chain(forms))
+    let repairs = calls::runs(calls::REPAIRS, calls::repairs(size.repairs.questions, seed));
+    Box::new(before.chain(later).chain(cut).chain(forms).chain(repairs))
 }
 
 /// The accepted texts of the set, to be written back.

@@ -1,4 +1,4 @@
-//! Seeded feeders of every shape. Each is acceptable, whatever the seed.
+//! Seeded feeders of every shape. Each is acceptable, whatever the seed: no branch goes from a bus to itself.
 
 use crate::ends;
 use crate::feeder::{Feeder, OPERABLE, TIE};
@@ -17,7 +17,7 @@ pub const SHAPES: [Shape; 15] = [
     Shape { name: "loop with ties out of service", make: loop_with_dead_ties },
     Shape { name: "base in pieces", make: base_in_pieces },
     Shape { name: "loops and pieces", make: loops_and_pieces },
-    Shape { name: "own loops and parallels", make: own_loops_and_parallels },
+    Shape { name: "parallels", make: parallels },
     Shape { name: "out of service", make: out_of_service },
     Shape { name: "locked and missing switches", make: locked_and_missing },
     Shape { name: "any branches at all", make: any_branches },
@@ -39,9 +39,8 @@ struct Mix {
     /// Normally open branches, between any two buses and between pieces.
     ties: usize,
     joins: usize,
-    /// Further live branches between any two buses, from a bus to itself, and beside a listed one.
+    /// Further live branches between any two buses, and beside a listed one.
     loops: usize,
-    own: usize,
     parallel: usize,
     /// Chances in percent.
     dead: usize,
@@ -61,7 +60,6 @@ impl Mix {
             ties: random.between(1, 4),
             joins: 0,
             loops: 0,
-            own: 0,
             parallel: 0,
             dead: 0,
             dead_ties: 0,
@@ -97,18 +95,8 @@ impl Mix {
 
     fn ends(&self, random: &mut Random, ids: &[u16]) -> Vec<Ends> {
         let mut ends = self.forest(random, ids);
-        let any = |random: &mut Random| random.pick(ids);
-        for tie in [true, false] {
-            for _ in 0..if tie { self.ties } else { self.loops } {
-                ends.push(Ends { from: any(random), to: any(random), tie });
-            }
-        }
-        for _ in 0..self.joins {
-            ends.push(Ends { from: any(random), to: any(random), tie: true });
-        }
-        for _ in 0..self.own {
-            let bus = any(random);
-            ends.push(Ends { from: bus, to: bus, tie: random.percent(50) });
+        for (count, tie) in [(self.ties, true), (self.loops, false), (self.joins, true)] {
+            ends.extend((0..count).filter_map(|_| two_buses(random, ids)).map(|(from, to)| Ends { from, to, tie }));
         }
         for _ in 0..if ends.is_empty() { 0 } else { self.parallel } {
             let beside = random.pick(&ends);
@@ -148,6 +136,13 @@ struct Ends {
     from: u16,
     to: u16,
     tie: bool,
+}
+
+/// Any two buses, none where there is one alone. Where one is drawn twice the second is the next of the list.
+fn two_buses(random: &mut Random, ids: &[u16]) -> Option<(u16, u16)> {
+    let (from, to) = (random.below(ids.len()), random.below(ids.len()));
+    let other = if from == to { (to + 1) % ids.len() } else { to };
+    (ids.len() > 1).then(|| (ids[from], ids[other]))
 }
 
 /// As listed, or in any order.
@@ -233,13 +228,8 @@ fn loops_and_pieces(random: &mut Random) -> Feeder {
     mix.feeder(random)
 }
 
-fn own_loops_and_parallels(random: &mut Random) -> Feeder {
-    let mix = Mix {
-        own: random.below(3),
-        parallel: random.between(1, 3),
-        pieces: random.pick(&[1, 1, 2]),
-        ..Mix::plain(random, 1, 7)
-    };
+fn parallels(random: &mut Random) -> Feeder {
+    let mix = Mix { parallel: random.between(1, 3), pieces: random.pick(&[1, 1, 2]), ..Mix::plain(random, 1, 7) };
     mix.feeder(random)
 }
 
@@ -270,7 +260,6 @@ fn any_branches(random: &mut Random) -> Feeder {
         pieces: buses,
         ties: random.below(5),
         loops: random.below(9),
-        own: random.below(2),
         parallel: random.below(2),
         dead: 15,
         dead_ties: 30,
@@ -405,7 +394,6 @@ fn up_to_64_buses(random: &mut Random) -> Feeder {
         ties: random.between(2, 8),
         pieces: random.pick(&[1, 1, 1, 2]),
         loops: random.pick(&[0, 0, 1]),
-        own: random.pick(&[0, 0, 0, 1]),
         dead: random.pick(&[0, 0, 5]),
         dead_ties: 5,
         locked: 5,
@@ -482,31 +470,26 @@ pub fn full_size_in_pieces(random: &mut Random) -> Feeder {
     feeder
 }
 
-/// 256 connected buses with one to three branches from a bus to itself, at least one of them live in the base: its loss walks from that
-/// bus and bars no other, so that all 256 stand in the walk's queue. The styles of tree and the methods come in turn.
+/// 256 connected buses with a live branch in the base that is drawn from a bus on which no other live one hangs: its loss walks from the other end and
+/// bars that bus alone, so that 255 stand in the walk's queue, the most that a text can bring there. The styles of tree and the methods come in turn.
 pub fn full_queue(random: &mut Random, number: usize) -> Feeder {
-    let mix = Mix {
-        style: number % 4,
-        own: random.between(1, 3),
-        ties: random.between(1, 3),
-        turned: 50,
-        ..Mix::plain(random, 256, 256)
-    };
+    let mix = Mix { style: number % 4, ties: random.between(1, 3), turned: 50, ..Mix::plain(random, 256, 256) };
     let values = random.pick(&[Values::Signed, Values::Signed, Values::Plain, Values::Spread]);
-    let own = |feeder: &Feeder| feeder.branches.iter().filter(|branch| branch.from == branch.to).count();
     let mut feeder = mix.feeder_of(random, values);
-    // a drawn tie may be one more
-    while own(&feeder) > 3 {
-        feeder = mix.feeder_of(random, values);
-    }
     (feeder.method, feeder.iterations) = ((number % 3) as u8, random.pick(&[0, 1, 2, 3]));
-    let first = feeder.branches.iter().position(|branch| branch.from == branch.to).expect("the mix has one");
-    feeder.switches.iter_mut().filter(|s| usize::from(s.branch) == first).for_each(|s| s.flags &= !TIE);
+    let live = without_ties(&feeder);
+    let ends = |k: usize| (feeder.branches[k].from, feeder.branches[k].to);
+    let alone = |bus: u16| live.iter().filter(|&&k| ends(k).0 == bus || ends(k).1 == bus).count() == 1;
+    if !live.iter().any(|&k| alone(ends(k).0)) {
+        let last = live.iter().copied().find(|&k| alone(ends(k).1)).expect("a tree has such a bus");
+        let branch = &mut feeder.branches[last];
+        (branch.from, branch.to) = (branch.to, branch.from);
+    }
     feeder
 }
 
-/// 1 to 256 buses, 256 in one of five, with a base that is mostly no tree: in turn in pieces, with loops, with both. The loops are rings,
-/// parallels and branches with equal ends, and the methods come in turn too. At most ten ties.
+/// 1 to 256 buses, 256 in one of five, with a base that is mostly no tree: in turn in pieces, with loops, with both. The loops are rings and
+/// parallels, and the methods come in turn too. At most ten ties.
 pub fn loops_and_islands(random: &mut Random, number: usize) -> Feeder {
     const BUSES: [(usize, usize); 5] = [(1, 4), (5, 16), (17, 64), (65, 255), (256, 256)];
     let (in_pieces, looped) = (number % 3 != 1, number % 3 != 0);
@@ -518,7 +501,6 @@ pub fn loops_and_islands(random: &mut Random, number: usize) -> Feeder {
         ties: random.below(4),
         joins: random.below(3),
         loops: if looped { random.pick(&[0, 1, 2, 5]) } else { 0 },
-        own: if looped { random.below(3) } else { 0 },
         parallel: if looped { random.below(4) } else { 0 },
         dead: random.pick(&[0, 0, 3]),
         dead_ties: 20,
@@ -532,11 +514,16 @@ pub fn loops_and_islands(random: &mut Random, number: usize) -> Feeder {
     feeder
 }
 
+/// Positions of the branches without a tie.
+fn without_ties(feeder: &Feeder) -> Vec<usize> {
+    let tie = |k: usize| feeder.switches.iter().any(|s| usize::from(s.branch) == k && s.flags & TIE != 0);
+    (0..feeder.branches.len()).filter(|&k| !tie(k)).collect()
+}
+
 /// For each bus the piece of the base that it is in.
 fn pieces(feeder: &Feeder) -> HashMap<u16, u16> {
-    let tie = |k: usize| feeder.switches.iter().any(|s| usize::from(s.branch) == k && s.flags & TIE != 0);
     let mut piece: HashMap<u16, u16> = feeder.buses.iter().map(|bus| (bus.id, bus.id)).collect();
-    for (_, branch) in feeder.branches.iter().enumerate().filter(|&(k, _)| !tie(k)) {
+    for branch in without_ties(feeder).into_iter().map(|k| &feeder.branches[k]) {
         let (a, b) = (piece[&branch.from], piece[&branch.to]);
         piece.values_mut().filter(|piece| **piece == a).for_each(|piece| *piece = b);
     }

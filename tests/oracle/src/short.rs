@@ -2,6 +2,7 @@
 
 use crate::ends::triangle_of_four;
 use crate::feeder::{triangle, Feeder, OPERABLE, TIE};
+use crate::random::Random;
 
 /// All strings of up to three bytes over a few.
 pub fn strings() -> impl Iterator<Item = Vec<u8>> {
@@ -105,6 +106,16 @@ pub fn numbered(buses: usize, branches: usize, switches: usize, number: usize) -
     feeder
 }
 
+/// A drawn one of these feeders; one with a branch from a bus to itself is drawn again.
+pub fn drawn(random: &mut Random, buses: usize, branches: usize, switches: usize) -> Feeder {
+    let mut draw = || numbered(buses, branches, switches, random.below(how_many(buses, branches, switches)));
+    let mut feeder = draw();
+    while feeder.has_own_loop() {
+        feeder = draw();
+    }
+    feeder
+}
+
 /// Every feeder of at most two buses and two branches with one switch at most on each, in the list above.
 pub fn two_buses() -> impl Iterator<Item = Feeder> {
     let sizes = [(0, 0), (1, 0), (1, 1), (1, 2), (2, 0), (2, 1), (2, 2)];
@@ -115,8 +126,8 @@ pub fn two_buses() -> impl Iterator<Item = Feeder> {
 }
 
 /// Every feeder of one branch that has two switches, and of those of two branches, with two switches on one at least, one in so many.
-pub fn two_switches() -> impl Iterator<Item = Feeder> {
-    let sizes = [(1, 1, 1), (2, 1, 1), (1, 2, 61), (2, 2, 83)];
+pub fn two_switches(step: usize) -> impl Iterator<Item = Feeder> {
+    let sizes = [(1, 1, 1), (2, 1, 1), (1, 2, 61), (2, 2, step)];
     sizes.into_iter().flat_map(|(buses, branches, step)| {
         let numbers = (0..how_many(buses, branches, AT_MOST_TWO)).step_by(step);
         let feeders = numbers.map(move |number| numbered(buses, branches, AT_MOST_TWO, number));

@@ -55,9 +55,9 @@ fn radial_base(feeder: &Feeder) -> bool {
 
 fn few_buses(random: &mut Random) -> Vec<u8> {
     let any = |random: &mut Random| {
-        let (buses, branches) = random.pick(&[(1, 0), (1, 1), (2, 1), (2, 2), (3, 2), (3, 3), (3, 3), (3, 3)]);
+        let (buses, branches) = random.pick(&[(1, 0), (2, 0), (2, 1), (2, 2), (3, 2), (3, 3), (3, 3), (3, 3)]);
         let switches = random.pick(&[short::AT_MOST_ONE, short::AT_MOST_TWO, short::AT_MOST_TWO]);
-        short::numbered(buses, branches, switches, random.below(short::how_many(buses, branches, switches)))
+        short::drawn(random, buses, branches, switches)
     };
     feeder(random, any).text()
 }

@@ -5,6 +5,7 @@ use crate::check::TRIANGLE;
 use crate::expected::{expected, Answered, Expected};
 use crate::reckoning::form::{self, with_form, Form};
 use crate::reckoning::plan::{self, open_on, Pair};
+use crate::reckoning::repair::repaired;
 use crate::reckoning::searches::{Searches, Slip};
 use crate::reckoning::{judge, reader, Network, Refusal};
 use crate::{short, wrong_ends, wrong_forms};
@@ -53,6 +54,14 @@ pub enum Reading {
     CutBehindLine,
     ThirdSwitchTaken,
     SecondSwitchRefused,
+    OwnLoopTaken,
+    OwnLoopDropped,
+    SeventeenBeforeThree,
+    SeventeenBeforeFive,
+    SeventeenBeforeSix,
+    SeventeenInServiceAlone,
+    SeventeenBehindAll,
+    SeventeenForParallels,
 }
 
 /// Mistakes in the 86 lines; those with two switches on a branch are in `wrong_ends`.
@@ -84,7 +93,7 @@ pub enum Print {
     RefusesAll,
 }
 
-const READING: [Reading; 31] = [
+const READING: [Reading; 39] = [
     Reading::LowerCaseTaken,
     Reading::CarriageReturnTaken,
     Reading::UnendedLastLineTaken,
@@ -116,6 +125,14 @@ const READING: [Reading; 31] = [
     Reading::CutBehindLine,
     Reading::ThirdSwitchTaken,
     Reading::SecondSwitchRefused,
+    Reading::OwnLoopTaken,
+    Reading::OwnLoopDropped,
+    Reading::SeventeenBeforeThree,
+    Reading::SeventeenBeforeFive,
+    Reading::SeventeenBeforeSix,
+    Reading::SeventeenInServiceAlone,
+    Reading::SeventeenBehindAll,
+    Reading::SeventeenForParallels,
 ];
 const PLAN: [Plan; 6] = [
     Plan::ByBranchPosition,
@@ -238,6 +255,7 @@ impl Reading {
             Reading::EmptyLastLineTaken => text.ends_with(b"\n\n").then(|| text[..text.len() - 1].to_vec()),
             Reading::CutAtLongestText => text.get(..LONGEST_TEXT).map(<[u8]>::to_vec),
             Reading::CutBehindLine => text.get(..LONGEST_TEXT + SUPPLY_LENGTH).map(<[u8]>::to_vec),
+            Reading::OwnLoopDropped => repaired(text).ok().map(|left| left.text.into_bytes()),
             _ => self.other_line(text),
         }
     }
@@ -300,6 +318,12 @@ impl Reading {
                 Some(Refusal { number: 2, place: right.place + 1 })
             }
             Reading::ThirdSwitchTaken if right.number == 8 => number(0),
+            Reading::OwnLoopTaken if right.number == 17 => number(0),
+            Reading::SeventeenBeforeThree if right.number == 3 && equal_ends(line?) => number(17),
+            Reading::SeventeenBeforeFive if right.number == 5 && equal_ends(line?) => number(17),
+            Reading::SeventeenBeforeSix if right.number == 6 && equal_ends(line?) => number(17),
+            Reading::SeventeenInServiceAlone if right.number == 17 && out_of_service(line?) => number(0),
+            Reading::SeventeenBehindAll if right.number == 17 => repaired(text).err(),
             Reading::OutOfServiceNotJudged if [5, 6].contains(&right.number) && out_of_service(line?) => number(0),
             _ => None,
         }
@@ -321,6 +345,11 @@ impl Reading {
                 (!judge::tree(network, &in_service)).then_some(Refusal { number: 15, place: 0 })
             }
             Reading::SecondSwitchRefused if network.has_two_on_branch() => Some(Refusal { number: 8, place: 0 }),
+            Reading::SeventeenForParallels => {
+                let all = vec![true; network.branches.len()];
+                let parallel = (0..all.len()).any(|k| form::parallel(network, &all, k));
+                parallel.then_some(Refusal { number: 17, place: 0 })
+            }
             Reading::LineDemanded if network.supply.is_none() => Some(Refusal { number: 2, place: 0 }),
             Reading::NegativeZeroRefused if network.branches.iter().any(|b| negative_zero(b.r)) => {
                 Some(Refusal { number: 5, place: 0 })
@@ -338,6 +367,11 @@ fn base_is_no_tree(text: &[u8]) -> bool {
 /// A whole branch line with status 00.
 fn out_of_service(line: &[u8]) -> bool {
     line.starts_with(b"03") && line.ends_with(b"00\n")
+}
+
+/// A whole branch line whose ends are one id.
+fn equal_ends(line: &[u8]) -> bool {
+    line.starts_with(b"03") && line.len() == 29 && line[2..6] == line[6..10]
 }
 
 /// A 1 in a later line goes before a higher number in an earlier one.

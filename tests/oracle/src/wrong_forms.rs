@@ -15,7 +15,6 @@ pub enum Mistake {
     IslandsBeforeLoop,
     LastClosing,
     FirstOnWalk,
-    EqualEndsPassed,
     ParallelsPassed,
     LastBusKeepsLabel,
     OpenOnesAdded,
@@ -28,7 +27,7 @@ pub enum Mistake {
     AnyClosedMakesLive,
 }
 
-pub const ALL: [Mistake; 18] = [
+pub const ALL: [Mistake; 17] = [
     Mistake::PiecesForIslands,
     Mistake::OneUnlessTree,
     Mistake::NoIslandsBesideLoop,
@@ -36,7 +35,6 @@ pub const ALL: [Mistake; 18] = [
     Mistake::IslandsBeforeLoop,
     Mistake::LastClosing,
     Mistake::FirstOnWalk,
-    Mistake::EqualEndsPassed,
     Mistake::ParallelsPassed,
     Mistake::LastBusKeepsLabel,
     Mistake::OpenOnesAdded,
@@ -102,13 +100,11 @@ impl Mistake {
 
     /// The branch that is told of live branches with a loop.
     fn closing(self, network: &Network, live: &[bool]) -> Option<usize> {
-        let equal_ends = |k: usize| network.branches[k].from == network.branches[k].to;
         let mut closing = (0..live.len()).filter(|&k| closes(network, live, k));
         match self {
             Mistake::LastClosing => closing.last(),
             Mistake::FirstOnWalk => first_on_walk(network, live),
-            Mistake::EqualEndsPassed => closing.find(|&k| !equal_ends(k)),
-            Mistake::ParallelsPassed => closing.find(|&k| equal_ends(k) || !parallel(network, live, k)),
+            Mistake::ParallelsPassed => closing.find(|&k| !parallel(network, live, k)),
             _ => closing.next(),
         }
     }

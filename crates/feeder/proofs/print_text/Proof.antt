@@ -9,7 +9,7 @@ use Rattle.printing.specs.LineTexts.{length-refusal}
 use Rattle.answers.specs.Printing.{printedBy}
 use Rattle.answers.specs.PrintingLaws.{printed-short, printed-count, printed-by-call}
 use borrow.Author.Needs.{needs}
-use Rattle.feeder.proofs.Laws.{counts}
+use Rattle.input.specs.CountLaws.{counts}
 use Rattle.feeder.proofs.print_text.Statement.{statement}
 use Rattle.feeder.proofs.print_text.Tie as tie
 

@@ -1,11 +1,13 @@
-//! An independent reckoning, written from the sentences of document 01 and of document 02's Points 2, 4, 5 and 6; it shares no code with the original or with the crates.
+//! An independent reckoning, written from the sentences of document 01 and of document 02's Points 2, 4, 5, 6 and 7; it shares no code with the original or with the crates.
 //! `reader` gives the verdict on any byte string, `plan` the planner's answer, `resume` that for a plan cut off, `form` what the live branches of a
-//! state are, `judge` looks at these by another method, `searches` steps through document 01's searches.
+//! state are, `judge` looks at these by another method, `searches` steps through document 01's searches, `repair` drops the lines of branches from a bus to
+//! itself.
 
 pub mod form;
 pub mod judge;
 pub mod plan;
 pub mod reader;
+pub mod repair;
 pub mod resume;
 pub mod searches;
 

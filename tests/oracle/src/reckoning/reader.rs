@@ -1,4 +1,5 @@
-//! Document 01, sections "Frames" and "Refusals and their places", document 02's 05 line and its third switch: the verdict on any byte string.
+//! Document 01, sections "Frames" and "Refusals and their places", document 02's 05 line, its third switch and its branches from a bus to itself: the verdict
+//! on any byte string.
 
 use super::{judge, Branch, Bus, Network, Refusal, Switch};
 
@@ -124,7 +125,12 @@ impl SoFar {
     fn branch_line(&mut self, fields: &mut Fields) -> Result<(), u8> {
         let (from, to) = (self.bus_at(fields.u16()), self.bus_at(fields.u16()));
         let (r, status) = (fields.f64(), fields.byte());
-        lowest(&[(3, status > 1), (5, !within(r, 0.0, 1_000.0)), (6, from.is_none() || to.is_none())])?;
+        lowest(&[
+            (3, status > 1),
+            (5, !within(r, 0.0, 1_000.0)),
+            (6, from.is_none() || to.is_none()),
+            (17, from == to),
+        ])?;
         let branch = from.zip(to).map(|(from, to)| Branch { from, to, r, in_service: status == 1 });
         self.network.branches.extend(branch);
         Ok(())

@@ -55,7 +55,7 @@ pub enum Slip {
     DrawnInBase,
     SupplyIdAsPosition,
     LoadsByTree,
-    QueueOf255,
+    QueueOf254,
     PositionsOfSevenBits,
     LastSwitchDecides,
     AnyClosedMakesLive,
@@ -115,7 +115,7 @@ impl Slip {
         Slip::DrawnInBase,
         Slip::SupplyIdAsPosition,
         Slip::LoadsByTree,
-        Slip::QueueOf255,
+        Slip::QueueOf254,
         Slip::PositionsOfSevenBits,
         Slip::LastSwitchDecides,
         Slip::AnyClosedMakesLive,
@@ -153,7 +153,7 @@ impl Slip {
     /// The fewest buses that a text which shows it has.
     pub fn needs_buses(self) -> usize {
         match self {
-            Slip::QueueOf255 => 256,
+            Slip::QueueOf254 => 256,
             Slip::PositionsOfSevenBits => 129,
             _ => 0,
         }
@@ -324,7 +324,7 @@ impl<'a> Searches<'a> {
         let mut order = self.walk(live, to, barred, self.slips(Slip::DepthFirst)).0;
         match self.slip {
             Some(Slip::LoadsBackwards) => order.reverse(),
-            Some(Slip::QueueOf255) => order.truncate(255),
+            Some(Slip::QueueOf254) => order.truncate(254),
             _ => (),
         }
         order.iter().fold(0.0, |load, &bus| load + self.network.buses[bus].pd)

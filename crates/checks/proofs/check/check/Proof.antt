@@ -17,7 +17,7 @@ enum-told-2 : tie.Need-enum-told-2
 enum-told-2 c = search needs
 
 returns : tie.Need-returns
-returns c = refused-then _ _ _ _ _ (c .enum-told2 .given .1) (c .before .before .judge-head .ensures) ∙ sym (whole-check (c .before .before .before .args .network))
+returns c = refused-then _ _ _ _ _ (c .enum-told2 .given .1) (c .before .before .judge-head .ensures) ∙ sym (whole-check _ (c .before .before .before .args .network))
 
 -- the head passed
 counts : (c : tie.After-enum-told)
@@ -38,7 +38,7 @@ returns-2 c =
     let head = c .before .before .before in
     refused-then _ _ _ _ _ (c .enum-told4 .given .1) (c .before .before .check-buses-and-branches .ensures)
     ∙ accepted-then _ _ _ (head .enum-told .given .1) (head .before .before .judge-head .ensures)
-    ∙ sym (whole-check (head .before .before .before .args .network))
+    ∙ sym (whole-check _ (head .before .before .before .args .network))
 
 check-switches-requires : tie.Need-check-switches-requires
 check-switches-requires c κs = counts (c .before .before .before)
@@ -50,7 +50,7 @@ returns-3 c =
     c .check-switches .ensures
     ∙ accepted-then _ _ _ (ends .enum-told3 .given .1) (ends .before .before .check-buses-and-branches .ensures)
     ∙ accepted-then _ _ _ (head .enum-told .given .1) (head .before .before .judge-head .ensures)
-    ∙ sym (whole-check (head .before .before .before .args .network))
+    ∙ sym (whole-check _ (head .before .before .before .args .network))
 
 pub check-spec : {M : Type 1} → statement M
 check-spec =

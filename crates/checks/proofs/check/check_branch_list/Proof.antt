@@ -20,13 +20,13 @@ use Rattle.checks.proofs.check.check_branch_list.Statement.{statement}
 use Rattle.checks.proofs.check.check_branch_list.Tie as tie
 
 abbrev Inv-loop : tie.InvT-loop
-Inv-loop count start bus-count ids first next branches place₀ i₀ place i =
+Inv-loop count start bus-count ids first next stored branches place₀ i₀ place i =
     (i ≤ count) × (place ≡ start + i)
     × ((bus : ℕ → Bus) → Holding bus-count (map busId (table bus bus-count)) ids first next
-    → Passed (λ before. branchFaults (table bus bus-count)) start (λ j. getD branches j noBranch) count place i)
+    → Passed (λ before. branchFaults stored (table bus bus-count)) start (λ j. getD branches j noBranch) count place i)
 
 abbrev μ-loop : tie.MeasureT-loop
-μ-loop count start bus-count ids first next branches place₀ i₀ place i = count - i
+μ-loop count start bus-count ids first next stored branches place₀ i₀ place i = count - i
 
 loop-holds : tie.Need-loop-holds Inv-loop μ-loop
 loop-holds c = (omega arith, sym (add-zero _), λ bus e. passed-none _ _ _ _)
@@ -57,7 +57,7 @@ judged : (c : tie.After-judge-branch Inv-loop μ-loop)
     → let loop = c .before .before .before .before .before in
     let a = loop .before .args in
     (bus : ℕ → Bus) → Holding (a .bus-count) (map busId (table bus (a .bus-count))) (a .ids .now) (a .first .now) (a .next .now)
-    → answerOf (c .judge-branch .result) ≡ judge (branchFaults (table bus (a .bus-count)) (getD (a .t1) (loop .loop .i) noBranch)) (loop .loop .place)
+    → answerOf (c .judge-branch .result) ≡ judge (branchFaults (a .stored) (table bus (a .bus-count)) (getD (a .t1) (loop .loop .i) noBranch)) (loop .loop .place)
 judged c bus e =
     let to = c .before in
     let loop = to .before .before .before .before in
@@ -66,7 +66,7 @@ judged c bus e =
     let within : start .args .bus-count ≤ start .args .bus-count = omega arith in
     let from-listed = put-before e _ _ _ within (to .before .position-of .ensures) in
     let to-listed = put-before e _ _ _ within (to .position-of2 .ensures) in
-    c .judge-branch .ensures ∙ ap (λ l. judge l (loop .loop .place)) (branch-faults _ _ _ _ _ read from-listed to-listed)
+    c .judge-branch .ensures ∙ ap (λ l. judge l (loop .loop .place)) (branch-faults _ _ _ _ _ _ read from-listed to-listed)
 
 returns : tie.Need-returns Inv-loop μ-loop
 returns c bus e =

@@ -21,11 +21,11 @@ use Rattle.checks.proofs.check.check_buses_and_branches.Statement.{stat
 use Rattle.checks.proofs.check.check_buses_and_branches.Tie as tie
 
 abbrev Inv-loop : tie.InvT-loop
-Inv-loop network n m start buses ids₀ first₀ next₀ place₀ i₀ ids first next place i =
+Inv-loop network stored n m start buses ids₀ first₀ next₀ place₀ i₀ ids first next place i =
     Passed busFaults 2 (λ j. getD (network .buses) j noBus) n place i × Holding i (map busId (listed noBus (network .buses) i)) ids first next
 
 abbrev μ-loop : tie.MeasureT-loop
-μ-loop network n m start buses ids₀ first₀ next₀ place₀ i₀ ids first next place i = n - i
+μ-loop network stored n m start buses ids₀ first₀ next₀ place₀ i₀ ids first next place i = n - i
 
 cast-n : tie.Need-cast-n Inv-loop μ-loop
 cast-n c = search needs

@@ -1,148 +1,15 @@
--- `check_network` meets its contract: the records' refusal first; without a supply they decide; then 14 where no bus has the id, and 15 where the base is not radial, as
--- the rows of the graph and the flags of its live branches say.
-use mathlib.Core.Path.{_≡_, sym, _∙_}
-use native.Mathlib.Omega.{arith}
+-- `check_network` meets its contract: what every call tests first, by `check_as`.
 use borrow.Author.Needs.{needs}
-use borrow.Author.Tests.{not-true, not-false}
-use Rattle.network.specs.Answers.{accepted}
-use Rattle.network.specs.AnswerLaws.{accepted-so, refused-first, accepted-then}
-use Rattle.network.specs.Check.{checkRecords}
-use Rattle.network.specs.Records.{recordsOf}
-use Rattle.network.proofs.ArrayLengths.{buses-256}
-use Rattle.states.specs.BaseLaws.{base-good}
-use Rattle.states.specs.Listed.{state-accepted, few-buses, few-branches, few-switches}
-use Rattle.states.specs.Live.{baseState}
-use Rattle.feeders.specs.Feeder.{radialIn}
-use Rattle.feeders.specs.FeederRowLaws.{state-flags, flags-radial}
 use Rattle.feeders.specs.Supply.{checkNetwork}
-use Rattle.feeders.proofs.Supplying.{records-decide, bus-missing, base-passes, base-fails}
 use Rattle.feeders.proofs.supply.check_network.Statement.{statement}
 use Rattle.feeders.proofs.supply.check_network.Tie as tie
 
-check-requires : tie.Need-check-requires
-check-requires c κs = search needs
-
-enum-known-number : tie.Need-enum-known-number
-enum-known-number c = search needs
+check-as-requires : tie.Need-check-as-requires
+check-as-requires c κs = search needs
 
 returns : tie.Need-returns
 unfolding checkNetwork
-returns c = refused-first _ _ _ _ _ (c .before .number .given .1) (c .before .before .before .check .ensures)
-
-enum-told : tie.Need-enum-told
-enum-told c = search needs
-
-returns-2 : tie.Need-returns-2
-unfolding checkNetwork
-returns-2 c =
-    let told = c .before .before in
-    records-decide _ (not-true _ (c .if1 .taken)) ∙ accepted-then _ _ _ (told .enum-told .given .1) (told .before .before .check .ensures)
-
--- behind the records' test, with a supply
-passed : (c : tie.Else1) → checkRecords (recordsOf (c .before .before .before .before .before .args .network)) ≡ accepted tt
-passed c = let told = c .before .before in accepted-so (told .enum-told .given .1) (told .before .before .check .ensures)
-
-add-place : tie.Need-add-place
-add-place c = omega (arith, few-buses _ (passed (c .before)))
-
-add-place-2 : tie.Need-add-place-2
-add-place-2 c = let ok = passed (c .before .before) in omega (arith, few-buses _ ok, few-branches _ ok)
-
-add-place-3 : tie.Need-add-place-3
-add-place-3 c = let ok = passed (c .before .before .before) in omega (arith, few-buses _ ok, few-branches _ ok, few-switches _ ok)
-
-bus-index-requires : tie.Need-bus-index-requires
-bus-index-requires c κs = search needs
-
-enum-told-2 : tie.Need-enum-told-2
-enum-told-2 c = search needs
-
-enum-told-3 : tie.Need-enum-told-3
-enum-told-3 c = search needs
-
-returns-3 : tie.Need-returns-3
-unfolding checkNetwork
-returns-3 c =
-    let found = c .before .before in
-    let named = found .before .before .before .before in
-    let told = named .before .before in
-    let start = told .before .before .before in
-    let n = start .args .network in
-    bus-missing n (buses-256 n (start .good .0)) (passed named) (not-false _ (named .if1 .left)) (found .bus-index .ensures) (c .enum-told3 .given .1)
-    ∙ accepted-then _ _ _ (told .enum-told .given .1) (told .before .before .check .ensures)
-
-build-base-configuration-requires : tie.Need-build-base-configuration-requires
-build-base-configuration-requires c κs = search needs
-
-live-branches-requires : tie.Need-live-branches-requires
-live-branches-requires c κs = search needs
-
-graph-of-requires : tie.Need-graph-of-requires
-graph-of-requires c κs = search needs
-
-is-radial-requires : tie.Need-is-radial-requires
-is-radial-requires c κs = search needs
-
--- what the rows and the flags say is the base's radiality
-judged : (c : tie.After-is-radial)
-    → let start = c .before .before .before .before .before .before .before .before .before .before .before .before .before .before .before in
-    let N = recordsOf (start .args .network) in
-    c .is-radial .result ≡ radialIn N (baseState N)
-judged c =
-    let graph = c .before in
-    let flags = graph .before in
-    let base = flags .before in
-    let named = base .before .before .before .before .before .before .before in
-    let start = named .before .before .before .before .before in
-    let n = start .args .network in
-    let N = recordsOf n in
-    let ok = passed named in
-    let live = state-flags N (baseState N) 0 ok (state-accepted N (baseState N) 0 .1 (base-good N)) _ _ (base .build-base-configuration .ensures) (flags .live-branches .ensures) in
-    flags-radial n (buses-256 n (start .good .0)) ok (baseState N) _ _ (graph .graph-of .ensures) live _ (c .is-radial .ensures)
-
-returns-4 : tie.Need-returns-4
-unfolding checkNetwork
-returns-4 c =
-    let bus = c .before .before .before .before .before in
-    let found = bus .before .before in
-    let named = found .before .before .before .before in
-    let told = named .before .before in
-    let start = told .before .before .before in
-    let n = start .args .network in
-    base-passes n (buses-256 n (start .good .0)) (passed named) (not-false _ (named .if1 .left)) (found .bus-index .ensures) (bus .enum-told2 .given .1) (sym (judged (c .before)) ∙ c .if2 .taken)
-    ∙ accepted-then _ _ _ (told .enum-told .given .1) (told .before .before .check .ensures)
-
-returns-5 : tie.Need-returns-5
-unfolding checkNetwork
-returns-5 c =
-    let bus = c .before .before .before .before .before in
-    let found = bus .before .before in
-    let named = found .before .before .before .before in
-    let told = named .before .before in
-    let start = told .before .before .before in
-    let n = start .args .network in
-    base-fails n (buses-256 n (start .good .0)) (passed named) (not-false _ (named .if1 .left)) (found .bus-index .ensures) (bus .enum-told2 .given .1) (sym (judged (c .before)) ∙ c .if2 .left)
-    ∙ accepted-then _ _ _ (told .enum-told .given .1) (told .before .before .check .ensures)
+returns c = c .check-as .ensures
 
 pub check-network-spec : {M : Type 1} → statement M
-check-network-spec =
-    tie.close
-    (tie.spec
-    check-requires
-    enum-known-number
-    returns
-    enum-told
-    returns-2
-    add-place
-    add-place-2
-    add-place-3
-    bus-index-requires
-    enum-told-2
-    enum-told-3
-    returns-3
-    build-base-configuration-requires
-    live-branches-requires
-    graph-of-requires
-    is-radial-requires
-    returns-4
-    returns-5)
+check-network-spec = tie.close (tie.spec check-as-requires returns)

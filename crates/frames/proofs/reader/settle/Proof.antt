@@ -7,8 +7,8 @@ use Rattle.frames.specs.Reading.{readingOf}
 use Rattle.frames.proofs.reader.settle.Statement.{statement}
 use Rattle.frames.proofs.reader.settle.Tie as tie
 
-check-network-requires : tie.Need-check-network-requires
-check-network-requires c κs = search needs
+check-as-requires : tie.Need-check-as-requires
+check-as-requires c κs = search needs
 
 enum-known-v : tie.Need-enum-known-v
 enum-known-v c = search needs
@@ -20,7 +20,7 @@ returns : tie.Need-returns
 returns c =
     let k = c .before .before in
     let d = k .before .before in
-    c .refusal .ensures ∙ ap readingOf (refused-first _ _ _ _ _ (k .v .given .1) (d .check-network .ensures))
+    c .refusal .ensures ∙ ap readingOf (refused-first _ _ _ _ _ (k .v .given .1) (d .check-as .ensures))
 
 enum-told : tie.Need-enum-told
 enum-told c = search needs
@@ -36,7 +36,7 @@ returns-2 c =
     let k = c .before .before in
     let v = k .before .before in
     let d = v .before .before in
-    c .refusal2 .ensures ∙ ap readingOf (refused-first _ _ _ _ _ (k .stopped .given .1) refl ∙ accepted-then _ _ _ (v .enum-told .given .1) (d .check-network .ensures))
+    c .refusal2 .ensures ∙ ap readingOf (refused-first _ _ _ _ _ (k .stopped .given .1) refl ∙ accepted-then _ _ _ (v .enum-told .given .1) (d .check-as .ensures))
 
 enum-told-2 : tie.Need-enum-told-2
 enum-told-2 c = search needs
@@ -48,13 +48,13 @@ returns-3 c =
     let d = v .before .before in
     let s = d .before .before in
     ap (λ n. record { verdict = Accepted; network = n }) (s .pre)
-    ∙ ap readingOf (accepted-then _ _ _ (c .enum-told2 .given .1) refl ∙ accepted-then _ _ _ (v .enum-told .given .1) (d .check-network .ensures))
+    ∙ ap readingOf (accepted-then _ _ _ (c .enum-told2 .given .1) refl ∙ accepted-then _ _ _ (v .enum-told .given .1) (d .check-as .ensures))
 
 pub settle-spec : {M : Type 1} → statement M
 settle-spec =
     tie.close
     (tie.spec
-    check-network-requires
+    check-as-requires
     enum-known-v
     refusal-requires
     returns

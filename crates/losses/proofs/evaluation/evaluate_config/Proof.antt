@@ -7,7 +7,7 @@ use Rattle.network.specs.AnswerLaws.{accepted-so, refused-first, accepted-then}
 use Rattle.network.specs.Records.{recordsOf}
 use Rattle.network.proofs.ArrayLengths.{buses-256}
 use Rattle.feeders.specs.FeederRowLaws.{state-flags, flags-radial}
-use Rattle.feeders.specs.SupplyLaws.{network-records}
+use Rattle.feeders.specs.SupplyLaws.{network-records, network-supply}
 use Rattle.losses.specs.FeederLoss.{feeder-loss}
 use Rattle.losses.specs.LossCall.{checkFed, judgeFed, lossCall}
 use Rattle.losses.specs.LossCallLaws.{fed-accepted, fed-judged}
@@ -117,7 +117,7 @@ returns-4 c =
     let good = accepted-so (passed .enum-told2 .given .1) (state .check-state .ensures) in
     let live = state-flags _ _ 0 (network-records _ ok) good _ _ (flags .before .of .ensures) (flags .live-branches .ensures) in
     let radial = fed-accepted _ _ .0 (accepted-so (told .enum-told3 .given .1) (fed judged)) in
-    ap accepted (c .live-loss .ensures ∙ feeder-loss n (buses-256 n (start .good .0)) ok _ radial _ _ _ (graph .graph-of .ensures) (loads .loads-of .ensures) live)
+    ap accepted (c .live-loss .ensures ∙ feeder-loss n (buses-256 n (start .good .0)) (network-records _ ok) (network-supply _ ok) _ radial _ _ _ (graph .graph-of .ensures) (loads .loads-of .ensures) live)
     ∙ accepted-then _ _ _ (told .enum-told3 .given .1) (fed judged)
     ∙ accepted-then _ _ _ (passed .enum-told2 .given .1) (state .check-state .ensures)
     ∙ accepted-then _ _ _ (head .enum-told .given .1) (network .check-network .ensures)

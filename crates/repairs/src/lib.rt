@@ -1,0 +1,2 @@
+// The repair of stored texts.
+pub mod repair;
