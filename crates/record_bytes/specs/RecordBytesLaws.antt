@@ -24,7 +24,7 @@ use Rattle.frames.specs.FirstFault.{judgement-then}
 use Rattle.frames.specs.Proof.{claim, passed}
 use Rattle.frames.specs.RecordLaws.{Kind, headKind, busKind, branchKind, switchKind, supplyKind}
 use Rattle.frames.specs.Text.{readText}
-use Rattle.printing.specs.LineTexts.{length-lines}
+use Rattle.printing.specs.LineTexts.{length-lines, lines-append}
 use Rattle.record_bytes.specs.RecordBytes.{bytesOf, frameBytes, textOfBytes, writtenRecords, numberBytes, fieldBytes, recordBytes, bytesOfRecords}
 use Rattle.record_bytes.specs.RecordSteps.{textFrom, text-from, frame-from}
 use Rattle.texts.specs.Texts.{writtenText}
@@ -57,11 +57,6 @@ number-digits (suc n) number =
     let twice : 2 * suc n ≡ suc (suc (2 * n)) = omega arith in
     rw (twice, weight n, number-digits n, first-two (2 * n) number)
 
-digits-append : (a b : List ℕ) → flatMap (digits 2) (a ++ b) ≡ flatMap (digits 2) a ++ flatMap (digits 2) b
-unfolding flatMap
-digits-append [] b = refl
-digits-append (x ∷ a) b = rw (digits-append a b, append-assoc)
-
 -- widths that are whole bytes
 abbrev Even : List ℕ → Type 0
 Even ws = Each (λ w. 2 * (w / 2) ≡ w) ws
@@ -69,7 +64,7 @@ Even ws = Each (λ w. 2 * (w / 2) ≡ w) ws
 field-digits : (ws : List ℕ) (f : Fields ws) → Even ws → flatMap (digits 2) (fieldBytes ws f) ≡ writeFields ws f
 unfolding fieldBytes writeFields
 field-digits [] f h = unfold flatMap in refl
-field-digits (w ∷ ws) f h = digits-append (numberBytes (w / 2) (f .0)) (fieldBytes ws (f .1)) ∙ rw (number-digits (w / 2) (f .0), h .0, field-digits ws (f .1) (h .1))
+field-digits (w ∷ ws) f h = lines-append (digits 2) (numberBytes (w / 2) (f .0)) (fieldBytes ws (f .1)) ∙ rw (number-digits (w / 2) (f .0), h .0, field-digits ws (f .1) (h .1))
 
 field-length : (ws : List ℕ) (f : Fields ws) → Even ws → 2 * length (fieldBytes ws f) ≡ total ws
 field-length ws f h = sym (length-lines (digits 2) 2 (length-digits 2) (fieldBytes ws f)) ∙ ap length (field-digits ws f h) ∙ length-fields ws f
