@@ -1,2 +1,4 @@
 // The answer to a text, as it is printed.
+#![tactic(auto)]
+
 pub mod printer;

@@ -26,7 +26,7 @@ use slices::writer::write_bytes;
 use states::configuration::{NetworkConfiguration, build_base_configuration};
 
 // How many bytes are printed, or document 01's refusal number and place.
-#[derive(Drop)]
+#[derive(Clone, Copy)]
 pub enum TextAnswer {
     Printed(u16),
     Refused { number: u8, place: u16 },

@@ -1,4 +1,6 @@
 // The cases that test programs read: a line 'LENGTH NAME', a text of that length, a line feed, and lines of the program's own.
+#![tactic(auto)]
+
 ghost use Rattle.std.specs.Prelude.{◌≡◌, ◌≤◌, length};
 ghost use Rattle.numbers.specs.UpTo.{table};
 ghost use Rattle.cases.specs.Cases.{Inside, part_of, line_length, line_behind, digit_of, leading_number, first_case, state_bytes};
@@ -7,21 +9,21 @@ use bytes::scan::find;
 use numbers::at_most;
 
 // From one position of an input to another.
-#[derive(Drop)]
+#[derive(Clone, Copy)]
 pub struct Part {
     pub from: usize,
     pub to: usize,
 }
 
 // Where the name and the text of a case stand.
-#[derive(Drop)]
+#[derive(Clone, Copy)]
 pub struct Case {
     pub name: Part,
     pub text: Part,
 }
 
 // A number that begins a line, and how many digits it has.
-#[derive(Drop)]
+#[derive(Clone, Copy)]
 struct Number {
     value: usize,
     digits: usize,

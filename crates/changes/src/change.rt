@@ -21,7 +21,7 @@ use states::configuration::{NetworkConfiguration, check_state, live_branches};
 
 // A change from the present state to the wanted one: its refusal or none, the feeder's graph, and a flag for each branch live in the one and in the
 // other.
-#[derive(Drop)]
+#[derive(Clone, Copy)]
 pub struct Change {
     pub verdict: Verdict,
     pub graph: Graph,

@@ -1,2 +1,4 @@
 // The check of a feeder's records.
+#![tactic(auto)]
+
 pub mod check;

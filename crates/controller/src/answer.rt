@@ -28,7 +28,7 @@ use texts::writer::WriteAnswer;
 
 // Number 0 with what was asked for, or document 01's refusal number and place.
 #[repr(C)]
-#[derive(Drop)]
+#[derive(Clone, Copy)]
 pub struct CallAnswer {
     pub number: u8,
     pub place: u16,
@@ -37,7 +37,7 @@ pub struct CallAnswer {
 
 // Number 0 with the values of the 81 line, or document 01's refusal number and place beside zeros.
 #[repr(C)]
-#[derive(Drop)]
+#[derive(Clone, Copy)]
 pub struct SolvedAnswer {
     pub number: u8,
     pub place: u16,

@@ -37,7 +37,7 @@ fn is_turned(live: bool, places: &[u16; Graph::MAX_BUSES], from: u8, to: u8) -> 
 }
 
 // The ends of each branch.
-#[derive(Drop)]
+#[derive(Clone, Copy)]
 struct Ends {
     from: [u8; Graph::MAX_BRANCHES],
     to: [u8; Graph::MAX_BRANCHES],

@@ -1,2 +1,4 @@
 // The branches of a graph drawn away from a bus.
+#![tactic(auto)]
+
 pub mod drawing;

@@ -33,7 +33,7 @@ use searches::start::{Start, start_of};
 use states::configuration::{NetworkConfiguration, live_branches, open_counts};
 
 // A state that was tried, with its loss. Where none was found, the round's state.
-#[derive(Drop)]
+#[derive(Clone, Copy)]
 struct Trial {
     found: bool,
     configuration: NetworkConfiguration,
@@ -41,14 +41,14 @@ struct Trial {
 }
 
 // The position of a section switch, where there is one.
-#[derive(Drop)]
+#[derive(Clone, Copy)]
 enum Section {
     At(u16),
     Absent,
 }
 
 // Where the exchange stands after some rounds.
-#[derive(Drop)]
+#[derive(Clone, Copy)]
 struct BranchExchange {
     configuration: NetworkConfiguration,
     loss: f64,

@@ -1,2 +1,4 @@
 // Document 01's branch exchange.
+#![tactic(auto)]
+
 pub mod exchange;

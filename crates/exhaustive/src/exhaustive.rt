@@ -30,7 +30,7 @@ use searches::start::{Start, start_of};
 use states::configuration::{NetworkConfiguration, live_branches};
 
 // The least radial state so far with its loss, the base with its loss where none was found yet, and how many radial states there were.
-#[derive(Drop)]
+#[derive(Clone, Copy)]
 struct ExhaustiveSearch {
     found: bool,
     configuration: NetworkConfiguration,
@@ -39,7 +39,7 @@ struct ExhaustiveSearch {
 }
 
 // The ties in list order: how many there are, and the branch of each.
-#[derive(Drop)]
+#[derive(Clone, Copy)]
 struct Ties {
     count: usize,
     on: [u16; PowerNetwork::MAX_TIES],

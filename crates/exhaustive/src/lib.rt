@@ -1,2 +1,4 @@
 // Document 01's exhaustive search.
+#![tactic(auto)]
+
 pub mod exhaustive;

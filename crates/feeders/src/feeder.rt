@@ -28,7 +28,7 @@ fn end_at<'a>(
 }
 
 // The positions of a branch's two ends.
-#[derive(Drop)]
+#[derive(Clone, Copy)]
 struct BranchEnds {
     from: u8,
     to: u8,
@@ -52,7 +52,7 @@ fn ends_of<'a>(
 }
 
 // The positions of the ends of each branch.
-#[derive(Drop)]
+#[derive(Clone, Copy)]
 struct Ends {
     from: [u8; Graph::MAX_BRANCHES],
     to: [u8; Graph::MAX_BRANCHES],

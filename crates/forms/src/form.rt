@@ -46,7 +46,7 @@ fn merge(label: &mut [u8; Graph::MAX_BUSES], kept: u8, gone: u8)
 const NO_CLOSING: u16 = 512;
 
 // The first branch that closed a loop, NO_CLOSING where none has, and how many have made one piece of two.
-#[derive(Drop)]
+#[derive(Clone, Copy)]
 struct Added {
     closing: u16,
     links: u16,

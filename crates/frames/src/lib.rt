@@ -1,4 +1,6 @@
 // The reader of the frame text.
+#![tactic(auto)]
+
 mod branch;
 mod bus;
 mod pass;

@@ -21,7 +21,7 @@ use record_lines::head;
 use record_lines::head::{Head, HeadRead};
 
 // A text's network, or its refusal beside a network in which nothing is listed.
-#[derive(Drop)]
+#[derive(Clone, Copy)]
 pub struct Reading {
     pub verdict: Verdict,
     pub network: PowerNetwork,

@@ -2,9 +2,8 @@
 use mathlib.Core.Path.{◌≡◌}
 use lib.ListN.{length}
 use denote.Laws.{Is}
-use denote.Struct.Field.{u8-field, u16-field}
 use denote.Struct.Laws.{vals}
-use Rattle.numbers.specs.Arrays.{length_of}
+use borrow.Author.Rules.{rules}
 use Rattle.graph.specs.declared.walks.PathBranches.{PathBranches}
 use Rattle.graph.specs.declared.walks.Walk.{Walk}
 use Rattle.graph.specs.contracts.walks.PathBranches as PathType
@@ -19,7 +18,7 @@ abbrev pub OwnedWalk : Walk → Type 0
 OwnedWalk w = Is WalkType.the_row w (vals WalkType.the_type WalkLaws.the_laws w)
 
 pub path_256 : (p : PathBranches) → Owned p → length p.branch ≡ 256
-path_256 p owned = length_of u16-field.into p.branch owned.1.1.1.0.1.0.1
+path_256 p owned = search rules
 
 pub walk_256 : (w : Walk) → OwnedWalk w → length w.bus ≡ 256
-walk_256 w owned = length_of u8-field.into w.bus owned.1.1.1.0.1.0.1
+walk_256 w owned = search rules

@@ -34,7 +34,7 @@ module _ (size : ℕ) where
   small_enter_all : (barred : ℕ) (o vs : List Visit) → Small size o → Small size vs → Small size (enter_all barred o vs)
   unfolding enter_all enter
   small_enter_all barred o [] a b = a
-  small_enter_all barred o (v ∷ vs) a b = small_enter_all barred _ vs (go (eqb v.bus barred || reached v.bus o)) b.1
+  small_enter_all barred o (v ∷ vs) a b = small_enter_all barred (enter barred o v) vs (go (eqb v.bus barred || reached v.bus o)) b.1
     where
       go : (t : Bool) → Small size (cond t o (o ++ (v ∷ [])))
       go true = a

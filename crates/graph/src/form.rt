@@ -4,7 +4,7 @@ ghost use Rattle.graph.specs.Form.{is_tree, fields_of};
 
 // What the live branches of a feeder are: a tree; a loop, with the first branch that closes one when they are added by rising position, and the islands beside
 // it; or islands and no loop. Islands are the connected pieces minus one.
-#[derive(Drop)]
+#[derive(Clone, Copy)]
 pub enum Form {
     Tree,
     Loop { branch: u16, islands: u16 },
@@ -15,7 +15,7 @@ pub enum Form {
 const NO_BRANCH: u16 = 0xFFFF;
 
 // The fields of the frame 84.
-#[derive(Drop)]
+#[derive(Clone, Copy)]
 pub struct FormFields {
     pub islands: u16,
     pub branch: u16,

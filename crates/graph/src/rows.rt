@@ -7,7 +7,7 @@ use numbers::{at_most, wide8, wide16};
 
 // Half-branch 2k is branch k at its from bus, half-branch 2k + 1 is branch k at its to bus; far has the bus at its other end.
 // The row of a bus is its half-branches by rising position: first has the lowest, next the next higher one, NO_HALF is none.
-#[derive(Drop)]
+#[derive(Clone, Copy)]
 pub struct Graph {
     pub bus_count: u16,
     pub branch_count: u16,

@@ -3,7 +3,7 @@ use crate::rows::Graph;
 
 // The buses that a walk reached, in order, and the branch by which each was reached: the first count entries, then 0. No branch leads
 // to the first bus, and 0 stands there.
-#[derive(Drop)]
+#[derive(Clone, Copy)]
 pub struct Walk {
     pub count: u16,
     pub bus: [u8; Graph::MAX_BUSES],
@@ -11,7 +11,7 @@ pub struct Walk {
 }
 
 // The branches of a path, in order: the first count entries, then 0.
-#[derive(Drop)]
+#[derive(Clone, Copy)]
 pub struct PathBranches {
     pub count: u16,
     pub branch: [u16; Graph::MAX_BUSES],

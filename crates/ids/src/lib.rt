@@ -1,2 +1,4 @@
 // Ids looked up in rows.
+#![tactic(auto)]
+
 pub mod rows;

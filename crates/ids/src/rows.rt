@@ -8,7 +8,7 @@ use network::topology::PowerNetwork;
 use numbers::{at_most, wide16};
 
 // The ids of a list by position, and the positions by their ids' buckets: first has the lowest position in a bucket, next the next higher one, NO_POSITION is none.
-#[derive(Drop)]
+#[derive(Clone, Copy)]
 pub struct IdRows {
     pub ids: [u16; IdRows::MAX_IDS],
     pub first: [u16; IdRows::BUCKETS],

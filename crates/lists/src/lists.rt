@@ -10,7 +10,7 @@ use graph::rows::Graph;
 use numbers::{at_most, wide8, wide16};
 
 // The list of bus u is near from at[u] to at[u + 1].
-#[derive(Drop)]
+#[derive(Clone, Copy)]
 pub struct LiveLists {
     pub at: [u16; Graph::MAX_BUSES + 1],
     pub near: [u8; Graph::MAX_HALVES],

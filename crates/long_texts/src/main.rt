@@ -1,4 +1,6 @@
 // Texts of half a megabyte, of one character each: digits without a line feed, line feeds alone, and a character that is no digit.
+#![tactic(auto)]
+
 ghost use Rattle.std.specs.Prelude.{◌≡◌, length};
 
 use libc::STDOUT_FILENO;

@@ -1,6 +1,8 @@
 // Reads the feeders and states on standard input and prints the bits of each loss. A case is a line 'LENGTH NAME', a frame text, a line
 // feed, and a line 'CHANGE STATE'. CHANGE is A (65) for 1,001 iterations, F (70) for a tie in place of the eleventh switch or W (87) for no
 // supply beside the number of one, which the records get once they are read, or a hyphen for none. STATE has a digit for each byte.
+#![tactic(auto)]
+
 ghost use Rattle.std.specs.Prelude.{◌≡◌, ◌≤◌, length};
 
 use cases::{MAX_STATE, first_case, line_behind, part_of, state_bytes};

@@ -17,7 +17,7 @@ use network::topology::PowerNetwork;
 use states::configuration::{NetworkConfiguration, check_state, live_branches};
 
 // The loss of a state in MW, or the refusal's number and place.
-#[derive(Drop)]
+#[derive(Clone, Copy)]
 pub enum LossAnswer {
     Loss(f64),
     Refused { number: u8, place: u16 },

@@ -1,4 +1,6 @@
 // The loss of a state.
+#![tactic(auto)]
+
 pub mod estimate;
 pub mod evaluation;
 pub mod loads;

@@ -11,7 +11,7 @@ use network::bus::{Bus, Power};
 use network::topology::{BusIndex, PowerNetwork};
 
 // The loads by bus position; and the supply's position, 0 where there is none.
-#[derive(Drop)]
+#[derive(Clone, Copy)]
 pub struct Loads {
     pub pd: [Power; PowerNetwork::MAX_BUSES],
     pub has_supply: bool,

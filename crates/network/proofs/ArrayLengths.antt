@@ -4,10 +4,8 @@ use mathlib.Core.Path.{◌≡◌}
 use lib.ListN.{length}
 use denote.Laws.{Is}
 use denote.Struct.Laws.{vals}
-use Rattle.numbers.specs.Arrays.{length_of}
+use borrow.Author.Rules.{rules}
 use Rattle.network.specs.declared.topology.PowerNetwork.{PowerNetwork}
-use Rattle.network.specs.contracts.bus.Bus as BusType
-use Rattle.network.specs.contracts.branch.Branch as BranchType
 use Rattle.network.specs.contracts.topology.PowerNetwork.{the_row, the_type}
 use Rattle.network.proofs.topology.PowerNetwork.TheLaws.{the_laws}
 
@@ -16,7 +14,7 @@ Owned n = Is the_row n (vals the_type the_laws n)
 
 module _ (n : PowerNetwork) (owned : Owned n) where
   pub buses_256 : length n.buses ≡ 256
-  buses_256 = length_of (BusType.the_type).to n.buses owned.1.1.0.1.0.1
+  buses_256 = search rules
 
   pub branches_512 : length n.branches ≡ 512
-  branches_512 = length_of (BranchType.the_type).to n.branches owned.1.1.1.0.1.0.1
+  branches_512 = search rules

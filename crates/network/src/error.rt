@@ -2,7 +2,7 @@
 // Document 01's refusals in place of the source's error texts.
 
 // What a check answers: document 01's refusal number and place, or none.
-#[derive(Drop)]
+#[derive(Clone, Copy)]
 pub enum Verdict {
     Accepted,
     Refused { number: u8, place: u16 },

@@ -1,4 +1,6 @@
 // The records of a feeder, their limits and lookups.
+#![tactic(auto)]
+
 pub mod branch;
 pub mod bus;
 pub mod error;

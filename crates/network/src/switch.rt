@@ -1,7 +1,7 @@
 // Translated and changed from src/network/reconfiguration.rs of oxigrid. Copyright 2024-2026 COOLJAPAN OU (Team Kitasan), Apache License 2.0.
 
 // A switch on a branch, which is named by its position. A tie is normally open, a section normally closed; a locked switch cannot operate.
-#[derive(Drop)]
+#[derive(Clone, Copy)]
 pub struct Switch {
     pub id: u16,
     pub branch_idx: u16,
@@ -10,7 +10,7 @@ pub struct Switch {
 }
 
 // Which search `solve` runs.
-#[derive(Drop)]
+#[derive(Clone, Copy)]
 pub enum ReconfigAlgorithm {
     BranchExchange,
     TabuSearch,

@@ -10,7 +10,7 @@ use crate::switch::{ReconfigAlgorithm, Switch};
 use numbers::at_most;
 
 // Where a bus stands in the list.
-#[derive(Drop)]
+#[derive(Clone, Copy)]
 pub enum BusIndex {
     At(usize),
     NotFound,
@@ -18,7 +18,7 @@ pub enum BusIndex {
 
 // A feeder and what is asked of it. Only the first `bus_count` buses are listed, and so for branches and switches. The bus with the id `supply` feeds it where
 // `has_supply` says so; else the number decides nothing.
-#[derive(Drop)]
+#[derive(Clone, Copy)]
 pub struct PowerNetwork {
     pub buses: [Bus; PowerNetwork::MAX_BUSES],
     pub branches: [Branch; PowerNetwork::MAX_BRANCHES],

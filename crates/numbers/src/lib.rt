@@ -1,4 +1,6 @@
 // Numbers that all crates use: positions as indexes, and the lesser of a count and a size.
+#![tactic(auto)]
+
 ghost use Rattle.std.specs.Prelude.{◌≡◌, ◌<◌, min};
 
 // A bus position as an index into an array of 256.

@@ -1,2 +1,4 @@
 // The branch that is opened once another one is closed.
+#![tactic(auto)]
+
 pub mod opening;

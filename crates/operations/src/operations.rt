@@ -22,7 +22,7 @@ use printing::writer::{SwitchAction, SwitchOperation, write_operation};
 use states::configuration::{NetworkConfiguration, check_state};
 
 // How many operations the list has, or document 01's refusal number and place.
-#[derive(Drop)]
+#[derive(Clone, Copy)]
 pub enum OperationsAnswer {
     Operations(u16),
     Refused { number: u8, place: u16 },

@@ -16,14 +16,14 @@ use numbers::{at_most, wide16};
 const NOWHERE: u16 = 512;
 
 // The branches that are kept, how many they are, and for each old position the new one.
-#[derive(Drop)]
+#[derive(Clone, Copy)]
 struct KeptBranches {
     branches: [Branch; PowerNetwork::MAX_BRANCHES],
     count: u16,
     positions: [u16; PowerNetwork::MAX_BRANCHES],
 }
 
-#[derive(Drop)]
+#[derive(Clone, Copy)]
 struct KeptSwitches {
     switches: [Switch; PowerNetwork::MAX_SWITCHES],
     count: u16,

@@ -11,7 +11,7 @@ use graph::walks::{PathBranches, Walk};
 use numbers::{wide8, wide16};
 
 // For each bus whether a walk reached it, and by which branch.
-#[derive(Drop)]
+#[derive(Clone, Copy)]
 struct Ways {
     reached: [bool; Graph::MAX_BUSES],
     by: [u16; Graph::MAX_BUSES],

@@ -3,8 +3,7 @@ use mathlib.Core.Path.{◌≡◌}
 use lib.ListN.{length}
 use denote.Laws.{Is}
 use denote.Struct.Laws.{vals}
-use Rattle.numbers.specs.Arrays.{length_of}
-use Rattle.printing.specs.contracts.writer.SwitchIds as SwitchIdsType
+use borrow.Author.Rules.{rules}
 use Rattle.plan.specs.declared.pairs.PairList.{PairList}
 use Rattle.plan.specs.contracts.pairs.PairList.{the_row, the_type}
 use Rattle.plan.proofs.pairs.PairList.TheLaws.{the_laws}
@@ -14,7 +13,7 @@ Owned l = Is the_row l (vals the_type the_laws l)
 
 module _ (l : PairList) (owned : Owned l) where
   pub closes_512 : length l.closes ≡ 512
-  closes_512 = length_of (SwitchIdsType.the_type).to l.closes owned.1.1.1.0.1.0.1
+  closes_512 = search rules
 
   pub opens_512 : length l.opens ≡ 512
-  opens_512 = length_of (SwitchIdsType.the_type).to l.opens owned.1.1.1.1.0.1.0.1
+  opens_512 = search rules

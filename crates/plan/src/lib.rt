@@ -1,3 +1,5 @@
 // The switching plan from one state of a feeder's switches to another.
+#![tactic(auto)]
+
 pub mod pairs;
 pub mod planner;

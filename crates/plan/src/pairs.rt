@@ -20,7 +20,7 @@ use printing::writer::SwitchIds;
 
 // The pairs of a plan in order: for each the ids of the switches that it closes and the ids of those that it opens. Each closes another branch by
 // a switch of its own: there are no more of them than switches (`specs/Length.plan_few`: 255 at the most).
-#[derive(Drop)]
+#[derive(Clone, Copy)]
 pub struct PairList {
     pub count: u16,
     pub closes: [SwitchIds; PowerNetwork::MAX_SWITCHES],
@@ -54,7 +54,7 @@ impl PairList {
 }
 
 // The pairs made so far, and the branches that are live with them done.
-#[derive(Drop)]
+#[derive(Clone, Copy)]
 struct Stage {
     live: [bool; PowerNetwork::MAX_BRANCHES],
     pairs: PairList,

@@ -14,21 +14,21 @@ use numbers::wide16;
 use printing::writer::{pair_length, write_pair};
 
 // How many pairs the plan has, or document 01's refusal number and place.
-#[derive(Drop)]
+#[derive(Clone, Copy)]
 pub enum PlanAnswer {
     Pairs(u16),
     Refused { number: u8, place: u16 },
 }
 
 // The planner's answer, and how many bytes its lines have.
-#[derive(Drop)]
+#[derive(Clone, Copy)]
 pub struct PlanLines {
     pub answer: PlanAnswer,
     pub length: usize,
 }
 
 // The verdict of `check_plan`, and the pairs of the plan: none beside a refusal. What stands in their arrays behind the count is no pair, and nothing is promised of it.
-#[derive(Drop)]
+#[derive(Clone, Copy)]
 pub struct MadePlan {
     pub verdict: Verdict,
     pub pairs: PairList,

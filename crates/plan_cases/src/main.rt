@@ -2,6 +2,8 @@
 // lines: 'CHANGE PRESENT', WANTED and SLICE. An empty text stands for the feeder of the case before. CHANGE is A (65) for 1,001 iterations or F (70)
 // for a tie in place of the eleventh switch, which the records get once they are read, or a hyphen for none. PRESENT and WANTED have a digit for each
 // byte of the states, SLICE has a dot for each byte of the lent slice.
+#![tactic(auto)]
+
 ghost use Rattle.std.specs.Prelude.{◌≡◌, ◌≤◌, length};
 
 use cases::{MAX_STATE, first_case, line_behind, part_of, state_bytes};
@@ -13,7 +15,7 @@ use numbers::at_most;
 use plan::planner::{PlanAnswer, plan};
 
 // The feeder of a case, and where the case ends.
-#[derive(Drop)]
+#[derive(Clone, Copy)]
 struct Done {
     network: PowerNetwork,
     to: usize,

@@ -15,28 +15,28 @@ use numbers::{at_most, wide8};
 use slices::writer::{write_digits, write_line};
 
 // What is done to a switch.
-#[derive(Drop)]
+#[derive(Clone, Copy)]
 pub enum SwitchAction {
     Open,
     Close,
 }
 
 // A switch by its id, and what is done to it.
-#[derive(Drop)]
+#[derive(Clone, Copy)]
 pub struct SwitchOperation {
     pub switch_id: u16,
     pub action: SwitchAction,
 }
 
 // Why a repair dropped a line: it was a branch from a bus to itself, or a switch on one.
-#[derive(Drop)]
+#[derive(Clone, Copy)]
 pub enum DropReason {
     Branch,
     Switch,
 }
 
 // The ids of switches of one branch that a pair moves, in list order: the first `count` of them, both where it is larger.
-#[derive(Drop)]
+#[derive(Clone, Copy)]
 pub struct SwitchIds {
     pub count: u8,
     pub ids: [u16; PowerNetwork::MAX_SWITCHES_ON_BRANCH],
@@ -55,7 +55,7 @@ impl SwitchIds {
 }
 
 // Ids in a line: how many digits they have with their count before them, and the number that these write.
-#[derive(Drop)]
+#[derive(Clone, Copy)]
 struct IdDigits {
     width: u8,
     number: u64,

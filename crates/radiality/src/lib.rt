@@ -1,2 +1,4 @@
 // The radiality of a state.
+#![tactic(auto)]
+
 pub mod radiality;

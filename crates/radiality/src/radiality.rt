@@ -15,7 +15,7 @@ use network::topology::PowerNetwork;
 use states::configuration::{NetworkConfiguration, check_state, live_branches};
 
 // What the live branches of a state are, or document 01's refusal number and place.
-#[derive(Drop)]
+#[derive(Clone, Copy)]
 pub enum Radiality {
     Formed(Form),
     Refused { number: u8, place: u16 },

@@ -1,5 +1,7 @@
 // What the live branches are in the cases on standard input. A case is a line 'LENGTH NAME', a frame text, a line feed, and a line 'CHANGE STATE'. An empty text
 // stands for the feeder of the case before. CHANGE is a letter for a change of the records, a hyphen for none. STATE has a digit for each byte.
+#![tactic(auto)]
+
 mod changes;
 
 ghost use Rattle.std.specs.Prelude.{◌≡◌, ◌≤◌, length};
@@ -15,7 +17,7 @@ use numbers::at_most;
 use radiality::radiality::{Radiality, verify_radiality};
 
 // The feeder of a case, and where the case ends.
-#[derive(Drop)]
+#[derive(Clone, Copy)]
 struct Done {
     network: PowerNetwork,
     to: usize,

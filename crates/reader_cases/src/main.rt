@@ -1,4 +1,6 @@
 // Reads the frame texts on standard input and prints each one's verdict. A case is a line 'LENGTH NAME', the text, and a line feed.
+#![tactic(auto)]
+
 ghost use Rattle.std.specs.Prelude.{◌≡◌, ◌≤◌, length};
 
 use cases::{first_case, part_of};

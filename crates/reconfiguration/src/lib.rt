@@ -1,2 +1,4 @@
 // The search that a feeder asks for.
+#![tactic(auto)]
+
 pub mod solve;

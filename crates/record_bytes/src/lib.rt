@@ -1,2 +1,4 @@
 // Records in bytes, and their frame text.
+#![tactic(auto)]
+
 pub mod records;

@@ -16,7 +16,7 @@ pub const KIND: u8 = 3;
 
 pub const SIZE: usize = 28;
 
-#[derive(Drop)]
+#[derive(Clone, Copy)]
 pub enum BranchRead {
     Made(Branch),
     Refused { number: u8, place: u16 },

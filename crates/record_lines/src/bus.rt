@@ -15,7 +15,7 @@ pub const KIND: u8 = 2;
 
 pub const SIZE: usize = 22;
 
-#[derive(Drop)]
+#[derive(Clone, Copy)]
 pub enum BusRead {
     Made(Bus),
     Refused { number: u8, place: u16 },

@@ -18,7 +18,7 @@ pub const KIND: u8 = 1;
 
 pub const SIZE: usize = 36;
 
-#[derive(Drop)]
+#[derive(Clone, Copy)]
 pub struct Head {
     pub buses: u16,
     pub branches: u16,
@@ -28,7 +28,7 @@ pub struct Head {
     pub max_iterations: u16,
 }
 
-#[derive(Drop)]
+#[derive(Clone, Copy)]
 pub enum HeadRead {
     Made(Head),
     Refused { number: u8, place: u16 },

@@ -1,4 +1,6 @@
 // One line of a frame text and the record that it makes.
+#![tactic(auto)]
+
 pub mod branch;
 pub mod bus;
 mod field;

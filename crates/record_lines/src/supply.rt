@@ -13,7 +13,7 @@ pub const KIND: u8 = 5;
 
 pub const SIZE: usize = 6;
 
-#[derive(Drop)]
+#[derive(Clone, Copy)]
 pub enum SupplyRead {
     Made(u16),
     Refused { number: u8, place: u16 },

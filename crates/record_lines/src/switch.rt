@@ -16,7 +16,7 @@ pub const KIND: u8 = 4;
 
 pub const SIZE: usize = 12;
 
-#[derive(Drop)]
+#[derive(Clone, Copy)]
 pub enum SwitchRead {
     Made(Switch),
     Refused { number: u8, place: u16 },

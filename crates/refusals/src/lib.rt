@@ -1,2 +1,4 @@
 // Refusals of one record.
+#![tactic(auto)]
+
 pub mod record;

@@ -1,4 +1,6 @@
 // Repairs the stored text on standard input. Where the input cannot be read, or the repaired text not be written, a line on standard error says so.
+#![tactic(auto)]
+
 ghost use Rattle.std.specs.Prelude.{◌≡◌, ◌≤◌, length, take};
 ghost use Rattle.io.specs.Counts.{IsPrefixLen};
 ghost use Rattle.frames.specs.Lengths.{longest_text, deciding_length};

@@ -4,6 +4,8 @@
 // long as the repair, an empty one, one a byte shorter, one a byte longer, one 80 bytes longer. For each there is a line 'LENGTH: ANSWER, SLICE'. SLICE is 'kept'
 // where every byte is a dot still, 'as stored' where the slice has the stored text at its front and dots behind it, 'as before' where it has the first slice there, else
 // the slice itself, its line feeds as they are. At last comes what is read before the 87 lines.
+#![tactic(auto)]
+
 ghost use Rattle.std.specs.Prelude.{◌≡◌, ◌+◌, ◌≤◌, length};
 ghost use Rattle.frames.specs.Lengths.{longest_text};
 

@@ -1,2 +1,4 @@
 // The repair of stored texts.
+#![tactic(auto)]
+
 pub mod repair;

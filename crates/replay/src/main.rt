@@ -1,5 +1,7 @@
 // Replays the fixed list on standard input (tests/answers.md): answers each text and compares what is printed with the entry's output, to the
 // letter. The lent bytes behind the answer must stay as they were, and all of them beside a refusal.
+#![tactic(auto)]
+
 ghost use Rattle.std.specs.Prelude.{◌≡◌, ◌+◌, ◌≤◌, ◌<◌, length};
 ghost use Rattle.printing.specs.Lengths.{printed_length};
 
@@ -23,14 +25,14 @@ const UNWRITTEN: u8 = 170;
 
 // The next entry of the list: it is replayed, and the answer is its output or not; or there is none, as the list ends, or is damaged: broken off
 // inside an entry, or with a head that is none.
-#[derive(Drop)]
+#[derive(Clone, Copy)]
 enum Entry {
     Replayed { same: bool },
     Missing { ended: bool },
 }
 
 // What the replay found: how many texts it answered, how many of them otherwise and which of them first, and whether it came to the list's end.
-#[derive(Drop)]
+#[derive(Clone, Copy)]
 struct Found {
     texts: u64,
     differences: u64,

@@ -8,6 +8,8 @@
 // A case prints its name, and for each call a line 'COUNT ANSWER [REMAINING] [BACK]' with the slices as the call leaves them. In a long plan the two
 // longest lists come first, by the calls at count 0 and at count MOVES; then a slice prints 'end' at every count where it is the end of the longest list
 // of its kind, byte for byte, and itself where it is not.
+#![tactic(auto)]
+
 ghost use Rattle.std.specs.Prelude.{◌≡◌, true, ◌-◌, ◌≤◌, length, drop};
 
 use cases::{MAX_STATE, first_case, line_behind, part_of, state_bytes};
@@ -29,14 +31,14 @@ const MAX_MOVES: usize = 512;
 const MAX_ROOM: usize = 4864;
 
 // The feeder of a case, and where the case ends.
-#[derive(Drop)]
+#[derive(Clone, Copy)]
 struct Done {
     network: PowerNetwork,
     to: usize,
 }
 
 // A call's count and answer, and the lent slices: so many bytes at the front of these.
-#[derive(Drop)]
+#[derive(Clone, Copy)]
 struct Call {
     count: u64,
     answer: ResumeAnswer,

@@ -15,7 +15,7 @@ use printing::lengths::OPERATION_LENGTH;
 use printing::writer::{SwitchAction, SwitchIds, SwitchOperation, write_operation};
 
 // The single moves of a plan in order: for each the id of its switch, and whether it opens that switch.
-#[derive(Drop)]
+#[derive(Clone, Copy)]
 pub(crate) struct MoveList {
     pub count: u16,
     pub ids: [u16; MoveList::MAX_MOVES],

@@ -11,7 +11,7 @@ use plan::planner::made_plan;
 use printing::lengths::OPERATION_LENGTH;
 
 // How many moves remain, or the refusal's number and place.
-#[derive(Drop)]
+#[derive(Clone, Copy)]
 pub enum ResumeAnswer {
     Remaining(u16),
     Refused { number: u8, place: u16 },

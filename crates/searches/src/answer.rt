@@ -20,7 +20,7 @@ use slices::writer::write_bytes;
 use states::configuration::{NetworkConfiguration, live_branches};
 
 // What is answered beside the best state.
-#[derive(Drop)]
+#[derive(Clone, Copy)]
 pub struct ReconfigResult {
     pub form: Form,
     pub base_losses_mw: f64,
@@ -31,14 +31,14 @@ pub struct ReconfigResult {
 }
 
 // The result of a search, or document 01's refusal number and place.
-#[derive(Drop)]
+#[derive(Clone, Copy)]
 pub enum SolveAnswer {
     Solved(ReconfigResult),
     Refused { number: u8, place: u16 },
 }
 
 // What a search found.
-#[derive(Drop)]
+#[derive(Clone, Copy)]
 pub struct Found {
     pub configuration: NetworkConfiguration,
     pub loss: f64,

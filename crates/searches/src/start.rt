@@ -11,7 +11,7 @@ use network::topology::PowerNetwork;
 use states::configuration::{NetworkConfiguration, build_base_configuration, live_branches};
 
 // Where every search starts: the feeder's rows and loads, and its base with the radiality and the loss.
-#[derive(Drop)]
+#[derive(Clone, Copy)]
 pub struct Start {
     pub graph: Graph,
     pub loads: Loads,

@@ -2,9 +2,8 @@
 use mathlib.Core.Path.{◌≡◌}
 use lib.ListN.{length}
 use denote.Laws.{Is}
-use denote.Struct.Field.{u8-field}
 use denote.Struct.Laws.{vals}
-use Rattle.numbers.specs.Arrays.{length_of}
+use borrow.Author.Rules.{rules}
 use Rattle.states.specs.declared.configuration.NetworkConfiguration.{NetworkConfiguration}
 use Rattle.states.specs.contracts.configuration.NetworkConfiguration.{the_row, the_type}
 use Rattle.states.proofs.configuration.NetworkConfiguration.TheLaws.{the_laws}
@@ -13,4 +12,4 @@ abbrev pub Owned : NetworkConfiguration → Type 0
 Owned c = Is the_row c (vals the_type the_laws c)
 
 pub bytes_512 : (c : NetworkConfiguration) → Owned c → length c.switches ≡ 512
-bytes_512 c owned = length_of u8-field.into c.switches owned.1.1.0.1.0.1
+bytes_512 c owned = search rules

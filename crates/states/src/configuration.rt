@@ -17,7 +17,7 @@ use network::topology::PowerNetwork;
 use numbers::{at_most, wide16};
 
 // A state of the switches: a byte for each, in list order, and closed beyond the listed ones.
-#[derive(Drop)]
+#[derive(Clone, Copy)]
 pub struct NetworkConfiguration {
     pub switches: [u8; NetworkConfiguration::MAX_SWITCHES],
 }

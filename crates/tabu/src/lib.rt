@@ -1,3 +1,5 @@
 // Document 01's tabu search.
+#![tactic(auto)]
+
 pub mod tabu;
 mod tabu_list;

@@ -31,7 +31,7 @@ use searches::start::{Start, start_of};
 use states::configuration::{NetworkConfiguration, live_branches, open_counts};
 
 // A move that can be made: the state after it, its loss, and the id of the switch that it moves. Where none was found, the state before.
-#[derive(Drop)]
+#[derive(Clone, Copy)]
 struct Candidate {
     found: bool,
     configuration: NetworkConfiguration,
@@ -40,7 +40,7 @@ struct Candidate {
 }
 
 // Where the tabu search stands after some rounds. Its state's radiality and loss are carried along: they are not worked out again.
-#[derive(Drop)]
+#[derive(Clone, Copy)]
 struct TabuSearch {
     configuration: NetworkConfiguration,
     radial: bool,

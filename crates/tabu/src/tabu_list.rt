@@ -8,7 +8,7 @@ ghost use Rattle.tabu.specs.TabuValues.{tabu_list_of, ids_of, HeldList};
 use numbers::wide16;
 
 // The ids of the last switches that were moved, the earliest first, and 0 behind them.
-#[derive(Drop)]
+#[derive(Clone, Copy)]
 pub(crate) struct TabuList {
     ids: [u16; TabuList::TABU_SIZE],
     count: u16,

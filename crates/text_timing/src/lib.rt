@@ -1,2 +1,4 @@
 // Repeated writing of a text for tests/benchmark.
+#![tactic(auto)]
+
 pub mod text_rounds;

@@ -29,7 +29,7 @@ pub const LONGEST_TEXT: usize = head::SIZE
     + 1;
 
 // How many bytes the text has, or document 01's refusal number and place.
-#[derive(Drop)]
+#[derive(Clone, Copy)]
 pub enum WriteAnswer {
     Written(u16),
     Refused { number: u8, place: u16 },

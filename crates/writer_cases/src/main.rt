@@ -2,6 +2,8 @@
 // changed in the records once they are read (src/changes.rt), a hyphen for nothing. The records are written into five slices of dots: an empty one, one a byte shorter
 // than the text that was read, one as long as it, one a byte longer, one 80 bytes longer. For each there is a line 'NAME LENGTH: ANSWER, SLICE'. SLICE is 'kept' where
 // every byte is a dot still, 'as read' where the slice has the text that was read at its front and dots behind it, else the slice itself, its line feeds as they are.
+#![tactic(auto)]
+
 mod changes;
 
 ghost use Rattle.std.specs.Prelude.{◌≡◌, ◌+◌, ◌≤◌, length};

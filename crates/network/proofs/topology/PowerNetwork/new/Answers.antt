@@ -3,12 +3,8 @@ use mathlib.Core.Path.{refl}
 use lib.Ieee.{of_bits}
 use Rattle.numbers.specs.Arrays.{padded}
 use Rattle.network.specs.Records.{network_of}
-use Rattle.network.proofs.topology.PowerNetwork.new.Statement.{statement}
-use Rattle.network.proofs.topology.PowerNetwork.new.Tie as tie
+use Rattle.network.proofs.topology.PowerNetwork.new.Goals as goal
 
-returns : tie.Need-returns
+pub returns : goal.returns
 unfolding of_bits network_of padded
 returns c = refl
-
-pub new_spec : {M : Type 1} → statement M
-new_spec = tie.close (tie.spec returns)

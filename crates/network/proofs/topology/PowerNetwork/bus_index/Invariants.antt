@@ -1,0 +1,18 @@
+-- `bus_index` meets its contract: none of the first i listed buses has the id.
+use mathlib.Core.Path.{◌≡◌, sym, ◌∙◌}
+use mathlib.Core.List.{map}
+use Prim.Native.Nat.{◌≤◌, ◌<◌, ◌-◌}
+use native.Mathlib.Omega.{arith}
+use lib.ListN.{length, get_or, take, length-take, length-map}
+use borrow.Author.Rules.{rules}
+use Rattle.network.specs.Limits.{bus_id}
+use Rattle.network.specs.LookupLaws.{Unseen, unseen_none, unseen_more, seen_here, seen_nowhere, found_at, not_found, key_at}
+use Rattle.network.specs.ReadLaws.{past_bus}
+use Rattle.network.proofs.ArrayLengths.{buses_256}
+use Rattle.network.proofs.topology.PowerNetwork.bus_index.Given as goal
+
+abbrev pub invariant-loop-i : goal.invariant-loop-i
+invariant-loop-i l = (l.i ≤ l.count) × Unseen l.bus_id (map bus_id (take l.self.bus_count l.self.buses)) l.i
+
+abbrev pub decreases-loop-i : goal.decreases-loop-i
+decreases-loop-i l = l.count - l.i
