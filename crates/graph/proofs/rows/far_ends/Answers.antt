@@ -1,7 +1,6 @@
 -- `far_ends` meets its contract: after k turns the far ends of the first k branches stand in the array, and a turn is `one_far`.
-use Prim.Native.Nat.{◌≤◌, ◌-◌}
 use native.Mathlib.Omega.{arith}
-use Rattle.graph.proofs.Building.{FarSoFar, none_far, one_far, all_far}
+use Rattle.graph.proofs.Building.{none_far, one_far, all_far}
 use borrow.Author.Rules.{rules}
 use Rattle.graph.proofs.rows.far_ends.Goals as goal
 

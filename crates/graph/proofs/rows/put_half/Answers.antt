@@ -1,6 +1,5 @@
 -- `put_half` meets its contract: its two stores, at positions that are the numbers widened.
 use mathlib.Core.Path.{refl}
-use borrow.Author.Rules.{rules}
 use Rattle.graph.proofs.rows.put_half.Goals as goal
 
 pub returns : goal.returns

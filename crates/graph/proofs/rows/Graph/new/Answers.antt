@@ -2,7 +2,7 @@
 use mathlib.Core.Path.{◌≡◌, refl}
 use Prim.Native.Nat.{◌≤◌, ◌+◌, ◌-◌}
 use native.Mathlib.Omega.{arith}
-use Rattle.graph.proofs.Building.{Built, none_built, built_long, one_built, all_built}
+use Rattle.graph.proofs.Building.{none_built, built_long, one_built, all_built}
 use Rattle.graph.proofs.rows.Graph.new.Goals as goal
 
 -- HAND -- as many as 512 are listed

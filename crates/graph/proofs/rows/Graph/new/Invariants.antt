@@ -1,8 +1,6 @@
 -- `Graph::new` meets its contract. The invariant: the arrays are the rows of the listed branches so far; the step is `one_built`.
-use mathlib.Core.Path.{◌≡◌, refl}
 use Prim.Native.Nat.{◌≤◌, ◌+◌, ◌-◌}
-use native.Mathlib.Omega.{arith}
-use Rattle.graph.proofs.Building.{Built, none_built, built_long, one_built, all_built}
+use Rattle.graph.proofs.Building.{Built}
 use Rattle.graph.proofs.rows.Graph.new.Given as goal
 
 abbrev pub invariant-loop-i : goal.invariant-loop-i

@@ -1,6 +1,5 @@
 -- `branch_count` meets its contract: as many records are listed as the count says.
 use mathlib.Core.Path.{sym}
-use borrow.Author.Rules.{rules}
 use Rattle.numbers.specs.TableLaws.{length_table}
 use Rattle.network.specs.Lookups.{branch_count}
 use Rattle.network.specs.Records.{records_of}

@@ -1,12 +1,12 @@
 -- `bus_index` meets its contract: none of the first i listed buses has the id.
 use mathlib.Core.Path.{◌≡◌, sym, ◌∙◌}
 use mathlib.Core.List.{map}
-use Prim.Native.Nat.{◌≤◌, ◌<◌, ◌-◌}
+use Prim.Native.Nat.{◌≤◌, ◌<◌}
 use native.Mathlib.Omega.{arith}
 use lib.ListN.{length, get_or, take, length-take, length-map}
 use borrow.Author.Rules.{rules}
 use Rattle.network.specs.Limits.{bus_id}
-use Rattle.network.specs.LookupLaws.{Unseen, unseen_none, unseen_more, seen_here, seen_nowhere, found_at, not_found, key_at}
+use Rattle.network.specs.LookupLaws.{unseen_none, unseen_more, seen_here, seen_nowhere, found_at, not_found, key_at}
 use Rattle.network.specs.ReadLaws.{past_bus}
 use Rattle.network.proofs.ArrayLengths.{buses_256}
 use Rattle.network.proofs.topology.PowerNetwork.bus_index.Goals as goal

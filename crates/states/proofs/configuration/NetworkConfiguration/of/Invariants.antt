@@ -1,0 +1,14 @@
+-- `NetworkConfiguration::of` meets its contract: the first i entries are the state's, the others still 00.
+use mathlib.Core.Path.{◌≡◌, ap, ◌∙◌}
+use Prim.Native.Nat.{◌≤◌, ◌-◌}
+use native.Mathlib.Omega.{arith}
+use lib.ListN.{get_or, get_or-eq_default}
+use borrow.Author.Rules.{rules}
+use Rattle.numbers.specs.TableLaws.{filled, filled_none, filled_more, filled_all}
+use Rattle.states.proofs.configuration.NetworkConfiguration.of.Given as goal
+
+abbrev pub invariant-loop-i : goal.invariant-loop-i
+invariant-loop-i l = (l.i ≤ l.count) × (l.configuration.switches ≡ filled (λ j. get_or l.state j 0) 0 512 l.i)
+
+abbrev pub decreases-loop-i : goal.decreases-loop-i
+decreases-loop-i l = l.count - l.i

@@ -1,0 +1,18 @@
+-- `live_list` meets its contract: the first k flags say which branches are live, the others are still false.
+use mathlib.Core.Path.{◌≡◌, ap, ◌∙◌}
+use mathlib.Core.Bool.{false, not, ◌&&◌}
+use Prim.Native.Nat.{◌≤◌, ◌-◌}
+use native.Mathlib.Omega.{arith}
+use lib.ListN.{get_or}
+use borrow.Author.Rules.{rules}
+use Rattle.numbers.specs.TableLaws.{filled, filled_none, filled_more, filled_all}
+use Rattle.states.specs.LiveLaws.{live_at, live_beyond, live_by}
+use Rattle.network.specs.ReadLaws.{branch_read}
+use Rattle.network.specs.Records.{no_branch, listed}
+use Rattle.states.proofs.configuration.live_list.Given as goal
+
+abbrev pub invariant-loop-k : goal.invariant-loop-k
+invariant-loop-k l = (l.k ≤ l.m) × (l.flags ≡ filled (live_by (listed no_branch l.branches l.count) l.opened) false 512 l.k)
+
+abbrev pub decreases-loop-k : goal.decreases-loop-k
+decreases-loop-k l = l.m - l.k
