@@ -1,5 +1,4 @@
 -- `judge_bus` meets its contract: its tests are the conditions of the list, in their order.
-use borrow.Author.Rules.{rules}
 use Rattle.network.specs.Answers.{judge}
 use Rattle.network.specs.Limits.{ok_load}
 use Rattle.refusals.proofs.record.judge_bus.Goals as goal

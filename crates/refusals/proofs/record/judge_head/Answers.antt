@@ -1,5 +1,4 @@
 -- `judge_head` meets its contract: its tests are the conditions of the list, in their order.
-use borrow.Author.Rules.{rules}
 use borrow.Author.Tests.{lt-ltb, le-ltb}
 use Rattle.network.specs.Answers.{judge}
 use Rattle.network.specs.Limits.{ok_base}

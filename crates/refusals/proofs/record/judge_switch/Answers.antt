@@ -1,5 +1,4 @@
 -- `judge_switch` meets its contract: its tests are the conditions of the list, in their order.
-use borrow.Author.Rules.{rules}
 use borrow.Author.Tests.{le-leb, lt-leb}
 use Rattle.network.specs.Answers.{judge}
 use Rattle.refusals.proofs.record.judge_switch.Goals as goal
