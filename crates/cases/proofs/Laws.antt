@@ -9,7 +9,7 @@ use native.Mathlib.Omega.{arith}
 use lib.ListN.{length, take, drop, get_or, length-take, length-drop, drop_of_length-le}
 use lib.Seq.{drop-cons, ext_get_or, get_or-take, take_all}
 use borrow.Author.Tests.{le-leb, lt-leb, eq-eqb, ne_eqb}
-use Rattle.bytes.specs.Bytes.{index_of, slice}
+use Rattle.numbers.specs.Choose.{index_of}
 use Rattle.numbers.specs.Parts.{part_rest}
 use Rattle.cases.specs.Cases.{Inside, part_of, line_length, line_behind, digit_of, number_from, first_case}
 use Rattle.cases.specs.declared.Case.{Case}
@@ -17,9 +17,9 @@ use Rattle.cases.specs.declared.Number.{Number}
 use Rattle.cases.specs.declared.Part.{Part}
 
 -- ---- a line
-pub line_is : (t : List ℕ) (n : ℕ) → n ≡ 0 + index_of 10 (slice 0 (length t) t) → n ≡ line_length t
-unfolding slice line_length
-line_is t n e = e ∙ rw (take_all (length t) t (omega arith)) (zero-add _)
+pub line_is : (t : List ℕ) (n : ℕ) → n ≡ index_of 10 t → n ≡ line_length t
+unfolding line_length
+line_is t n e = e
 
 -- ---- a digit
 module _ (c : ℕ) where

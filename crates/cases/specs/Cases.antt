@@ -1,6 +1,6 @@
 -- The form of the cases that test programs read: a line 'LENGTH NAME', a text of that length, a line feed, and lines of the program's own.
 use Rattle.std.specs.Prelude.{cond, ◌&&◌, ◌||◌, List, [], ◌∷◌, ℕ, suc, ◌+◌, ◌*◌, ◌-◌, ◌≤◌, min, eqb, leb, length, take, drop, get_or}
-use Rattle.bytes.specs.Bytes.{index_of}
+use Rattle.numbers.specs.Choose.{index_of}
 use Rattle.numbers.specs.UpTo.{table}
 use Rattle.cases.specs.declared.Case.{Case}
 use Rattle.cases.specs.declared.Number.{Number}

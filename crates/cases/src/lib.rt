@@ -5,8 +5,8 @@ ghost use Rattle.std.specs.Prelude.{◌≡◌, ◌≤◌, length};
 ghost use Rattle.numbers.specs.UpTo.{table};
 ghost use Rattle.cases.specs.Cases.{Inside, part_of, line_length, line_behind, digit_of, leading_number, first_case, state_bytes};
 
-use bytes::scan::find;
 use numbers::at_most;
+use scan::find;
 
 // From one position of an input to another.
 #[derive(Clone, Copy)]
@@ -42,7 +42,7 @@ pub fn part_of(input: &[u8], part: Part) -> &[u8]
 fn line_length(text: &[u8]) -> usize
     ensures { (result ≡ line_length text.now) × (result ≤ length text.now) }
 {
-    find(text, 0, text.len(), 10)
+    find(text, 10)
 }
 
 // The line that begins behind position `at`.

@@ -9,7 +9,7 @@ use native.Mathlib.Omega.{arith}
 use lib.Dec.{eqb}
 use lib.ListN.{length, take, drop, get_or}
 use borrow.Author.Tests.{eqb-true}
-use Rattle.bytes.specs.Bytes.{index_of, index_after, slice}
+use Rattle.numbers.specs.Choose.{index_of}
 use Rattle.numbers.specs.Every.{every}
 use Rattle.numbers.specs.Parts.{part_rest, take_within}
 use Rattle.lines.specs.CutLaws.{no_feed}

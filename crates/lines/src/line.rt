@@ -5,9 +5,9 @@ ghost use Rattle.lines.specs.Lines.{cut, character_faults};
 ghost use Rattle.lines.specs.FirstLine.{LineEnd, judge_first, judge_frame, judge_end};
 
 use crate::hex;
-use bytes::scan::find;
 use network::error::Verdict;
 use numbers::at_most;
+use scan::find;
 
 // "a line over 36 characters is 2 whatever they are"
 const LONGEST: usize = 36;
@@ -18,7 +18,8 @@ fn line_length(text: &[u8], at: usize) -> usize
     ensures { LineEnd (drop at text.now) result }
 {
     let rest = &text[at..];
-    find(rest, 0, at_most(LONGEST + 1, rest.len()), 10)
+    let size = at_most(LONGEST + 1, rest.len());
+    find(&rest[..size], 10)
 }
 
 // What the characters of a line are refused for whatever is wanted: 2 where there are over 36, 1 where the line is unended or odd or has another character.

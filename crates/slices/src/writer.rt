@@ -3,7 +3,6 @@ ghost use Rattle.std.specs.Prelude.{◌≡◌, [], ◌∷◌, ◌++◌, ◌<◌}
 ghost use Rattle.lines.specs.Hex.{digit};
 ghost use Rattle.slices.specs.Written.{written, last_digits};
 
-use bytes::copy;
 use numbers::wide8;
 
 // Bytes at the front of a slice.
@@ -13,7 +12,7 @@ pub fn write_bytes(out: &mut [u8], bytes: &[u8])
     if out.len() < bytes.len() {
         return;
     }
-    copy(bytes, out);
+    out[..bytes.len()].copy_from_slice(bytes);
 }
 
 // The digit for a number below 16.

@@ -8,7 +8,7 @@ find-requires : tie.Need-find-requires
 find-requires c κs = search rules
 
 returns : tie.Need-returns
-returns c = (line_is _ _ c.find.ensures.0, c.find.ensures.1)
+returns c = (line_is _ _ c.find.ensures.value, c.find.ensures.within)
 
 pub line_length_spec : {M : Type 1} → statement M
 line_length_spec = tie.close (tie.spec find-requires returns)
