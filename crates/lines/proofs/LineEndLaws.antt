@@ -1,14 +1,13 @@
 -- Where a line ends, as it is found: the first line feed among so many characters, or behind the last of them.
 use mathlib.Core.Path.{◌≡◌, refl, sym, subst}
-use mathlib.Core.Bool.{Bool, true, false}
+use mathlib.Core.Bool.{Bool, true, false, cond}
 use mathlib.Core.List.{List, [], ◌∷◌}
 use mathlib.Core.Logic.{◌⊎◌, inl, inr}
-use Prim.Native.Nat.{ℕ, zero, suc, ◌+◌, ◌-◌, ◌≤◌, min}
-use native.Mathlib.Nat.{zero-add}
+use Prim.Native.Nat.{ℕ, zero, suc, ◌-◌, ◌≤◌, min}
 use native.Mathlib.Omega.{arith}
 use lib.Dec.{eqb}
 use lib.ListN.{length, take, drop, get_or}
-use borrow.Author.Tests.{eqb-true}
+use borrow.Author.Tests.{eq-eqb, ne_eqb, eqb-true, eqb-false}
 use Rattle.numbers.specs.Choose.{index_of}
 use Rattle.numbers.specs.Every.{every}
 use Rattle.numbers.specs.Parts.{part_rest, take_within}
@@ -30,15 +29,14 @@ first_feed (suc k) (c ∷ t) = go (eqb c 10) refl (first_feed k t)
     ends (inr (inl e)) = inr (inl (omega arith))
     ends (inr (inr e)) = inr (inr e)
 
-    go : (b : Bool) → eqb c 10 ≡ b → Ended k t (index_of 10 (take k t)) → Ended (suc k) (c ∷ t) (index_after b (index_of 10 (take k t)))
-    go true e f = unfold index_after in (omega arith, refl, inr (inr (eqb-true c 10 e)))
-    go false e f = unfold index_after in (omega arith, rw (e, f.1), ends f.2)
+    go : (b : Bool) → eqb c 10 ≡ b → Ended k t (index_of 10 (take k t)) → Ended (suc k) (c ∷ t) (cond (eqb 10 c) zero (suc (index_of 10 (take k t))))
+    go true e f = rw (eq-eqb 10 c (sym (eqb-true c 10 e))) (omega arith, refl, inr (inr (eqb-true c 10 e)))
+    go false e f = rw (ne_eqb 10 c (λ q. eqb-false c 10 e (sym q))) (omega arith, rw (e, f.1), ends f.2)
 
 -- the line that begins at `at`: among its first 37 characters
 pub line_ends : (t : List ℕ) (at size n : ℕ) → let rest = take (length t - at) (drop at t) in
-    size ≡ min 37 (length rest) → n ≡ 0 + index_of 10 (slice 0 size rest) → LineEnd (drop at t) n
-unfolding slice
+    size ≡ min 37 (length rest) → n ≡ index_of 10 (take size rest) → LineEnd (drop at t) n
 line_ends t at size n s e =
-    let found : n ≡ index_of 10 (take 37 (drop at t)) = rw (e, s, take_within, part_rest) (zero-add _) in
+    let found : n ≡ index_of 10 (take 37 (drop at t)) = rw (e, s, take_within, part_rest) refl in
     let f = subst (Ended 37 (drop at t)) (sym found) (first_feed 37 (drop at t)) in
     record { within = f.0; no_feed_lem = f.1; ends = f.2 }

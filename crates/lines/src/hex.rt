@@ -6,6 +6,7 @@ ghost use Rattle.lines.specs.Hex.{is_digit, value, number, number_at};
 use numbers::at_most;
 
 // Is this '0' to '9' or 'A' to 'F'?
+#[tactic(auto, unfolding(crate::specs::Hex::is_digit))]
 fn is_digit(c: u8) -> bool
     ensures { result ≡ is_digit c }
 {
@@ -31,6 +32,7 @@ pub(crate) fn all_digits(s: &[u8]) -> bool
 }
 
 // What a digit stands for; another byte stands for 0.
+#[tactic(auto, unfolding(crate::specs::Hex::value, crate::specs::Hex::is_digit))]
 fn value(c: u8) -> u64
     ensures { result ≡ value c }
 {
