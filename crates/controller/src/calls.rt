@@ -30,8 +30,7 @@ use slices::writer::write_bytes;
 use states::configuration::build_base_configuration;
 
 // Whether a state is radial: the value is 1 where it is, else 0.
-#[unsafe(no_mangle)]
-pub extern "C" fn feeder_radiality(text: &[u8], state: &[u8]) -> CallAnswer
+pub fn feeder_radiality(text: &[u8], state: &[u8]) -> CallAnswer
     ensures { result ≡ numbers_of (text_radiality text.now state.now) }
 {
     let reading = read_text(text);
@@ -43,8 +42,7 @@ pub extern "C" fn feeder_radiality(text: &[u8], state: &[u8]) -> CallAnswer
 }
 
 // What the live branches of a state are: the value is islands × 65,536 + the first branch that closes a loop, 65,535 where there is no loop.
-#[unsafe(no_mangle)]
-pub extern "C" fn feeder_form(text: &[u8], state: &[u8]) -> CallAnswer
+pub fn feeder_form(text: &[u8], state: &[u8]) -> CallAnswer
     ensures { result ≡ numbers_of (text_form text.now state.now) }
 {
     let reading = read_text(text);
@@ -56,8 +54,7 @@ pub extern "C" fn feeder_form(text: &[u8], state: &[u8]) -> CallAnswer
 }
 
 // The loss of a state, which must be radial only where the text names a supply: the value is the bits of the f64, in MW.
-#[unsafe(no_mangle)]
-pub extern "C" fn feeder_loss(text: &[u8], state: &[u8]) -> CallAnswer
+pub fn feeder_loss(text: &[u8], state: &[u8]) -> CallAnswer
     ensures { result ≡ numbers_of (text_loss text.now state.now) }
 {
     let reading = read_text(text);
@@ -70,13 +67,7 @@ pub extern "C" fn feeder_loss(text: &[u8], state: &[u8]) -> CallAnswer
 
 // The plan from the present state to the wanted one: the value is the number of pairs, and an 86 line for each stands at the front of the slice,
 // which keeps what is behind them. A refusal writes nothing.
-#[unsafe(no_mangle)]
-pub extern "C" fn feeder_plan(
-    text: &[u8],
-    present: &[u8],
-    wanted: &[u8],
-    out: &mut [u8],
-) -> CallAnswer
+pub fn feeder_plan(text: &[u8], present: &[u8], wanted: &[u8], out: &mut [u8]) -> CallAnswer
     ensures { record { answer = result; out = out.new }
         ≡ written_numbers (text_plan text.now present.now wanted.now out.old) }
 {
@@ -91,8 +82,7 @@ pub extern "C" fn feeder_plan(
 // The plan from the present state, in which it began, to the wanted one, with so many of its single moves done: the value is the number of moves that
 // remain, and an 82 line for each stands at the front of the first slice; the moves that go back from there stand so at the front of the second, one for each
 // move done. Each slice keeps what is behind its lines. A refusal writes nothing.
-#[unsafe(no_mangle)]
-pub extern "C" fn feeder_resume(
+pub fn feeder_resume(
     text: &[u8],
     present: &[u8],
     wanted: &[u8],
@@ -113,8 +103,7 @@ pub extern "C" fn feeder_resume(
 
 // The lines that the program `feeder` prints for the text: the value is how many bytes, and they stand at the front of the slice, which keeps what is behind
 // them. A refusal, the text's own or 13, writes nothing: the 8F line is the caller's to make.
-#[unsafe(no_mangle)]
-pub extern "C" fn feeder_answer_text(text: &[u8], out: &mut [u8]) -> CallAnswer
+pub fn feeder_answer_text(text: &[u8], out: &mut [u8]) -> CallAnswer
     ensures { record { answer = result; out = out.new } ≡ written_numbers (answered_text text.now out.old) }
 {
     text_numbers(answer_text(text, out))
@@ -137,8 +126,7 @@ fn write_base(network: PowerNetwork, out: &mut [u8]) -> CallAnswer
 
 // The base of the text's feeder: the value is the number of switches, and a byte for each stands at the front of the slice, which keeps what is
 // behind them. A refusal writes nothing.
-#[unsafe(no_mangle)]
-pub extern "C" fn feeder_base_state(text: &[u8], out: &mut [u8]) -> CallAnswer
+pub fn feeder_base_state(text: &[u8], out: &mut [u8]) -> CallAnswer
     ensures { record { answer = result; out = out.new } ≡ written_numbers (text_base text.now out.old) }
 {
     let reading = read_text(text);
@@ -151,8 +139,7 @@ pub extern "C" fn feeder_base_state(text: &[u8], out: &mut [u8]) -> CallAnswer
 
 // The search that the text asks for: the best state's bytes stand at the front of the slice, which keeps what is behind them, and the answer has
 // the values of the 81 line. A refusal writes nothing.
-#[unsafe(no_mangle)]
-pub extern "C" fn feeder_solve(text: &[u8], out: &mut [u8]) -> SolvedAnswer
+pub fn feeder_solve(text: &[u8], out: &mut [u8]) -> SolvedAnswer
     ensures { record { answer = result; out = out.new } ≡ written_solved (text_solved text.now out.old) }
 {
     let reading = read_text(text);
@@ -165,13 +152,7 @@ pub extern "C" fn feeder_solve(text: &[u8], out: &mut [u8]) -> SolvedAnswer
 
 // The operations that lead from one state to another, in switch order and not in the order in which switches may move (that is the plan's): the
 // value is their number, and an 82 line for each stands at the front of the slice, which keeps what is behind them. A refusal writes nothing.
-#[unsafe(no_mangle)]
-pub extern "C" fn feeder_operations(
-    text: &[u8],
-    from: &[u8],
-    to: &[u8],
-    out: &mut [u8],
-) -> CallAnswer
+pub fn feeder_operations(text: &[u8], from: &[u8], to: &[u8], out: &mut [u8]) -> CallAnswer
     ensures { record { answer = result; out = out.new }
         ≡ written_numbers (text_operations text.now from.now to.now out.old) }
 {
@@ -185,8 +166,7 @@ pub extern "C" fn feeder_operations(
 
 // The frame text of records in bytes: the value is how many bytes the text has, and they stand at the front of the slice, which keeps what is behind them. A
 // refusal, that of the text's line or 13, writes nothing.
-#[unsafe(no_mangle)]
-pub extern "C" fn feeder_write_text(records: &[u8], out: &mut [u8]) -> CallAnswer
+pub fn feeder_write_text(records: &[u8], out: &mut [u8]) -> CallAnswer
     ensures { record { answer = result; out = out.new } ≡ written_numbers (written_records records.now out.old) }
 {
     write_numbers(write_records(records, out))
@@ -194,8 +174,7 @@ pub extern "C" fn feeder_write_text(records: &[u8], out: &mut [u8]) -> CallAnswe
 
 // The repair of a stored text: the value is how many bytes, and they stand at the front of the slice, which keeps what is behind them: the text without its
 // branches from a bus to itself, then an 87 line for each line that was dropped. A refusal, the stored text's or 13, writes nothing.
-#[unsafe(no_mangle)]
-pub extern "C" fn feeder_repair_text(text: &[u8], out: &mut [u8]) -> CallAnswer
+pub fn feeder_repair_text(text: &[u8], out: &mut [u8]) -> CallAnswer
     ensures { record { answer = result; out = out.new } ≡ written_numbers (repaired_text text.now out.old) }
 {
     write_numbers(repair_text(text, out))

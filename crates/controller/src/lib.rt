@@ -1,5 +1,5 @@
-// The calls for controllers and rollout tools, from C and from Rust: texts and states are byte slices, answers are numbers. include/feeder.h
-// declares them.
+// The calls for controllers and rollout tools: texts and states are byte slices, answers are numbers. The crate controller_c exports them for C and Rust, and
+// include/feeder.h declares them.
 #![tactic(auto)]
 
 pub mod answer;
