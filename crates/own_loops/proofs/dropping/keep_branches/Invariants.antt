@@ -1,12 +1,6 @@
 -- `keep_branches` meets its contract. The invariant: the first k branches are sorted; the step is `branch_kept` or `branch_dropped`.
-use mathlib.Core.Path.{sym, ap, ◌∙◌}
-use mathlib.Core.Logic.{⊎_elim}
-use mathlib.Core.Bool.{not}
 use Prim.Native.Nat.{◌-◌}
-use native.Mathlib.Omega.{arith}
-use borrow.Author.Rules.{rules}
-use Rattle.network.specs.ReadLaws.{branch_read}
-use Rattle.own_loops.proofs.Sorting.{Sorted, none_sorted, room, branch_kept, branch_dropped, all_sorted}
+use Rattle.own_loops.proofs.Sorting.{Sorted}
 use Rattle.own_loops.proofs.dropping.keep_branches.Given as goal
 
 abbrev pub invariant-loop-k : goal.invariant-loop-k

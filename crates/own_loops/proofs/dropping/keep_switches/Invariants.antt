@@ -1,9 +1,6 @@
 -- `keep_switches` meets its contract. The invariant: the first i switches are placed; the step is `switch_kept` or `switch_dropped`.
-use mathlib.Core.Logic.{⊎_elim}
-use Prim.Native.Nat.{◌≤◌, ◌<◌, ◌-◌}
-use native.Mathlib.Omega.{arith}
-use borrow.Author.Rules.{rules}
-use Rattle.own_loops.proofs.Sorting.{Placed, none_placed, switch_kept, switch_dropped, all_placed}
+use Prim.Native.Nat.{◌≤◌, ◌-◌}
+use Rattle.own_loops.proofs.Sorting.{Placed}
 use Rattle.own_loops.proofs.dropping.keep_switches.Given as goal
 
 abbrev pub invariant-loop-i : goal.invariant-loop-i

@@ -1,7 +1,6 @@
 -- `position_in` meets its contract: below the list's length the default plays no part, beyond it is the answer.
 use mathlib.Core.Path.{sym}
 use native.Mathlib.Omega.{arith}
-use borrow.Author.Rules.{rules}
 use lib.ListN.{get_or-eq_default}
 use Rattle.numbers.specs.TableLaws.{any_default}
 use Rattle.own_loops.proofs.dropping.position_in.Goals as goal

@@ -1,7 +1,6 @@
 -- `without_own_loops` meets its contract: its value is made of the branches and switches that are kept.
 use mathlib.Core.Path.{ap, ◌∙◌}
 use Prim.Native.Nat.{min}
-use borrow.Author.Rules.{rules}
 use Rattle.own_loops.proofs.Sorting.{value_left}
 use Rattle.own_loops.proofs.dropping.without_own_loops.Goals as goal
 

@@ -1,11 +1,8 @@
 -- `are_state_bytes` meets its contract: the first i bytes are state bytes.
-use mathlib.Core.Path.{◌≡◌, refl, sym, ◌∙◌}
-use Prim.Native.Nat.{◌≤◌, ◌-◌}
-use lib.Dec.{leb}
-use lib.ListN.{drop}
+use mathlib.Core.Path.{refl, sym, ◌∙◌}
 use borrow.Author.Rules.{rules}
 use borrow.Author.Tests.{le-leb, lt-leb}
-use Rattle.numbers.specs.Every.{every, every_next, every_end}
+use Rattle.numbers.specs.Every.{every_next, every_end}
 use Rattle.states.proofs.configuration.are_state_bytes.Goals as goal
 
 pub loop-i-init : goal.loop-i-init

@@ -1,11 +1,9 @@
 -- `are_state_bytes` meets its contract: the first i bytes are state bytes.
-use mathlib.Core.Path.{◌≡◌, refl, sym, ◌∙◌}
+use mathlib.Core.Path.{◌≡◌}
 use Prim.Native.Nat.{◌≤◌, ◌-◌}
 use lib.Dec.{leb}
 use lib.ListN.{drop}
-use borrow.Author.Rules.{rules}
-use borrow.Author.Tests.{le-leb, lt-leb}
-use Rattle.numbers.specs.Every.{every, every_next, every_end}
+use Rattle.numbers.specs.Every.{every}
 use Rattle.states.proofs.configuration.are_state_bytes.Given as goal
 
 abbrev pub invariant-loop-i : goal.invariant-loop-i

@@ -1,13 +1,9 @@
 -- `build_base_configuration` meets its contract: the first i entries are the base's, the others still 00.
-use mathlib.Core.Path.{◌≡◌, sym, ap, ◌∙◌}
-use Prim.Native.Nat.{◌≤◌, ◌-◌}
+use mathlib.Core.Path.{sym, ap, ◌∙◌}
 use native.Mathlib.Omega.{arith}
-use lib.ListN.{get_or}
 use borrow.Author.Rules.{rules}
-use Rattle.numbers.specs.TableLaws.{filled, filled_none, filled_more, filled_all}
-use Rattle.states.specs.Live.{base_state}
+use Rattle.numbers.specs.TableLaws.{filled_none, filled_more, filled_all}
 use Rattle.states.specs.LiveLaws.{base_at, base_beyond}
-use Rattle.network.specs.Records.{records_of}
 use Rattle.states.proofs.configuration.build_base_configuration.Goals as goal
 
 pub loop-i-init : goal.loop-i-init

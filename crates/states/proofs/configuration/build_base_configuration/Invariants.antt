@@ -1,12 +1,9 @@
 -- `build_base_configuration` meets its contract: the first i entries are the base's, the others still 00.
-use mathlib.Core.Path.{◌≡◌, sym, ap, ◌∙◌}
+use mathlib.Core.Path.{◌≡◌}
 use Prim.Native.Nat.{◌≤◌, ◌-◌}
-use native.Mathlib.Omega.{arith}
 use lib.ListN.{get_or}
-use borrow.Author.Rules.{rules}
-use Rattle.numbers.specs.TableLaws.{filled, filled_none, filled_more, filled_all}
+use Rattle.numbers.specs.TableLaws.{filled}
 use Rattle.states.specs.Live.{base_state}
-use Rattle.states.specs.LiveLaws.{base_at, base_beyond}
 use Rattle.network.specs.Records.{records_of}
 use Rattle.states.proofs.configuration.build_base_configuration.Given as goal
 

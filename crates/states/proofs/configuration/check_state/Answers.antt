@@ -1,5 +1,4 @@
 -- `check_state` meets its contract: its two tests are the two parts of row 10's condition.
-use borrow.Author.Rules.{rules}
 use borrow.Author.Tests.{eq-eqb, ne_eqb}
 use Rattle.numbers.specs.TableLaws.{length_table}
 use Rattle.network.specs.Answers.{judge}

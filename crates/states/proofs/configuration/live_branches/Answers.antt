@@ -1,6 +1,5 @@
 -- `live_branches` meets its contract: the flags of the branches with an open switch say which are live.
 use mathlib.Core.Path.{◌∙◌}
-use borrow.Author.Rules.{rules}
 use Rattle.states.specs.LiveLaws.{live_table}
 use Rattle.network.specs.Records.{records_of}
 use Rattle.states.proofs.configuration.live_branches.Goals as goal

@@ -1,13 +1,9 @@
 -- `live_list` meets its contract: the first k flags say which branches are live, the others are still false.
-use mathlib.Core.Path.{◌≡◌, ap, ◌∙◌}
-use mathlib.Core.Bool.{false, not, ◌&&◌}
+use mathlib.Core.Path.{◌≡◌}
+use mathlib.Core.Bool.{false}
 use Prim.Native.Nat.{◌≤◌, ◌-◌}
-use native.Mathlib.Omega.{arith}
-use lib.ListN.{get_or}
-use borrow.Author.Rules.{rules}
-use Rattle.numbers.specs.TableLaws.{filled, filled_none, filled_more, filled_all}
-use Rattle.states.specs.LiveLaws.{live_at, live_beyond, live_by}
-use Rattle.network.specs.ReadLaws.{branch_read}
+use Rattle.numbers.specs.TableLaws.{filled}
+use Rattle.states.specs.LiveLaws.{live_by}
 use Rattle.network.specs.Records.{no_branch, listed}
 use Rattle.states.proofs.configuration.live_list.Given as goal
 

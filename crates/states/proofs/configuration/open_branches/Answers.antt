@@ -1,20 +1,14 @@
 -- `open_branches` meets its contract: the flags are those of the first i switches.
 use mathlib.Core.Path.{◌≡◌, sym, ◌∙◌}
-use mathlib.Core.Logic.{⊎_elim}
-use Prim.Native.Nat.{◌≤◌, ◌<◌, ◌-◌}
+use Prim.Native.Nat.{◌<◌}
 use native.Mathlib.Omega.{arith}
-use lib.ListN.{length, get_or}
+use lib.ListN.{length}
 use borrow.Author.Rules.{rules}
-use Rattle.numbers.specs.UpTo.{table}
 use Rattle.numbers.specs.TableLaws.{table_cong}
-use Rattle.states.specs.LiveLaws.{open_so_far, open_none, open_closed, open_beyond, open_set, open_all}
-use Rattle.network.specs.Records.{no_switch}
+use Rattle.states.specs.LiveLaws.{open_none, open_closed, open_beyond, open_set, open_all}
 use Rattle.states.proofs.ArrayLengths.{bytes_512}
 use Rattle.states.proofs.configuration.open_branches.Goals as goal
-
--- HAND -- the configuration has 512 bytes
--- HAND bytes : (c : tie.Start invariant-loop decreases-loop) → length c.args.t3.switches ≡ 512
--- HAND bytes c = bytes_512 c.args.t3 c.well-formed.1.1.0
+use Rattle.states.proofs.configuration.open_branches.Goals.{then-configuration-i-eq-OPEN+then-on-lt-MAX_BRANCHES, then-configuration-i-eq-OPEN+else-on-lt-MAX_BRANCHES, else-configuration-i-eq-OPEN}
 
 pub loop-i-init : goal.loop-i-init
 loop-i-init c = (search rules, c.no_branches-opened.ensures ∙ table_cong _ _ 512 (λ k h. sym (open_none _ _ k)))
@@ -24,12 +18,11 @@ loop-i-preserved c =
     let bytes : length c.args.configuration.switches ≡ 512 = bytes_512 c.args.configuration c.well_formed.1.1.0 in
     let h : c.loop-i.i < length c.args.configuration.switches = omega (arith, bytes) in (
       search rules,
-      ⊎_elim
-          (λ w. w.2 ∙ rw c.loop-i.invariant.1 (open_set _ _ 512 c.loop-i.i h _ c.wide16-on.ensures.0 w.1.taken w.0.taken))
-          (⊎_elim
-          (λ w. w.2 ∙ c.loop-i.invariant.1 ∙ open_beyond _ _ 512 c.loop-i.i h (rw c.wide16-on.ensures.0 ⟦At-loop⟧ w.1.left))
-          (λ w. w.1 ∙ c.loop-i.invariant.1 ∙ open_closed _ _ 512 c.loop-i.i h w.0.left))
-          c.if-configuration-i-eq-OPEN.branch,
+      elim c.if-configuration-i-eq-OPEN.branch [
+        | then-configuration-i-eq-OPEN+then-on-lt-MAX_BRANCHES w ↦ w.opened-is ∙ rw c.loop-i.invariant.1 (open_set _ _ 512 c.loop-i.i h _ c.wide16-on.ensures.0 w.if-on-lt-MAX_BRANCHES.true w.if-configuration-i-eq-OPEN.true)
+        | then-configuration-i-eq-OPEN+else-on-lt-MAX_BRANCHES w ↦ w.opened-is ∙ c.loop-i.invariant.1 ∙ open_beyond _ _ 512 c.loop-i.i h (rw c.wide16-on.ensures.0 at w.if-on-lt-MAX_BRANCHES.false)
+        | else-configuration-i-eq-OPEN w ↦ w.opened-is ∙ c.loop-i.invariant.1 ∙ open_closed _ _ 512 c.loop-i.i h w.if-configuration-i-eq-OPEN.false
+      ],
     )
 
 pub returns : goal.returns

@@ -1,15 +1,10 @@
 -- `open_branches` meets its contract: the flags are those of the first i switches.
-use mathlib.Core.Path.{◌≡◌, sym, ◌∙◌}
-use mathlib.Core.Logic.{⊎_elim}
-use Prim.Native.Nat.{◌≤◌, ◌<◌, ◌-◌}
-use native.Mathlib.Omega.{arith}
-use lib.ListN.{length, get_or}
-use borrow.Author.Rules.{rules}
+use mathlib.Core.Path.{◌≡◌}
+use Prim.Native.Nat.{◌≤◌, ◌-◌}
+use lib.ListN.{get_or}
 use Rattle.numbers.specs.UpTo.{table}
-use Rattle.numbers.specs.TableLaws.{table_cong}
-use Rattle.states.specs.LiveLaws.{open_so_far, open_none, open_closed, open_beyond, open_set, open_all}
+use Rattle.states.specs.LiveLaws.{open_so_far}
 use Rattle.network.specs.Records.{no_switch}
-use Rattle.states.proofs.ArrayLengths.{bytes_512}
 use Rattle.states.proofs.configuration.open_branches.Given as goal
 
 abbrev pub invariant-loop-i : goal.invariant-loop-i

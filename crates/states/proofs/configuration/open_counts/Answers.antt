@@ -1,23 +1,17 @@
 -- `open_counts` meets its contract: the counts are those among the first i switches.
 use mathlib.Core.Path.{◌≡◌, sym, ap, ◌∙◌}
-use mathlib.Core.Logic.{⊎_elim}
-use Prim.Native.Nat.{◌≤◌, ◌-◌}
 use native.Mathlib.Omega.{arith}
 use lib.ListN.{length}
 use borrow.Author.Rules.{rules}
-use Rattle.numbers.specs.UpTo.{table}
 use Rattle.numbers.specs.TableLaws.{replicate_table, table_cong}
 use Rattle.network.specs.declared.switch.Switch.{Switch}
 use Rattle.network.specs.Records.{records_of}
 use Rattle.states.specs.Switches.{branch_of}
 use Rattle.states.specs.Listed.{switches_listed, switch_at_lem}
-use Rattle.states.specs.OpenCounts.{open_among, among_none, among_closed, among_beyond, among_few, among_counted, among_all}
+use Rattle.states.specs.OpenCounts.{among_none, among_closed, among_beyond, among_few, among_counted, among_all}
 use Rattle.states.proofs.ArrayLengths.{bytes_512}
 use Rattle.states.proofs.configuration.open_counts.Goals as goal
-
--- HAND -- the configuration has 512 bytes
--- HAND bytes : (c : tie.Start invariant-loop decreases-loop) → length c.args.t2.switches ≡ 512
--- HAND bytes c = bytes_512 c.args.t2 c.well-formed.1.0
+use Rattle.states.proofs.configuration.open_counts.Goals.{then-byte-eq-OPEN+then-on-lt-MAX_BRANCHES, then-byte-eq-OPEN+else-on-lt-MAX_BRANCHES, else-byte-eq-OPEN}
 
 pub loop-i-init : goal.loop-i-init
 loop-i-init c = (search rules, replicate_table 0 512 ∙ table_cong _ _ 512 (λ k h. sym (among_none _ _ k)))
@@ -33,12 +27,11 @@ loop-i-preserved c =
     let on : c.wide16-on.result ≡ branch_of (records_of n) c.loop-i.i =
     c.wide16-on.ensures.0 ∙ sym (ap (λ (w : Switch). w.branch_idx) (switch_at_lem n c.loop-i.i (search rules))) in (
       search rules,
-      ⊎_elim
-          (λ w. w.2 ∙ rw c.loop-i.invariant.1 (among_counted _ _ 512 c.loop-i.i _ on w.1.taken w.0.taken))
-          (⊎_elim
-          (λ w. w.2 ∙ c.loop-i.invariant.1 ∙ among_beyond _ _ 512 c.loop-i.i (rw on ⟦At-loop⟧ w.1.left))
-          (λ w. w.1 ∙ c.loop-i.invariant.1 ∙ among_closed _ _ 512 c.loop-i.i w.0.left))
-          c.if-byte-eq-OPEN.branch,
+      elim c.if-byte-eq-OPEN.branch [
+        | then-byte-eq-OPEN+then-on-lt-MAX_BRANCHES w ↦ w.counts-is ∙ rw c.loop-i.invariant.1 (among_counted _ _ 512 c.loop-i.i _ on w.if-on-lt-MAX_BRANCHES.true w.if-byte-eq-OPEN.true)
+        | then-byte-eq-OPEN+else-on-lt-MAX_BRANCHES w ↦ w.counts-is ∙ c.loop-i.invariant.1 ∙ among_beyond _ _ 512 c.loop-i.i (rw on at w.if-on-lt-MAX_BRANCHES.false)
+        | else-byte-eq-OPEN w ↦ w.counts-is ∙ c.loop-i.invariant.1 ∙ among_closed _ _ 512 c.loop-i.i w.if-byte-eq-OPEN.false
+      ],
     )
 
 pub returns : goal.returns

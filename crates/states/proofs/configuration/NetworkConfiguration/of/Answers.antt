@@ -1,10 +1,9 @@
 -- `NetworkConfiguration::of` meets its contract: the first i entries are the state's, the others still 00.
-use mathlib.Core.Path.{◌≡◌, ap, ◌∙◌}
-use Prim.Native.Nat.{◌≤◌, ◌-◌}
+use mathlib.Core.Path.{ap, ◌∙◌}
 use native.Mathlib.Omega.{arith}
-use lib.ListN.{get_or, get_or-eq_default}
+use lib.ListN.{get_or-eq_default}
 use borrow.Author.Rules.{rules}
-use Rattle.numbers.specs.TableLaws.{filled, filled_none, filled_more, filled_all}
+use Rattle.numbers.specs.TableLaws.{filled_none, filled_more, filled_all}
 use Rattle.states.proofs.configuration.NetworkConfiguration.of.Goals as goal
 
 pub loop-i-init : goal.loop-i-init

@@ -1,10 +1,8 @@
 -- `NetworkConfiguration::of` meets its contract: the first i entries are the state's, the others still 00.
-use mathlib.Core.Path.{◌≡◌, ap, ◌∙◌}
+use mathlib.Core.Path.{◌≡◌}
 use Prim.Native.Nat.{◌≤◌, ◌-◌}
-use native.Mathlib.Omega.{arith}
-use lib.ListN.{get_or, get_or-eq_default}
-use borrow.Author.Rules.{rules}
-use Rattle.numbers.specs.TableLaws.{filled, filled_none, filled_more, filled_all}
+use lib.ListN.{get_or}
+use Rattle.numbers.specs.TableLaws.{filled}
 use Rattle.states.proofs.configuration.NetworkConfiguration.of.Given as goal
 
 abbrev pub invariant-loop-i : goal.invariant-loop-i
