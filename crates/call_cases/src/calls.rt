@@ -11,7 +11,7 @@ use controller::calls::{
     feeder_form, feeder_loss, feeder_plan, feeder_radiality, feeder_repair_text,
 };
 use frames::reader::read_text;
-use libc::STDOUT_FILENO;
+use input::read_input;
 use lines::hex::number_at;
 use network::error::Verdict;
 use network::topology::PowerNetwork;
@@ -20,6 +20,7 @@ use operations::operations::{OperationsAnswer, compute_switch_operations};
 use reconfiguration::solve::solve;
 use resumption::resume::{ResumeAnswer, resume};
 use searches::answer::SolveAnswer;
+use standard_output::write_all;
 use texts::writer::{WriteAnswer, write_text};
 
 // A dot for each byte. The longest text has 27,436.
@@ -29,60 +30,60 @@ fn dots() -> [u8; 28672]
     [46; 28672]
 }
 
-fn print_state(text: &[u8], state: &[u8]) {
-    print_numbers(feeder_radiality(text, state), 2);
-    print_numbers(feeder_form(text, state), 8);
-    print_numbers(feeder_loss(text, state), 16);
-    io::write_all(STDOUT_FILENO, b"\n");
+fn print_state(rt: &impl Print, text: &[u8], state: &[u8]) {
+    print_numbers(rt, feeder_radiality(text, state), 2);
+    print_numbers(rt, feeder_form(text, state), 8);
+    print_numbers(rt, feeder_loss(text, state), 16);
+    write_all(rt, b"\n");
 }
 
-fn print_plan(text: &[u8], present: &[u8], wanted: &[u8], room: usize)
+fn print_plan(rt: &impl Print, text: &[u8], present: &[u8], wanted: &[u8], room: usize)
     requires { room ≤ 28672 }
 {
     let mut out = dots();
-    print_numbers(feeder_plan(text, present, wanted, &mut out[0..room]), 4);
-    print_slice(out, room);
+    print_numbers(rt, feeder_plan(text, present, wanted, &mut out[0..room]), 4);
+    print_slice(rt, out, room);
 }
 
-fn print_operations(network: PowerNetwork, from: &[u8], to: &[u8], room: usize)
+fn print_operations(rt: &impl Print, network: PowerNetwork, from: &[u8], to: &[u8], room: usize)
     requires { room ≤ 28672 }
 {
     let mut out = dots();
     match compute_switch_operations(network, from, to, &mut out[0..room]) {
-        OperationsAnswer::Operations(count) => print_count(count),
-        OperationsAnswer::Refused { number, place } => print_refusal(number, place),
+        OperationsAnswer::Operations(count) => print_count(rt, count),
+        OperationsAnswer::Refused { number, place } => print_refusal(rt, number, place),
     }
-    print_slice(out, room);
+    print_slice(rt, out, room);
 }
 
-fn print_best(network: PowerNetwork, room: usize)
+fn print_best(rt: &impl Print, network: PowerNetwork, room: usize)
     requires { room ≤ 28672 }
 {
     let mut out = dots();
     match solve(network, &mut out[0..room]) {
-        SolveAnswer::Solved(result) => print_result(result),
-        SolveAnswer::Refused { number, place } => print_refusal(number, place),
+        SolveAnswer::Solved(result) => print_result(rt, result),
+        SolveAnswer::Refused { number, place } => print_refusal(rt, number, place),
     }
-    print_slice(out, room);
+    print_slice(rt, out, room);
 }
 
-fn print_written(network: PowerNetwork, room: usize)
+fn print_written(rt: &impl Print, network: PowerNetwork, room: usize)
     requires { room ≤ 28672 }
 {
     let mut out = dots();
     match write_text(network, &mut out[0..room]) {
-        WriteAnswer::Written(length) => print_count(length),
-        WriteAnswer::Refused { number, place } => print_refusal(number, place),
+        WriteAnswer::Written(length) => print_count(rt, length),
+        WriteAnswer::Refused { number, place } => print_refusal(rt, number, place),
     }
-    print_slice(out, room);
+    print_slice(rt, out, room);
 }
 
-fn print_repair(text: &[u8], room: usize)
+fn print_repair(rt: &impl Print, text: &[u8], room: usize)
     requires { room ≤ 28672 }
 {
     let mut out = dots();
-    print_numbers(feeder_repair_text(text, &mut out[0..room]), 4);
-    print_slice(out, room);
+    print_numbers(rt, feeder_repair_text(text, &mut out[0..room]), 4);
+    print_slice(rt, out, room);
 }
 
 // The length of a slice, in four digits of a line.
@@ -92,7 +93,13 @@ fn room_at(line: &[u8], at: usize) -> usize
     at_most(number_at(line, at, 4) as usize, 28672)
 }
 
-fn print_cut_plan(network: PowerNetwork, present: &[u8], wanted: &[u8], slices: &[u8]) {
+fn print_cut_plan(
+    rt: &impl Print,
+    network: PowerNetwork,
+    present: &[u8],
+    wanted: &[u8],
+    slices: &[u8],
+) {
     let mut remaining = dots();
     let mut back = dots();
     let room = room_at(slices, 17);
@@ -106,21 +113,21 @@ fn print_cut_plan(network: PowerNetwork, present: &[u8], wanted: &[u8], slices: 
         &mut remaining[0..room],
         &mut back[0..room_back],
     ) {
-        ResumeAnswer::Remaining(moves) => print_count(moves),
-        ResumeAnswer::Refused { number, place } => print_refusal(number, place),
+        ResumeAnswer::Remaining(moves) => print_count(rt, moves),
+        ResumeAnswer::Refused { number, place } => print_refusal(rt, number, place),
     }
-    print_slice(remaining, room);
-    print_slice(back, room_back);
+    print_slice(rt, remaining, room);
+    print_slice(rt, back, room_back);
 }
 
 // The slices of a text that is refused.
-fn print_unwritten(call: u8, slice: &[u8]) {
+fn print_unwritten(rt: &impl Print, call: u8, slice: &[u8]) {
     if call == 82 {
-        print_slice(dots(), room_at(slice, 17));
-        print_slice(dots(), room_at(slice, 22));
+        print_slice(rt, dots(), room_at(slice, 17));
+        print_slice(rt, dots(), room_at(slice, 22));
         return;
     }
-    print_slice(dots(), at_most(slice.len(), 28672));
+    print_slice(rt, dots(), at_most(slice.len(), 28672));
 }
 
 // A fault that the records get once they are read: a text with it would not be.
@@ -138,27 +145,34 @@ fn changed(mut network: PowerNetwork, change: u8) -> PowerNetwork {
 }
 
 // The calls on records. A text that is refused keeps every byte of the slice.
-fn print_on_records(text: &[u8], line: &[u8], present: &[u8], wanted: &[u8], slice: &[u8])
+fn print_on_records(
+    rt: &impl Print,
+    text: &[u8],
+    line: &[u8],
+    present: &[u8],
+    wanted: &[u8],
+    slice: &[u8],
+)
     requires { 2 ≤ length line.now }
 {
     let reading = read_text(text);
     let verdict = reading.verdict;
     if let Verdict::Refused { number, place } = verdict {
-        print_refusal(number, place);
-        print_unwritten(line[0], slice);
+        print_refusal(rt, number, place);
+        print_unwritten(rt, line[0], slice);
         return;
     }
     let network = changed(reading.network, line[1]);
     let room = at_most(slice.len(), 28672);
     match line[0] {
-        66 => print_best(network, room),
-        82 => print_cut_plan(network, present, wanted, slice),
-        84 => print_written(network, room),
-        _ => print_operations(network, present, wanted, room),
+        66 => print_best(rt, network, room),
+        82 => print_cut_plan(rt, network, present, wanted, slice),
+        84 => print_written(rt, network, room),
+        _ => print_operations(rt, network, present, wanted, room),
     }
 }
 
-fn print_call(text: &[u8], line: &[u8], wanted: &[u8], slice: &[u8]) {
+fn print_call(rt: &impl Print, text: &[u8], line: &[u8], wanted: &[u8], slice: &[u8]) {
     if line.len() < 3 {
         return;
     }
@@ -167,23 +181,30 @@ fn print_call(text: &[u8], line: &[u8], wanted: &[u8], slice: &[u8]) {
     let n = at_most(line.len() - 3, MAX_STATE);
     let m = at_most(wanted.len(), MAX_STATE);
     match line[0] {
-        68 => print_repair(text, at_most(slice.len(), 28672)),
-        83 => print_state(text, &from[0..n]),
-        80 => print_plan(text, &from[0..n], &to[0..m], at_most(slice.len(), 28672)),
-        _ => print_on_records(text, line, &from[0..n], &to[0..m], slice),
+        68 => print_repair(rt, text, at_most(slice.len(), 28672)),
+        83 => print_state(rt, text, &from[0..n]),
+        80 => print_plan(
+            rt,
+            text,
+            &from[0..n],
+            &to[0..m],
+            at_most(slice.len(), 28672),
+        ),
+        _ => print_on_records(rt, text, line, &from[0..n], &to[0..m], slice),
     }
 }
 
 // Prints what comes of the first case, and answers where it ends.
-fn print_case(input: &[u8]) -> usize
+fn print_case(rt: &impl Print, input: &[u8]) -> usize
     ensures { result ≤ length input.now }
 {
     let case = first_case(input);
     let line = line_behind(input, case.text.to);
     let wanted = line_behind(input, line.to);
     let slice = line_behind(input, wanted.to);
-    io::write_all(STDOUT_FILENO, part_of(input, case.name));
+    write_all(rt, part_of(input, case.name));
     print_call(
+        rt,
         part_of(input, case.text),
         part_of(input, line),
         part_of(input, wanted),
@@ -192,10 +213,10 @@ fn print_case(input: &[u8]) -> usize
     slice.to
 }
 
-fn print_cases(input: &[u8]) {
+fn print_cases(rt: &impl Print, input: &[u8]) {
     let mut at = 0usize;
     while at < input.len() {
-        at = at + print_case(&input[at..]) + 1;
+        at = at + print_case(rt, &input[at..]) + 1;
     }
 }
 
@@ -206,8 +227,8 @@ fn buffer() -> [u8; 393216]
     [0; 393216]
 }
 
-pub(crate) fn print_input() {
+pub(crate) fn print_input(rt: &(impl Input + Print)) {
     let mut buffer = buffer();
-    let n = io::read_full(0, &mut buffer);
-    print_cases(&buffer[..n]);
+    let n = read_input(&mut rt.reader(), &mut buffer).count;
+    print_cases(rt, &buffer[..n]);
 }

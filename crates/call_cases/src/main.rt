@@ -5,6 +5,6 @@
 mod calls;
 mod output;
 
-fn main() {
-    calls::print_input();
+fn main(rt: HostRuntime) {
+    calls::print_input(&rt);
 }

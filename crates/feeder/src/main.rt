@@ -9,17 +9,17 @@ ghost use Rattle.answers.specs.Printing.{printed};
 
 use answers::printer::{TextAnswer, answer_text};
 use input::{Input, read_input};
-use libc::{STDERR_FILENO, STDOUT_FILENO};
 use numbers::wide16;
 use printing::lengths::{MAX_LENGTH, REFUSAL_LENGTH};
 use printing::writer::write_refusal;
+use std::io::Read;
 
 // Reads a text into room for all that can decide it (answers/specs/PrintingLaws, printed_early), which is demanded of the room alone.
-fn read_whole(room: &mut [u8]) -> Input
+fn read_whole<R: Read>(reader: &mut R, room: &mut [u8]) -> Input
     requires { deciding_length ≤ length room.old }
     ensures { IsPrefixLen result.count room.new }
 {
-    read_input(room)
+    read_input(reader, room)
 }
 
 // What is printed for a text, at the front of the slice, and how many bytes it is: the lines that are answered, or the 8F line of a refusal.
@@ -37,16 +37,17 @@ fn print_text(text: &[u8], out: &mut [u8]) -> usize
     }
 }
 
-fn main() {
-    let mut text = io::large_buffer();
-    let input = read_whole(&mut text);
+fn main(rt: HostRuntime) {
+    // 65,536 bytes of a text are read at most.
+    let mut text = [0u8; 65536];
+    let input = read_whole(&mut rt.stdin(), &mut text);
     if input.failed {
-        io::write_all(STDERR_FILENO, b"feeder: the input cannot be read\n");
+        let _ = rt.eprintln("feeder: the input cannot be read");
         return;
     }
     let mut out = [0u8; MAX_LENGTH];
     let n = print_text(&text[..input.count], &mut out);
-    if !io::write_all(STDOUT_FILENO, &out[..n]) {
-        io::write_all(STDERR_FILENO, b"feeder: the answer cannot be written\n");
+    if rt.write_all(&out[..n]).is_err() {
+        let _ = rt.eprintln("feeder: the answer cannot be written");
     }
 }

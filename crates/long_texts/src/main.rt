@@ -3,8 +3,8 @@
 
 ghost use Rattle.std.specs.Prelude.{◌≡◌, length};
 
-use libc::STDOUT_FILENO;
 use network::error::Verdict;
+use standard_output::{print_decimal, write_all};
 
 fn text_of(character: u8) -> [u8; 524288]
     ensures { 524288 ≡ length result }
@@ -12,27 +12,27 @@ fn text_of(character: u8) -> [u8; 524288]
     [character; 524288]
 }
 
-fn print_verdict(text: &[u8]) {
+fn print_verdict(rt: &impl Print, text: &[u8]) {
     let reading = frames::reader::read_text(text);
     let verdict = reading.verdict;
     match verdict {
         Verdict::Accepted => {
-            io::write_all(STDOUT_FILENO, b"accepted\n");
+            write_all(rt, b"accepted\n");
         }
         Verdict::Refused { number, place } => {
-            io::print_decimal(STDOUT_FILENO, number as u64);
-            io::write_all(STDOUT_FILENO, b" ");
-            io::print_decimal(STDOUT_FILENO, place as u64);
-            io::write_all(STDOUT_FILENO, b"\n");
+            print_decimal(rt, number as u64);
+            write_all(rt, b" ");
+            print_decimal(rt, place as u64);
+            write_all(rt, b"\n");
         }
     }
 }
 
-fn main() {
+fn main(rt: HostRuntime) {
     let digits = text_of(b'0');
-    print_verdict(&digits);
+    print_verdict(&rt, &digits);
     let line_feeds = text_of(b'\n');
-    print_verdict(&line_feeds);
+    print_verdict(&rt, &line_feeds);
     let others = text_of(255);
-    print_verdict(&others);
+    print_verdict(&rt, &others);
 }

@@ -6,12 +6,13 @@
 ghost use Rattle.std.specs.Prelude.{◌≡◌, ◌≤◌, length};
 
 use cases::{MAX_STATE, first_case, line_behind, part_of, state_bytes};
-use libc::STDOUT_FILENO;
+use input::read_input;
 use losses::evaluation::{LossAnswer, evaluate_config};
 use network::error::Verdict;
 use network::switch::Switch;
 use network::topology::PowerNetwork;
 use numbers::at_most;
+use standard_output::{print_decimal, print_hex, write_all};
 
 // What the records get once they are read: a fault, with which a text would not be, or no supply, whose number then decides nothing.
 fn changed(mut network: PowerNetwork, change: u8) -> PowerNetwork {
@@ -33,62 +34,62 @@ fn changed(mut network: PowerNetwork, change: u8) -> PowerNetwork {
 }
 
 // No loss is below zero or a NaN: such a one would print no bits.
-fn print_loss(loss: f64) {
-    io::write_all(STDOUT_FILENO, b" ");
+fn print_loss(rt: &impl Print, loss: f64) {
+    write_all(rt, b" ");
     if loss >= 0.0 {
-        io::print_hex(STDOUT_FILENO, f64::to_bits(loss), 16);
+        print_hex(rt, f64::to_bits(loss), 16);
     }
-    io::write_all(STDOUT_FILENO, b"\n");
+    write_all(rt, b"\n");
 }
 
-fn print_refusal(number: u8, place: u16) {
-    io::write_all(STDOUT_FILENO, b" ");
-    io::print_decimal(STDOUT_FILENO, number as u64);
-    io::write_all(STDOUT_FILENO, b" ");
-    io::print_decimal(STDOUT_FILENO, place as u64);
-    io::write_all(STDOUT_FILENO, b"\n");
+fn print_refusal(rt: &impl Print, number: u8, place: u16) {
+    write_all(rt, b" ");
+    print_decimal(rt, number as u64);
+    write_all(rt, b" ");
+    print_decimal(rt, place as u64);
+    write_all(rt, b"\n");
 }
 
-fn print_answer(answer: LossAnswer) {
+fn print_answer(rt: &impl Print, answer: LossAnswer) {
     match answer {
-        LossAnswer::Loss(loss) => print_loss(loss),
-        LossAnswer::Refused { number, place } => print_refusal(number, place),
+        LossAnswer::Loss(loss) => print_loss(rt, loss),
+        LossAnswer::Refused { number, place } => print_refusal(rt, number, place),
     }
 }
 
 // The line has the change and the state. The text is read as a stored one, so that it is the call that refuses a branch from a bus to itself. A text that is refused here is
 // said to be no feeder: such a case is wrongly made.
-fn print_text(text: &[u8], line: &[u8]) {
+fn print_text(rt: &impl Print, text: &[u8], line: &[u8]) {
     if line.len() < 2 {
         return;
     }
     let reading = frames::reader::read_stored(text);
     let verdict = reading.verdict;
     let Verdict::Accepted = verdict else {
-        io::write_all(STDOUT_FILENO, b" no feeder\n");
+        write_all(rt, b" no feeder\n");
         return;
     };
     let state = state_bytes(&line[2..]);
     let n = at_most(line.len() - 2, MAX_STATE);
     let network = changed(reading.network, line[0]);
-    print_answer(evaluate_config(network, &state[0..n]));
+    print_answer(rt, evaluate_config(network, &state[0..n]));
 }
 
 // Prints what comes of the first case, and answers where it ends.
-fn print_case(input: &[u8]) -> usize
+fn print_case(rt: &impl Print, input: &[u8]) -> usize
     ensures { result ≤ length input.now }
 {
     let case = first_case(input);
     let line = line_behind(input, case.text.to);
-    io::write_all(STDOUT_FILENO, part_of(input, case.name));
-    print_text(part_of(input, case.text), part_of(input, line));
+    write_all(rt, part_of(input, case.name));
+    print_text(rt, part_of(input, case.text), part_of(input, line));
     line.to
 }
 
-fn print_cases(input: &[u8]) {
+fn print_cases(rt: &impl Print, input: &[u8]) {
     let mut at = 0usize;
     while at < input.len() {
-        at = at + print_case(&input[at..]) + 1;
+        at = at + print_case(rt, &input[at..]) + 1;
     }
 }
 
@@ -99,8 +100,8 @@ fn buffer() -> [u8; 327680]
     [0; 327680]
 }
 
-fn main() {
+fn main(rt: HostRuntime) {
     let mut buffer = buffer();
-    let n = io::read_full(0, &mut buffer);
-    print_cases(&buffer[..n]);
+    let n = read_input(&mut rt.stdin(), &mut buffer).count;
+    print_cases(&rt, &buffer[..n]);
 }

@@ -7,12 +7,13 @@
 ghost use Rattle.std.specs.Prelude.{◌≡◌, ◌≤◌, length};
 
 use cases::{MAX_STATE, first_case, line_behind, part_of, state_bytes};
-use libc::STDOUT_FILENO;
+use input::read_input;
 use network::error::Verdict;
 use network::switch::{ReconfigAlgorithm, Switch};
 use network::topology::PowerNetwork;
 use numbers::at_most;
 use plan::planner::{PlanAnswer, plan};
+use standard_output::{print_decimal, write_all};
 
 // The feeder of a case, and where the case ends.
 #[derive(Clone, Copy)]
@@ -43,40 +44,40 @@ fn dots() -> [u8; 4096]
     [46; 4096]
 }
 
-fn print_answer(answer: PlanAnswer) {
-    io::write_all(STDOUT_FILENO, b" ");
+fn print_answer(rt: &impl Print, answer: PlanAnswer) {
+    write_all(rt, b" ");
     match answer {
         PlanAnswer::Pairs(count) => {
-            io::print_decimal(STDOUT_FILENO, count as u64);
+            print_decimal(rt, count as u64);
         }
         PlanAnswer::Refused { number, place } => {
-            io::write_all(STDOUT_FILENO, b"refused ");
-            io::print_decimal(STDOUT_FILENO, number as u64);
-            io::write_all(STDOUT_FILENO, b" ");
-            io::print_decimal(STDOUT_FILENO, place as u64);
+            write_all(rt, b"refused ");
+            print_decimal(rt, number as u64);
+            write_all(rt, b" ");
+            print_decimal(rt, place as u64);
         }
     }
 }
 
 // The slice stands between brackets, its line feeds as they are.
-fn print_slice(out: [u8; 4096], room: usize)
+fn print_slice(rt: &impl Print, out: [u8; 4096], room: usize)
     requires { room ≤ 4096 }
 {
-    io::write_all(STDOUT_FILENO, b" [");
-    io::write_all(STDOUT_FILENO, &out[0..room]);
-    io::write_all(STDOUT_FILENO, b"]\n");
+    write_all(rt, b" [");
+    write_all(rt, &out[0..room]);
+    write_all(rt, b"]\n");
 }
 
-fn print_plan(network: PowerNetwork, present: &[u8], wanted: &[u8], room: usize)
+fn print_plan(rt: &impl Print, network: PowerNetwork, present: &[u8], wanted: &[u8], room: usize)
     requires { room ≤ 4096 }
 {
     let mut out = dots();
-    print_answer(plan(network, present, wanted, &mut out[0..room]));
-    print_slice(out, room);
+    print_answer(rt, plan(network, present, wanted, &mut out[0..room]));
+    print_slice(rt, out, room);
 }
 
 // The line has the change and the present state.
-fn print_states(network: PowerNetwork, line: &[u8], wanted: &[u8], room: usize) {
+fn print_states(rt: &impl Print, network: PowerNetwork, line: &[u8], wanted: &[u8], room: usize) {
     if line.len() < 2 {
         return;
     }
@@ -85,35 +86,36 @@ fn print_states(network: PowerNetwork, line: &[u8], wanted: &[u8], room: usize) 
     let n = at_most(line.len() - 2, MAX_STATE);
     let m = at_most(wanted.len(), MAX_STATE);
     let network = changed(network, line[0]);
-    print_plan(network, &from[0..n], &to[0..m], at_most(room, 4096));
+    print_plan(rt, network, &from[0..n], &to[0..m], at_most(room, 4096));
 }
 
 // The text is read as a stored one, so that it is the call that refuses a branch from a bus to itself. A text that is refused here is said to be no feeder: such a case is
 // wrongly made.
-fn feeder(text: &[u8], before: PowerNetwork) -> PowerNetwork {
+fn feeder(rt: &impl Print, text: &[u8], before: PowerNetwork) -> PowerNetwork {
     if text.len() == 0 {
         return before;
     }
     let reading = frames::reader::read_stored(text);
     let verdict = reading.verdict;
     let Verdict::Accepted = verdict else {
-        io::write_all(STDOUT_FILENO, b" no feeder");
+        write_all(rt, b" no feeder");
         return before;
     };
     reading.network
 }
 
 // Prints what comes of the first case.
-fn print_case(input: &[u8], before: PowerNetwork) -> Done
+fn print_case(rt: &impl Print, input: &[u8], before: PowerNetwork) -> Done
     ensures { result.to ≤ length input.now }
 {
     let case = first_case(input);
     let line = line_behind(input, case.text.to);
     let wanted = line_behind(input, line.to);
     let slice = line_behind(input, wanted.to);
-    io::write_all(STDOUT_FILENO, part_of(input, case.name));
-    let network = feeder(part_of(input, case.text), before);
+    write_all(rt, part_of(input, case.name));
+    let network = feeder(rt, part_of(input, case.text), before);
     print_states(
+        rt,
         network,
         part_of(input, line),
         part_of(input, wanted),
@@ -125,11 +127,11 @@ fn print_case(input: &[u8], before: PowerNetwork) -> Done
     }
 }
 
-fn print_cases(input: &[u8]) {
+fn print_cases(rt: &impl Print, input: &[u8]) {
     let mut network = PowerNetwork::new(1.0, ReconfigAlgorithm::BranchExchange, 100);
     let mut at = 0usize;
     while at < input.len() {
-        let done = print_case(&input[at..], network);
+        let done = print_case(rt, &input[at..], network);
         network = done.network;
         at = at + done.to + 1;
     }
@@ -142,8 +144,8 @@ fn buffer() -> [u8; 655360]
     [0; 655360]
 }
 
-fn main() {
+fn main(rt: HostRuntime) {
     let mut buffer = buffer();
-    let n = io::read_full(0, &mut buffer);
-    print_cases(&buffer[..n]);
+    let n = read_input(&mut rt.stdin(), &mut buffer).count;
+    print_cases(&rt, &buffer[..n]);
 }

@@ -4,40 +4,41 @@
 ghost use Rattle.std.specs.Prelude.{◌≡◌, ◌≤◌, length};
 
 use cases::{first_case, part_of};
-use libc::STDOUT_FILENO;
+use input::read_input;
 use network::error::Verdict;
+use standard_output::{print_decimal, write_all};
 
-fn print_verdict(verdict: Verdict) {
+fn print_verdict(rt: &impl Print, verdict: Verdict) {
     match verdict {
         Verdict::Accepted => {
-            io::write_all(STDOUT_FILENO, b" accepted\n");
+            write_all(rt, b" accepted\n");
         }
         Verdict::Refused { number, place } => {
-            io::write_all(STDOUT_FILENO, b" ");
-            io::print_decimal(STDOUT_FILENO, number as u64);
-            io::write_all(STDOUT_FILENO, b" ");
-            io::print_decimal(STDOUT_FILENO, place as u64);
-            io::write_all(STDOUT_FILENO, b"\n");
+            write_all(rt, b" ");
+            print_decimal(rt, number as u64);
+            write_all(rt, b" ");
+            print_decimal(rt, place as u64);
+            write_all(rt, b"\n");
         }
     }
 }
 
 // Prints what comes of the first case, and answers where it ends.
-fn print_case(input: &[u8]) -> usize
+fn print_case(rt: &impl Print, input: &[u8]) -> usize
     ensures { result ≤ length input.now }
 {
     let case = first_case(input);
-    io::write_all(STDOUT_FILENO, part_of(input, case.name));
+    write_all(rt, part_of(input, case.name));
     let reading = frames::reader::read_text(part_of(input, case.text));
     let verdict = reading.verdict;
-    print_verdict(verdict);
+    print_verdict(rt, verdict);
     case.text.to
 }
 
-fn print_cases(input: &[u8]) {
+fn print_cases(rt: &impl Print, input: &[u8]) {
     let mut at = 0usize;
     while at < input.len() {
-        at = at + print_case(&input[at..]) + 1;
+        at = at + print_case(rt, &input[at..]) + 1;
     }
 }
 
@@ -48,8 +49,8 @@ fn buffer() -> [u8; 622592]
     [0; 622592]
 }
 
-fn main() {
+fn main(rt: HostRuntime) {
     let mut buffer = buffer();
-    let n = io::read_full(0, &mut buffer);
-    print_cases(&buffer[..n]);
+    let n = read_input(&mut rt.stdin(), &mut buffer).count;
+    print_cases(&rt, &buffer[..n]);
 }

@@ -11,11 +11,12 @@ ghost use Rattle.frames.specs.Lengths.{longest_text};
 
 use cases::{first_case, line_behind, part_of};
 use frames::reader::read_text;
-use libc::STDOUT_FILENO;
+use input::read_input;
 use lines::hex::number_at;
 use network::error::Verdict;
 use numbers::at_most;
 use repairs::repair::repair_text;
+use standard_output::{print_decimal, write_all};
 use texts::writer::{LONGEST_TEXT, WriteAnswer};
 
 // How much longer the last slice is than the repair.
@@ -30,33 +31,33 @@ fn dots() -> [u8; MOST_ROOM]
     [46; MOST_ROOM]
 }
 
-fn print_refusal(number: u8, place: u16) {
-    io::write_all(STDOUT_FILENO, b"refused ");
-    io::print_decimal(STDOUT_FILENO, number as u64);
-    io::write_all(STDOUT_FILENO, b" ");
-    io::print_decimal(STDOUT_FILENO, place as u64);
+fn print_refusal(rt: &impl Print, number: u8, place: u16) {
+    write_all(rt, b"refused ");
+    print_decimal(rt, number as u64);
+    write_all(rt, b" ");
+    print_decimal(rt, place as u64);
 }
 
 // What a new text is answered with.
-fn print_verdict(text: &[u8]) {
+fn print_verdict(rt: &impl Print, text: &[u8]) {
     let reading = read_text(text);
     let verdict = reading.verdict;
     match verdict {
         Verdict::Accepted => {
-            io::write_all(STDOUT_FILENO, b"accepted");
+            write_all(rt, b"accepted");
         }
-        Verdict::Refused { number, place } => print_refusal(number, place),
+        Verdict::Refused { number, place } => print_refusal(rt, number, place),
     }
-    io::write_all(STDOUT_FILENO, b"\n");
+    write_all(rt, b"\n");
 }
 
-fn print_answer(answer: WriteAnswer) {
+fn print_answer(rt: &impl Print, answer: WriteAnswer) {
     match answer {
         WriteAnswer::Written(length) => {
-            io::print_decimal(STDOUT_FILENO, length as u64);
-            io::write_all(STDOUT_FILENO, b" written");
+            print_decimal(rt, length as u64);
+            write_all(rt, b" written");
         }
-        WriteAnswer::Refused { number, place } => print_refusal(number, place),
+        WriteAnswer::Refused { number, place } => print_refusal(rt, number, place),
     }
 }
 
@@ -80,77 +81,77 @@ fn begins_with(out: &[u8], front: &[u8]) -> bool {
     front.len() <= out.len()
 }
 
-fn print_slice(out: &[u8], text: &[u8], before: &[u8]) {
+fn print_slice(rt: &impl Print, out: &[u8], text: &[u8], before: &[u8]) {
     if begins_with(out, b"") {
-        io::write_all(STDOUT_FILENO, b", kept\n");
+        write_all(rt, b", kept\n");
         return;
     }
     if begins_with(out, text) {
-        io::write_all(STDOUT_FILENO, b", as stored\n");
+        write_all(rt, b", as stored\n");
         return;
     }
     if begins_with(out, before) {
-        io::write_all(STDOUT_FILENO, b", as before\n");
+        write_all(rt, b", as before\n");
         return;
     }
-    io::write_all(STDOUT_FILENO, b", [");
-    io::write_all(STDOUT_FILENO, out);
-    io::write_all(STDOUT_FILENO, b"]\n");
+    write_all(rt, b", [");
+    write_all(rt, out);
+    write_all(rt, b"]\n");
 }
 
-fn print_room(room: usize) {
-    io::print_decimal(STDOUT_FILENO, room as u64);
-    io::write_all(STDOUT_FILENO, b": ");
+fn print_room(rt: &impl Print, room: usize) {
+    print_decimal(rt, room as u64);
+    write_all(rt, b": ");
 }
 
 // The first bytes were lent.
-fn print_first(bytes: [u8; MOST_ROOM], room: usize, text: &[u8], before: &[u8])
+fn print_first(rt: &impl Print, bytes: [u8; MOST_ROOM], room: usize, text: &[u8], before: &[u8])
     requires { room ≤ longest_text + 80 }
 {
-    print_slice(&bytes[0..room], text, before);
+    print_slice(rt, &bytes[0..room], text, before);
 }
 
-fn print_repair(text: &[u8], room: usize, before: &[u8])
+fn print_repair(rt: &impl Print, text: &[u8], room: usize, before: &[u8])
     requires { room ≤ longest_text + 80 }
 {
     let mut out = dots();
-    print_room(room);
-    print_answer(repair_text(text, &mut out[0..room]));
-    print_first(out, room, text, before);
+    print_room(rt, room);
+    print_answer(rt, repair_text(text, &mut out[0..room]));
+    print_first(rt, out, room, text, before);
 }
 
-fn print_others(text: &[u8], room: usize, before: &[u8])
+fn print_others(rt: &impl Print, text: &[u8], room: usize, before: &[u8])
     requires { room ≤ longest_text }
 {
-    print_repair(text, 0, before);
+    print_repair(rt, text, 0, before);
     if room > 0 {
-        print_repair(text, room - 1, before);
+        print_repair(rt, text, room - 1, before);
     }
-    print_repair(text, room + 1, before);
-    print_repair(text, room + LONGER, before);
+    print_repair(rt, text, room + 1, before);
+    print_repair(rt, text, room + LONGER, before);
 }
 
 // The first slice, the others, and what is read before the 87 lines.
-fn print_slices(first: [u8; MOST_ROOM], text: &[u8], room: usize, left: usize)
+fn print_slices(rt: &impl Print, first: [u8; MOST_ROOM], text: &[u8], room: usize, left: usize)
     requires room_le_longest_text { room ≤ longest_text }
     requires left_le_longest_text { left ≤ longest_text }
 {
-    print_slice(&first[0..room], text, b"");
-    print_others(text, room, &first[0..room]);
+    print_slice(rt, &first[0..room], text, b"");
+    print_others(rt, text, room, &first[0..room]);
     if left > 0 {
-        print_verdict(&first[0..left]);
+        print_verdict(rt, &first[0..left]);
     }
 }
 
-fn print_text(text: &[u8], room: usize, left: usize)
+fn print_text(rt: &impl Print, text: &[u8], room: usize, left: usize)
     requires room_le_longest_text { room ≤ longest_text }
     requires left_le_longest_text { left ≤ longest_text }
 {
-    print_verdict(text);
+    print_verdict(rt, text);
     let mut first = dots();
-    print_room(room);
-    print_answer(repair_text(text, &mut first[0..room]));
-    print_slices(first, text, room, left);
+    print_room(rt, room);
+    print_answer(rt, repair_text(text, &mut first[0..room]));
+    print_slices(rt, first, text, room, left);
 }
 
 // A length, in four digits of a line.
@@ -161,15 +162,16 @@ fn length_at(line: &[u8], at: usize) -> usize
 }
 
 // Prints what comes of the first case, and answers where it ends.
-fn print_case(input: &[u8]) -> usize
+fn print_case(rt: &impl Print, input: &[u8]) -> usize
     ensures { result ≤ length input.now }
 {
     let case = first_case(input);
     let line = line_behind(input, case.text.to);
     let lengths = part_of(input, line);
-    io::write_all(STDOUT_FILENO, part_of(input, case.name));
-    io::write_all(STDOUT_FILENO, b" ");
+    write_all(rt, part_of(input, case.name));
+    write_all(rt, b" ");
     print_text(
+        rt,
         part_of(input, case.text),
         length_at(lengths, 0),
         length_at(lengths, 5),
@@ -177,10 +179,10 @@ fn print_case(input: &[u8]) -> usize
     line.to
 }
 
-fn print_cases(input: &[u8]) {
+fn print_cases(rt: &impl Print, input: &[u8]) {
     let mut at = 0usize;
     while at < input.len() {
-        at = at + print_case(&input[at..]) + 1;
+        at = at + print_case(rt, &input[at..]) + 1;
     }
 }
 
@@ -191,8 +193,8 @@ fn buffer() -> [u8; 344064]
     [0; 344064]
 }
 
-fn main() {
+fn main(rt: HostRuntime) {
     let mut buffer = buffer();
-    let n = io::read_full(0, &mut buffer);
-    print_cases(&buffer[..n]);
+    let n = read_input(&mut rt.stdin(), &mut buffer).count;
+    print_cases(&rt, &buffer[..n]);
 }

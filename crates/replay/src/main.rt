@@ -6,10 +6,12 @@ ghost use Rattle.std.specs.Prelude.{◌≡◌, ◌+◌, ◌≤◌, ◌<◌, leng
 ghost use Rattle.printing.specs.Lengths.{printed_length};
 
 use answers::printer::{TextAnswer, answer_text};
-use libc::{STDIN_FILENO, STDOUT_FILENO};
+use input::read_input;
 use numbers::wide16;
 use printing::lengths::{MAX_LENGTH, REFUSAL_LENGTH};
 use printing::writer::write_refusal;
+use standard_output::{print_decimal, write_all};
+use std::io::Read;
 
 // The list's limit: no text is longer. No output is longer than MAX_LENGTH.
 const MOST_TEXT: usize = 32767;
@@ -82,14 +84,14 @@ fn prints(out: &[u8], n: usize, output: &[u8]) -> bool {
     if out.len() < n {
         return false;
     }
-    check::same(&out[0..n], output) && kept(&out[n..])
+    out[0..n] == *output && kept(&out[n..])
 }
 
 // Whether a refusal's line is the output, and every byte is kept.
 fn refuses(out: &[u8], number: u8, place: u16, output: &[u8]) -> bool {
     let mut line = [0u8; REFUSAL_LENGTH];
     write_refusal(&mut line, number, place);
-    check::same(&line, output) && kept(out)
+    line[..] == *output && kept(out)
 }
 
 // The slice that an answer is written to.
@@ -109,11 +111,11 @@ fn answers_with(text: &[u8], output: &[u8]) -> bool {
 }
 
 // Whether the input has n bytes more, which come to the front of the room.
-fn read_bytes(room: &mut [u8], n: usize) -> bool
+fn read_bytes<R: Read>(reader: &mut R, room: &mut [u8], n: usize) -> bool
     requires { n ≤ length room.old }
     ensures { length room.new ≡ length room.old }
 {
-    io::read_full(STDIN_FILENO, &mut room[0..n]) == n
+    read_input(reader, &mut room[0..n]).count == n
 }
 
 fn text_room() -> [u8; MOST_TEXT]
@@ -129,15 +131,15 @@ fn output_room() -> [u8; MAX_LENGTH]
 }
 
 // Reads an entry's text of n bytes and its output of m, and replays it.
-fn replay_entry(n: usize, m: usize) -> Entry
+fn replay_entry<R: Read>(reader: &mut R, n: usize, m: usize) -> Entry
     requires { (n ≤ 32767) × (m ≤ printed_length) }
 {
     let mut text = text_room();
-    if !read_bytes(&mut text, n) {
+    if !read_bytes(reader, &mut text, n) {
         return Entry::Missing { ended: false };
     }
     let mut output = output_room();
-    if !read_bytes(&mut output, m) {
+    if !read_bytes(reader, &mut output, m) {
         return Entry::Missing { ended: false };
     }
     let same = answers_with(&text[0..n], &output[0..m]);
@@ -145,9 +147,9 @@ fn replay_entry(n: usize, m: usize) -> Entry
 }
 
 // Reads an entry's head, and replays it.
-fn next_entry() -> Entry {
+fn next_entry<R: Read>(reader: &mut R) -> Entry {
     let mut head = [0u8; HEAD_LENGTH];
-    let n = io::read_full(STDIN_FILENO, &mut head);
+    let n = read_input(reader, &mut head).count;
     if n == 0 {
         return Entry::Missing { ended: true };
     }
@@ -159,7 +161,7 @@ fn next_entry() -> Entry {
     if text_length > MOST_TEXT || output_length > MAX_LENGTH {
         return Entry::Missing { ended: false };
     }
-    replay_entry(text_length, output_length)
+    replay_entry(reader, text_length, output_length)
 }
 
 // What is found with one entry more. Entries are counted from 1.
@@ -196,7 +198,7 @@ fn counted(found: Found, same: bool) -> Found
 }
 
 // Replays the list from its start to its end, or as far as it can be read.
-fn replay() -> Found
+fn replay<R: Read>(reader: &mut R) -> Found
     ensures { result.texts ≤ 65535 }
 {
     let mut found = Found {
@@ -206,7 +208,7 @@ fn replay() -> Found
         ended: false,
     };
     while found.texts < MOST_ENTRIES {
-        match next_entry() {
+        match next_entry(reader) {
             Entry::Replayed { same } => {
                 found = counted(found, same);
             }
@@ -220,22 +222,22 @@ fn replay() -> Found
 }
 
 // Prints what an entry's number is said of, the number, and a line end.
-fn print_entry(words: &[u8], number: u64) {
-    io::write_all(STDOUT_FILENO, words);
-    io::print_decimal(STDOUT_FILENO, number);
-    io::write_all(STDOUT_FILENO, b"\n");
+fn print_entry(rt: &impl Print, words: &[u8], number: u64) {
+    write_all(rt, words);
+    print_decimal(rt, number);
+    write_all(rt, b"\n");
 }
 
-fn main() {
-    let found = replay();
-    io::print_decimal(STDOUT_FILENO, found.texts);
-    io::write_all(STDOUT_FILENO, b" texts, ");
-    io::print_decimal(STDOUT_FILENO, found.differences);
-    io::write_all(STDOUT_FILENO, b" differences\n");
+fn main(rt: HostRuntime) {
+    let found = replay(&mut rt.stdin());
+    print_decimal(&rt, found.texts);
+    write_all(&rt, b" texts, ");
+    print_decimal(&rt, found.differences);
+    write_all(&rt, b" differences\n");
     if found.differences > 0 {
-        print_entry(b"first different: entry ", found.first);
+        print_entry(&rt, b"first different: entry ", found.first);
     }
     if !found.ended {
-        print_entry(b"cannot be read: entry ", found.texts + 1);
+        print_entry(&rt, b"cannot be read: entry ", found.texts + 1);
     }
 }

@@ -13,13 +13,14 @@
 ghost use Rattle.std.specs.Prelude.{◌≡◌, true, ◌-◌, ◌≤◌, length, drop};
 
 use cases::{MAX_STATE, first_case, line_behind, part_of, state_bytes};
-use libc::STDOUT_FILENO;
+use input::read_input;
 use lines::hex::number_at;
 use network::error::Verdict;
 use network::switch::{ReconfigAlgorithm, Switch};
 use network::topology::PowerNetwork;
 use numbers::at_most;
 use resumption::resume::{ResumeAnswer, resume};
+use standard_output::{print_decimal, write_all};
 
 // Bytes of an 82 line.
 const LINE: usize = 9;
@@ -117,41 +118,41 @@ fn resumed_at(
     resumed(network, present, wanted, count as u64, left, LINE * count)
 }
 
-fn print_answer(count: u64, answer: ResumeAnswer) {
-    io::print_decimal(STDOUT_FILENO, count);
-    io::write_all(STDOUT_FILENO, b" ");
+fn print_answer(rt: &impl Print, count: u64, answer: ResumeAnswer) {
+    print_decimal(rt, count);
+    write_all(rt, b" ");
     match answer {
         ResumeAnswer::Remaining(left) => {
-            io::print_decimal(STDOUT_FILENO, left as u64);
+            print_decimal(rt, left as u64);
         }
         ResumeAnswer::Refused { number, place } => {
-            io::write_all(STDOUT_FILENO, b"refused ");
-            io::print_decimal(STDOUT_FILENO, number as u64);
-            io::write_all(STDOUT_FILENO, b" ");
-            io::print_decimal(STDOUT_FILENO, place as u64);
+            write_all(rt, b"refused ");
+            print_decimal(rt, number as u64);
+            write_all(rt, b" ");
+            print_decimal(rt, place as u64);
         }
     }
 }
 
 // The slice stands between brackets, its line feeds as they are.
-fn print_slice(bytes: [u8; MAX_ROOM], room: usize)
+fn print_slice(rt: &impl Print, bytes: [u8; MAX_ROOM], room: usize)
     requires { room ≤ 4864 }
 {
-    io::write_all(STDOUT_FILENO, b" [");
-    io::write_all(STDOUT_FILENO, &bytes[0..room]);
-    io::write_all(STDOUT_FILENO, b"]");
+    write_all(rt, b" [");
+    write_all(rt, &bytes[0..room]);
+    write_all(rt, b"]");
 }
 
-fn print_call(call: Call)
+fn print_call(rt: &impl Print, call: Call)
     requires { (call.left ≤ 4864) × (call.gone ≤ 4864) }
 {
     let answer = call.answer;
     let remaining = call.remaining;
     let back = call.back;
-    print_answer(call.count, answer);
-    print_slice(remaining, call.left);
-    print_slice(back, call.gone);
-    io::write_all(STDOUT_FILENO, b"\n");
+    print_answer(rt, call.count, answer);
+    print_slice(rt, remaining, call.left);
+    print_slice(rt, back, call.gone);
+    write_all(rt, b"\n");
 }
 
 // Whether a list ends with these bytes.
@@ -172,18 +173,24 @@ fn ends_with(list: &[u8], bytes: &[u8]) -> bool
     true
 }
 
-fn print_end(list: [u8; MAX_ROOM], length: usize, bytes: [u8; MAX_ROOM], room: usize)
+fn print_end(
+    rt: &impl Print,
+    list: [u8; MAX_ROOM],
+    length: usize,
+    bytes: [u8; MAX_ROOM],
+    room: usize,
+)
     requires { (length ≤ 4864) × (room ≤ 4864) }
 {
     if ends_with(&list[0..length], &bytes[0..room]) {
-        io::write_all(STDOUT_FILENO, b" end");
+        write_all(rt, b" end");
         return;
     }
-    print_slice(bytes, room);
+    print_slice(rt, bytes, room);
 }
 
 // The calls at count 0 and at the last count have the longest lists.
-fn print_ends(first: Call, last: Call, call: Call)
+fn print_ends(rt: &impl Print, first: Call, last: Call, call: Call)
     requires { (first.left ≤ 4864) × (last.gone ≤ 4864) × (call.left ≤ 4864) × (call.gone ≤ 4864) }
 {
     let answer = call.answer;
@@ -191,32 +198,45 @@ fn print_ends(first: Call, last: Call, call: Call)
     let back = call.back;
     let longest_remaining = first.remaining;
     let longest_back = last.back;
-    print_answer(call.count, answer);
-    print_end(longest_remaining, first.left, remaining, call.left);
-    print_end(longest_back, last.gone, back, call.gone);
-    io::write_all(STDOUT_FILENO, b"\n");
+    print_answer(rt, call.count, answer);
+    print_end(rt, longest_remaining, first.left, remaining, call.left);
+    print_end(rt, longest_back, last.gone, back, call.gone);
+    write_all(rt, b"\n");
 }
 
-fn print_every_count(network: PowerNetwork, present: &[u8], wanted: &[u8], moves: usize)
+fn print_every_count(
+    rt: &impl Print,
+    network: PowerNetwork,
+    present: &[u8],
+    wanted: &[u8],
+    moves: usize,
+)
     requires { moves ≤ 512 }
 {
     let mut count = 0usize;
     while count <= moves + 1 {
-        print_call(resumed_at(network, present, wanted, moves, count));
+        print_call(rt, resumed_at(network, present, wanted, moves, count));
         count += 1;
     }
 }
 
-fn print_long_plan(network: PowerNetwork, present: &[u8], wanted: &[u8], moves: usize)
+fn print_long_plan(
+    rt: &impl Print,
+    network: PowerNetwork,
+    present: &[u8],
+    wanted: &[u8],
+    moves: usize,
+)
     requires { moves ≤ 512 }
 {
     let first = resumed_at(network, present, wanted, moves, 0);
     let last = resumed_at(network, present, wanted, moves, moves);
-    print_call(first);
-    print_call(last);
+    print_call(rt, first);
+    print_call(rt, last);
     let mut count = 0usize;
     while count <= moves + 1 {
         print_ends(
+            rt,
             first,
             last,
             resumed_at(network, present, wanted, moves, count),
@@ -232,28 +252,37 @@ fn room_at(line: &[u8], at: usize) -> usize
     at_most(number_at(line, at, 4) as usize, MAX_ROOM)
 }
 
-fn print_calls(network: PowerNetwork, present: &[u8], wanted: &[u8], calls: &[u8]) {
+fn print_calls(
+    rt: &impl Print,
+    network: PowerNetwork,
+    present: &[u8],
+    wanted: &[u8],
+    calls: &[u8],
+) {
     if calls.len() == 0 {
         return;
     }
     let number = number_at(calls, 2, 16);
     let moves = at_most(number as usize, MAX_MOVES);
     match calls[0] {
-        69 => print_every_count(network, present, wanted, moves),
-        76 => print_long_plan(network, present, wanted, moves),
-        _ => print_call(resumed(
-            network,
-            present,
-            wanted,
-            number,
-            room_at(calls, 19),
-            room_at(calls, 24),
-        )),
+        69 => print_every_count(rt, network, present, wanted, moves),
+        76 => print_long_plan(rt, network, present, wanted, moves),
+        _ => print_call(
+            rt,
+            resumed(
+                network,
+                present,
+                wanted,
+                number,
+                room_at(calls, 19),
+                room_at(calls, 24),
+            ),
+        ),
     }
 }
 
 // The line has the change and the present state.
-fn print_states(network: PowerNetwork, line: &[u8], wanted: &[u8], calls: &[u8]) {
+fn print_states(rt: &impl Print, network: PowerNetwork, line: &[u8], wanted: &[u8], calls: &[u8]) {
     if line.len() < 2 {
         return;
     }
@@ -262,40 +291,41 @@ fn print_states(network: PowerNetwork, line: &[u8], wanted: &[u8], calls: &[u8])
     let n = at_most(line.len() - 2, MAX_STATE);
     let m = at_most(wanted.len(), MAX_STATE);
     let network = changed(network, line[0]);
-    print_calls(network, &from[0..n], &to[0..m], calls);
+    print_calls(rt, network, &from[0..n], &to[0..m], calls);
 }
 
 // The text is read as a stored one, so that it is the call that refuses a branch from a bus to itself. A text that is refused here is said to be no feeder: such a case is
 // wrongly made.
-fn feeder(text: &[u8], before: PowerNetwork) -> PowerNetwork {
+fn feeder(rt: &impl Print, text: &[u8], before: PowerNetwork) -> PowerNetwork {
     if text.len() == 0 {
         return before;
     }
     let reading = frames::reader::read_stored(text);
     let verdict = reading.verdict;
     let Verdict::Accepted = verdict else {
-        io::write_all(STDOUT_FILENO, b"no feeder\n");
+        write_all(rt, b"no feeder\n");
         return before;
     };
     reading.network
 }
 
-fn print_name(name: &[u8]) {
-    io::write_all(STDOUT_FILENO, name);
-    io::write_all(STDOUT_FILENO, b"\n");
+fn print_name(rt: &impl Print, name: &[u8]) {
+    write_all(rt, name);
+    write_all(rt, b"\n");
 }
 
 // Prints what comes of the first case.
-fn print_case(input: &[u8], before: PowerNetwork) -> Done
+fn print_case(rt: &impl Print, input: &[u8], before: PowerNetwork) -> Done
     ensures { result.to ≤ length input.now }
 {
     let case = first_case(input);
     let line = line_behind(input, case.text.to);
     let wanted = line_behind(input, line.to);
     let calls = line_behind(input, wanted.to);
-    print_name(part_of(input, case.name));
-    let network = feeder(part_of(input, case.text), before);
+    print_name(rt, part_of(input, case.name));
+    let network = feeder(rt, part_of(input, case.text), before);
     print_states(
+        rt,
         network,
         part_of(input, line),
         part_of(input, wanted),
@@ -307,11 +337,11 @@ fn print_case(input: &[u8], before: PowerNetwork) -> Done
     }
 }
 
-fn print_cases(input: &[u8]) {
+fn print_cases(rt: &impl Print, input: &[u8]) {
     let mut network = PowerNetwork::new(1.0, ReconfigAlgorithm::BranchExchange, 100);
     let mut at = 0usize;
     while at < input.len() {
-        let done = print_case(&input[at..], network);
+        let done = print_case(rt, &input[at..], network);
         network = done.network;
         at = at + done.to + 1;
     }
@@ -324,8 +354,8 @@ fn buffer() -> [u8; 524288]
     [0; 524288]
 }
 
-fn main() {
+fn main(rt: HostRuntime) {
     let mut buffer = buffer();
-    let n = io::read_full(0, &mut buffer);
-    print_cases(&buffer[..n]);
+    let n = read_input(&mut rt.stdin(), &mut buffer).count;
+    print_cases(&rt, &buffer[..n]);
 }

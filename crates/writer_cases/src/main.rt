@@ -12,10 +12,11 @@ ghost use Rattle.frames.specs.Lengths.{longest_text};
 use cases::{first_case, line_behind, part_of};
 use changes::changed;
 use frames::reader::read_stored;
-use libc::STDOUT_FILENO;
+use input::read_input;
 use network::error::Verdict;
 use network::topology::PowerNetwork;
 use numbers::at_most;
+use standard_output::{print_decimal, write_all};
 use texts::writer::{LONGEST_TEXT, WriteAnswer, write_text};
 
 // How much longer the last slice is than the text that was read.
@@ -30,16 +31,16 @@ fn dots() -> [u8; MOST_ROOM]
     [46; MOST_ROOM]
 }
 
-fn print_written(length: u16) {
-    io::print_decimal(STDOUT_FILENO, length as u64);
-    io::write_all(STDOUT_FILENO, b" written");
+fn print_written(rt: &impl Print, length: u16) {
+    print_decimal(rt, length as u64);
+    write_all(rt, b" written");
 }
 
-fn print_refusal(number: u8, place: u16) {
-    io::write_all(STDOUT_FILENO, b"refused ");
-    io::print_decimal(STDOUT_FILENO, number as u64);
-    io::write_all(STDOUT_FILENO, b" ");
-    io::print_decimal(STDOUT_FILENO, place as u64);
+fn print_refusal(rt: &impl Print, number: u8, place: u16) {
+    write_all(rt, b"refused ");
+    print_decimal(rt, number as u64);
+    write_all(rt, b" ");
+    print_decimal(rt, place as u64);
 }
 
 // The byte of the front at a position, and a dot behind it.
@@ -62,76 +63,81 @@ fn begins_with(out: &[u8], front: &[u8]) -> bool {
     front.len() <= out.len()
 }
 
-fn print_slice(out: &[u8], text: &[u8]) {
+fn print_slice(rt: &impl Print, out: &[u8], text: &[u8]) {
     if begins_with(out, b"") {
-        io::write_all(STDOUT_FILENO, b", kept\n");
+        write_all(rt, b", kept\n");
         return;
     }
     if begins_with(out, text) {
-        io::write_all(STDOUT_FILENO, b", as read\n");
+        write_all(rt, b", as read\n");
         return;
     }
-    io::write_all(STDOUT_FILENO, b", [");
-    io::write_all(STDOUT_FILENO, out);
-    io::write_all(STDOUT_FILENO, b"]\n");
+    write_all(rt, b", [");
+    write_all(rt, out);
+    write_all(rt, b"]\n");
 }
 
 // The first bytes were lent.
-fn print_first(bytes: [u8; MOST_ROOM], room: usize, text: &[u8])
+fn print_first(rt: &impl Print, bytes: [u8; MOST_ROOM], room: usize, text: &[u8])
     requires { room ≤ longest_text + 80 }
 {
-    print_slice(&bytes[0..room], text);
+    print_slice(rt, &bytes[0..room], text);
 }
 
-fn print_answer(network: PowerNetwork, room: usize, name: &[u8], text: &[u8])
+fn print_answer(rt: &impl Print, network: PowerNetwork, room: usize, name: &[u8], text: &[u8])
     requires { room ≤ longest_text + 80 }
 {
     let mut out = dots();
-    io::write_all(STDOUT_FILENO, name);
-    io::write_all(STDOUT_FILENO, b" ");
-    io::print_decimal(STDOUT_FILENO, room as u64);
-    io::write_all(STDOUT_FILENO, b": ");
+    write_all(rt, name);
+    write_all(rt, b" ");
+    print_decimal(rt, room as u64);
+    write_all(rt, b": ");
     match write_text(network, &mut out[0..room]) {
-        WriteAnswer::Written(length) => print_written(length),
-        WriteAnswer::Refused { number, place } => print_refusal(number, place),
+        WriteAnswer::Written(length) => print_written(rt, length),
+        WriteAnswer::Refused { number, place } => print_refusal(rt, number, place),
     }
-    print_first(out, room, text);
+    print_first(rt, out, room, text);
 }
 
 // A text that the reader refuses is said to be no feeder: such a case is wrongly made.
-fn print_text(name: &[u8], text: &[u8], change: u8) {
+fn print_text(rt: &impl Print, name: &[u8], text: &[u8], change: u8) {
     let n = at_most(text.len(), LONGEST_TEXT);
     let reading = read_stored(text);
     let verdict = reading.verdict;
     let Verdict::Accepted = verdict else {
-        io::write_all(STDOUT_FILENO, b"no feeder\n");
+        write_all(rt, b"no feeder\n");
         return;
     };
     let network = changed(reading.network, change);
-    print_answer(network, 0, name, text);
+    print_answer(rt, network, 0, name, text);
     if n > 0 {
-        print_answer(network, n - 1, name, text);
+        print_answer(rt, network, n - 1, name, text);
     }
-    print_answer(network, n, name, text);
-    print_answer(network, n + 1, name, text);
-    print_answer(network, n + LONGER, name, text);
+    print_answer(rt, network, n, name, text);
+    print_answer(rt, network, n + 1, name, text);
+    print_answer(rt, network, n + LONGER, name, text);
 }
 
 // Prints what comes of the first case, and answers where it ends.
-fn print_case(input: &[u8]) -> usize
+fn print_case(rt: &impl Print, input: &[u8]) -> usize
     ensures { result ≤ length input.now }
 {
     let case = first_case(input);
     let line = line_behind(input, case.text.to);
     let change = byte_of(part_of(input, line), 0);
-    print_text(part_of(input, case.name), part_of(input, case.text), change);
+    print_text(
+        rt,
+        part_of(input, case.name),
+        part_of(input, case.text),
+        change,
+    );
     line.to
 }
 
-fn print_cases(input: &[u8]) {
+fn print_cases(rt: &impl Print, input: &[u8]) {
     let mut at = 0usize;
     while at < input.len() {
-        at = at + print_case(&input[at..]) + 1;
+        at = at + print_case(rt, &input[at..]) + 1;
     }
 }
 
@@ -142,8 +148,8 @@ fn buffer() -> [u8; 278528]
     [0; 278528]
 }
 
-fn main() {
+fn main(rt: HostRuntime) {
     let mut buffer = buffer();
-    let n = io::read_full(0, &mut buffer);
-    print_cases(&buffer[..n]);
+    let n = read_input(&mut rt.stdin(), &mut buffer).count;
+    print_cases(&rt, &buffer[..n]);
 }
