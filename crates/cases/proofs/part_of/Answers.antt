@@ -1,0 +1,6 @@
+-- `part_of` meets its contract: cut to what the input has, a part has the same bytes.
+use Rattle.cases.proofs.Laws.{part_cut}
+use Rattle.cases.proofs.part_of.Goals as goal
+
+pub returns : goal.returns
+returns c = part_cut _ _ _ _ c.at_most-to.ensures c.at_most-from.ensures
