@@ -1,6 +1,6 @@
 -- A network passes the first test of the calls exactly where it is inside document 01's limits, has no branch from a bus to itself, and is supplied as document 02 says; and a
 -- stored text's records where what is left of them is supplied so.
-use Rattle.std.specs.Prelude.{◌≡◌, ◌↔◌, Bool, map, ℕ, ◌+◌, ◌<◌, length}
+use Rattle.std.specs.Prelude.{◌≡◌, ◌↔◌, Bool, map, ℕ, ◌+◌, length}
 use Rattle.std.proofs.Math.Path.{refl, sym}
 use Rattle.std.proofs.Common.{ap, ◌∙◌, true≢false}
 use Rattle.std.proofs.Math.Bool.{true, false, not}
@@ -20,7 +20,7 @@ use Rattle.own_loops.specs.OwnLoops.{without_own}
 use Rattle.own_loops.specs.OwnLoopLaws.{left_inside}
 use Rattle.states.specs.Live.{base_state, live}
 use Rattle.feeders.specs.Feeder.{position, feeder, form_in, radial_in}
-use Rattle.feeders.specs.FeederLaws.{position_listed, inside_radial_tree}
+use Rattle.feeders.specs.FeederLaws.{inside_radial_tree}
 use Rattle.feeders.specs.Supply.{left_if, base_radial, supply_faults, check_supply_line, check_supply, check_as, check_network, check_stored}
 use Rattle.feeders.specs.Supplied.{Supplied}
 
