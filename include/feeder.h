@@ -1,8 +1,8 @@
 /* The calls of Lugwefa for controllers and rollout tools.
  *
- * `rt staticlib controller` proves them and writes target/staticlib/libcontroller.a (x86-64 Linux; it needs memcpy, memmove and memset and
- * nothing else). Their promises are the equations in crates/controller/src/calls.rt. Nothing checks this header against that file
- * but the programs of tests/interface.
+ * include/build proves them and writes target/library/libcontroller.a (x86-64 Linux; it needs memcpy, memmove and memset and
+ * nothing else). Their promises are the equations in crates/controller_c/src/lib.rt, those of crates/controller/src/calls.rt. Nothing checks
+ * this header against these files but the programs of tests/interface.
  *
  * A text is a feeder in the frames of docs/INTERFACE.md. A state has one byte for each switch of the text, in its order: 0 closed, 1 open. Any bytes of any
  * length may be handed over: what is not acceptable is refused.
@@ -81,7 +81,7 @@ extern "C" {
 #define FEEDER_REPAIR_LENGTH FEEDER_LONGEST_TEXT
 
 /* Bytes of stack that each call needs, the same for three buses and for 256: measured to 64 bytes on a stack that ends at a page which faults
- * (tests/interface/stack.c, which fails where a call needs more), on what `rt staticlib controller` writes; tested, not proved. FEEDER_STACK is for a thread
+ * (tests/interface/stack.c, which fails where a call needs more), on what include/build writes; tested, not proved. FEEDER_STACK is for a thread
  * that makes any of the calls: the greatest of them and a quarter, in whole pages. */
 #define FEEDER_RADIALITY_STACK 186176
 #define FEEDER_FORM_STACK 186176

@@ -1,12 +1,12 @@
 //! The original: its five files, unchanged, with stand-ins for the modules that they name and that are not here.
-//! `build` makes target/oracle/sources a link to the sources' folder; nothing of it is copied.
+//! `build` writes target/oracle/original.rs, this file with the sources' folder in place of SOURCES; nothing of it is copied.
 
 #![allow(dead_code, unused_imports)]
 
-#[path = "../../target/oracle/sources/src/error.rs"]
+#[path = "SOURCES/src/error.rs"]
 pub mod error;
 
-#[path = "../../target/oracle/sources/src/network"]
+#[path = "SOURCES/src/network"]
 pub mod network {
     pub mod branch;
     pub mod bus;
