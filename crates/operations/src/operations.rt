@@ -46,6 +46,7 @@ fn check_states(network: PowerNetwork, from: &[u8], to: &[u8]) -> Verdict
 }
 
 // What is done to a switch so that it stands as its byte in a state says.
+#[tactic(auto, unfolding(crate::specs::Operations::operation_to))]
 fn operation_to(switch: Switch, state: u8) -> SwitchOperation
     ensures { result ≡ operation_to switch state }
 {
