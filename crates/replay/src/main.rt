@@ -84,14 +84,14 @@ fn prints(out: &[u8], n: usize, output: &[u8]) -> bool {
     if out.len() < n {
         return false;
     }
-    out[0..n] == *output && kept(&out[n..])
+    &out[0..n] == output && kept(&out[n..])
 }
 
 // Whether a refusal's line is the output, and every byte is kept.
 fn refuses(out: &[u8], number: u8, place: u16, output: &[u8]) -> bool {
     let mut line = [0u8; REFUSAL_LENGTH];
     write_refusal(&mut line, number, place);
-    line[..] == *output && kept(out)
+    &line[..] == output && kept(out)
 }
 
 // The slice that an answer is written to.
