@@ -1,5 +1,6 @@
 -- Every value of the code's type has fields of their types. What it is for machine values to stand for a value (`Is`) says so: of a u16 that it is below 65,536, of an f64 that it fits its format.
 use Rattle.std.specs.Prelude.{List, [], ◌∷◌, map}
+use Rattle.std.proofs.lemmas.List.{map-id}
 use mir.Val.{Val}
 use Rattle.std.specs.Borrow.{Fml}
 use denote.Shadow.{shadow}
@@ -43,7 +44,7 @@ value_typed n vs o =
       base = passes _ g.1.1.1.0.1;
       iterations = g.1.1.1.1.1.0.1;
       supply = g.1.1.1.1.1.1.1.0.1;
-      buses = each_element BusRoom (BusType.the_field).into (BusType.the_field).row.own_val bus_typed n.buses f.0.0 f.0.1.1;
-      branches = each_element BranchRoom (BranchType.the_field).into (BranchType.the_field).row.own_val branch_typed n.branches f.1.0.0 f.1.0.1.1;
-      switches = each_element SwitchRoom (SwitchType.the_field).into (SwitchType.the_field).row.own_val switch_typed n.switches f.1.1.0.0 f.1.1.0.1.1;
+      buses = each_element BusRoom (λ x. x) (BusType.the_row).own_val bus_typed n.buses f.0.0 (rw map-id f.0.1.1);
+      branches = each_element BranchRoom (λ x. x) (BranchType.the_row).own_val branch_typed n.branches f.1.0.0 (rw map-id f.1.0.1.1);
+      switches = each_element SwitchRoom (λ x. x) (SwitchType.the_row).own_val switch_typed n.switches f.1.1.0.0 (rw map-id f.1.1.0.1.1);
     }
