@@ -2,12 +2,8 @@
 use Rattle.network.specs.Check.{head_of}
 use Rattle.network.specs.Records.{records_of}
 use Rattle.numbers.specs.TableLaws.{length_table}
-use Rattle.texts.proofs.writer.head_of.Statement.{statement}
-use Rattle.texts.proofs.writer.head_of.Tie as tie
+use Rattle.texts.proofs.writer.head_of.Goals as goal
 
-returns : tie.Need-returns
+pub returns : goal.returns
 unfolding head_of records_of
 returns c = rw (length_table, length_table, length_table)
-
-pub head_of_spec : {M : Type 1} → statement M
-head_of_spec = tie.close (tie.spec returns)
