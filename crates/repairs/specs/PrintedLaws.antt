@@ -1,5 +1,5 @@
 -- What the program `repair` prints, by the call's answer: into a slice that has room for the longest text the call is refused by the text alone.
-use Rattle.std.specs.Prelude.{◌≡◌, ◌⊎◌, List, ◌++◌, ℕ, ◌≤◌, ◌<◌, take, drop}
+use Rattle.std.specs.Prelude.{◌≡◌, ◌⊎◌, List, ℕ, ◌≤◌, ◌<◌, take, drop}
 use Rattle.std.proofs.Math.Path.{refl}
 use Rattle.std.proofs.Common.{sym, ap, inl, inr, arith}
 use Rattle.std.proofs.Math.ListN.{length, length-append}
@@ -13,7 +13,7 @@ use Rattle.frames.specs.Lengths.{longest_text}
 use Rattle.printing.specs.Calls.{Call}
 use Rattle.printing.specs.CallLaws.{call_answered, call_refusals}
 use Rattle.printing.specs.Printed.{refusal_text}
-use Rattle.repairs.specs.Repairs.{printed_repair, repaired_of, repaired_text}
+use Rattle.repairs.specs.Repairs.{printed_repair, repaired_text}
 use Rattle.repairs.specs.RepairLaws.{repaired_short, is_repairable, printed_so}
 
 module _ (t : List ℕ) where
