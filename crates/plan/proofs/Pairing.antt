@@ -77,7 +77,7 @@ leads_on (next r l) = (r.fits.listed, (opened_live r.fits).0, l)
 made_for : (N : Network) (wanted : State) (E : ℕ → Bool) (cs : List ℕ) → closed_in (pairs_from N wanted E cs) ≡ cs
 unfolding pairs_from
 made_for N wanted E [] = refl
-made_for N wanted E (e ∷ es) = ap (λ (l : List ℕ). e ∷ l) (made_for N wanted _ es)
+made_for N wanted E (e ∷ es) = ap (λ (l : List ℕ). e ∷ l) (made_for N wanted (exchanged E (record { closed = e; opened = opening N wanted E e })) es)
 
 module _ (n : PowerNetwork) (present wanted : State) where
   abbrev N : Network

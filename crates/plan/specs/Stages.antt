@@ -183,7 +183,7 @@ module _ (N : Network) (present wanted : State) (given : Plannable N present wan
   unfolding stage
   leads_at {E = E} l h zero b = (E, l, h.shows)
   leads_at (there t e) h (suc n) b = absurd (omega arith)
-  leads_at (next r l) h (suc n) b = leads_at l (holds_next h r) n (omega arith)
+  leads_at {E = E} (next {q = q} r l) h (suc n) b = leads_at {E = exchanged E q} l (holds_next h r) n (omega arith)
 
   pub due_at : {E : ℕ → Bool} {Q : List Pair} {s : State} → Leads N P W E Q → Holds s E → (n : ℕ) (m : Moves) → get_elem? (map moves Q) n ≡ some m
       → (n < length Q) × (stage N s (map moves Q) (suc n) ≡ carried_out N m (stage N s (map moves Q) n)) × Due N (stage N s (map moves Q) n) m
@@ -204,7 +204,7 @@ module _ (N : Network) (present wanted : State) (given : Plannable N present wan
   stage_byte l h zero i e = refl
   stage_byte (there t w) h (suc n) i e = refl
   stage_byte {s = s} (next {E = E} {q = q} r l) h (suc n) i e =
-      stage_byte l (holds_next h r) n i e
+      stage_byte {E = exchanged E q} l (holds_next h r) n i e
       ∙ other_byte h r i (λ p. clash r.closing.1 (sym (ap W p) ∙ sym e ∙ ap P p ∙ r.closing.0)) (λ p. clash r.opening.0 (sym (ap P p) ∙ e ∙ ap W p ∙ r.opening.1))
 
   -- the point at which the first `done` pairs are carried out
