@@ -2,12 +2,8 @@
 use mathlib.Core.Path.{ap}
 use Rattle.numbers.specs.TableLaws.{replicate_table}
 use Rattle.tabu.specs.TabuValues.{tabu_list_of}
-use Rattle.tabu.proofs.tabu_list.TabuList.new.Statement.{statement}
-use Rattle.tabu.proofs.tabu_list.TabuList.new.Tie as tie
+use Rattle.tabu.proofs.tabu_list.TabuList.new.Goals as goal
 
-returns : tie.Need-returns
+pub returns : goal.returns
 unfolding tabu_list_of
 returns c = ap (λ l. record { ids = l; count = 0 }) (replicate_table 0 7)
-
-pub new_spec : {M : Type 1} → statement M
-new_spec = tie.close (tie.spec returns)

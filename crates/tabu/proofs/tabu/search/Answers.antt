@@ -7,21 +7,16 @@ use Rattle.searches.specs.StartLaws.{start_given, start_base, start_radial}
 use Rattle.tabu.specs.Tabu.{tabu_best}
 use Rattle.tabu.specs.TabuLaws.{tabu_loss}
 use Rattle.tabu.specs.TabuValues.{tabu_of}
-use Rattle.tabu.proofs.tabu.search.Statement.{statement}
-use Rattle.tabu.proofs.tabu.search.Tie as tie
+use Rattle.tabu.proofs.tabu.search.Goals as goal
 
-tabu-rounds-requires : tie.Need-tabu-rounds-requires
-tabu-rounds-requires c κs =
-    let start = c.before.before.before in
-    let n = start.args.network in
-    let sized = buses_256 n start.well-formed.0 in
-    let ok = start.requires.0 in
-    let e = start.requires.1 in
+pub tabu_rounds-done-requires : goal.tabu_rounds-done-requires
+tabu_rounds-done-requires c =
+    let n = c.args.network in
+    let sized = buses_256 n c.well_formed.0 in
+    let ok = c.requires.0 in
+    let e = c.requires.1 in
     (start_given n sized ok e, start_base n sized ok e, start_radial n sized (network_records _ ok) e)
 
-returns : tie.Need-returns
+pub returns : goal.returns
 unfolding tabu_best found_of tabu_of records_of
-returns c = rw (c.before.tabu-rounds.ensures, tabu_loss)
-
-pub search_spec : {M : Type 1} → statement M
-search_spec = tie.close (tie.spec tabu-rounds-requires returns)
+returns c = rw (c.tabu_rounds-done.ensures, tabu_loss)
