@@ -2,11 +2,11 @@
 use Rattle.std.specs.Prelude.{◌≡◌, ◌≢◌, Bool, not, ◌&&◌, List, ℕ, ◌+◌, ◌≤◌, ◌<◌, eqb, ltb, length}
 use Rattle.std.proofs.Math.Path.{refl, sym, ap}
 use Rattle.std.proofs.Common.{◌∙◌, arith, length-set}
-use Rattle.std.proofs.Math.Bool.{true, false, cond, and-false}
+use Rattle.std.proofs.Math.Bool.{true, false, and-false}
 use Rattle.std.proofs.Math.Option.{Option, none, some}
 use Rattle.std.proofs.Math.Decide.{ℕ_discrete, dec_lt}
 use Rattle.std.proofs.Math.ListN.{get_or, set, get_or-eq_default}
-use borrow.Author.Tests.{eqb-true, eq-eqb, ne_eqb, lt-ltb}
+use borrow.Author.Tests.{eqb-true, eq-eqb, ne_eqb}
 use Rattle.numbers.specs.Choose.{least}
 use Rattle.numbers.specs.Tests.{both}
 use Rattle.numbers.specs.TableLaws.{length_table, get_or_table, table_cong, table_set}
@@ -28,11 +28,11 @@ use Rattle.states.specs.OpenCounts.{one_open}
 use Rattle.searches.specs.States.{state_of}
 use Rattle.searches.specs.Given.{Held}
 use Rattle.states.specs.Listed.{switches_listed, few_switches}
-use Rattle.searches.specs.StateLaws.{byte_at, held_long}
+use Rattle.searches.specs.StateLaws.{held_long}
 use Rattle.searches.specs.LiveFlags.{on_flagged, flags_opened, flags_closed}
-use Rattle.exchange.specs.Exchange.{section_of, swap_with}
+use Rattle.exchange.specs.Exchange.{section_of}
 use Rattle.numbers.specs.IfSome.{IfSome, cond_holds, least_passes}
-use Rattle.exchange.specs.ExchangeValues.{section_number, sections_of, row_swap, swap_at}
+use Rattle.exchange.specs.ExchangeValues.{section_number, sections_of, row_swap}
 use Rattle.numbers.specs.FirstLaws.{least_same, least_kept, least_found, least_none, least_below}
 
 -- ---- the first operable section switch of each branch
@@ -106,11 +106,11 @@ module _ (N : Network) where
             get_or-eq_default (sections_of N) 512 (rw (length_table (λ k. section_number (section_of N k)) 512) (omega arith))
             ∙ ap section_number (sym (least_none (section_on k) (size N) (λ i l. rw (ne_eqb (branch_of N i) k (λ e. absurd (omega (arith, on_flagged N inside i)))))))
 
-  section_below : (k : ℕ) → IfSome (λ i. i < size N) (section_of N k)
+  pub section_below : (k : ℕ) → IfSome (λ i. i < size N) (section_of N k)
   unfolding section_of
   section_below k = least_below (section_on k) (size N)
 
-  section_here : (k : ℕ) → IfSome (λ i. branch_of N i ≡ k) (section_of N k)
+  pub section_here : (k : ℕ) → IfSome (λ i. branch_of N i ≡ k) (section_of N k)
   unfolding section_of
   section_here k = go (least (section_on k) (size N)) (least_passes (section_on k) (size N))
     where
@@ -132,7 +132,7 @@ module _ (n : PowerNetwork) (ok : check_records (records_of n) ≡ accepted tt) 
   inside : Inside N
   inside = (check_inside N).0 ok
 
-  few : n.switch_count ≤ 512
+  pub few : n.switch_count ≤ 512
   few = few_switches n ok
 
   long : length s ≡ size N
@@ -149,25 +149,11 @@ module _ (n : PowerNetwork) (ok : check_records (records_of n) ≡ accepted tt) 
     abbrev swap_row : ℕ → Option ℕ
     swap_row = row_swap g sections c.switches (set live on (one_open N s on))
 
-    listed : (k : ℕ) → get_or sections k 512 ≡ section_number (section_of N k)
+    pub listed : (k : ℕ) → get_or sections k 512 ≡ section_number (section_of N k)
     listed k = rw q (section_read N inside k)
 
-    judged : (k section : ℕ) → section < size N → branch_of N section ≡ k → row_radial g (set (set live on (one_open N s on)) k false) ≡ radial_in N (swapped s tie section)
+    pub judged : (k section : ℕ) → section < size N → branch_of N section ≡ k → row_radial g (set (set live on (one_open N s on)) k false) ≡ radial_in N (swapped s tie section)
     judged k section h e = flags_radial n sized ok (swapped s tie section) g _ a (rw (b, ← e) (swapped_flags section h)) _ refl
-
-    pub swap_by_row : (k : ℕ) → swap_with N s tie (section_of N k) ≡ swap_at s tie (swap_row k)
-    unfolding swap_with swap_at row_swap section_number
-    swap_by_row k = go (section_of N k) (listed k) (section_below N k) (section_here N k)
-      where
-        same : (section : ℕ) (t : Bool) → cond t (some (swapped s tie section)) none ≡ swap_at s tie (cond t (some section) none)
-        same section true = refl
-        same section false = refl
-
-        go : (found : Option ℕ) → get_or sections k 512 ≡ section_number found → IfSome (λ i. i < size N) found → IfSome (λ i. branch_of N i ≡ k) found → swap_with N s tie found ≡ swap_at s tie (swap_row k)
-        go none e h p = rw e
-        go (some section) e h p =
-            rw (e, lt-ltb section 512 (omega (arith, switches_listed n, few)), ← byte_at n c section (omega (arith, switches_listed n)), judged k section h p)
-            (same section (eqb (byte s section) 0 && radial_in N (swapped s tie section)))
 
     pub row_below : (k : ℕ) → IfSome (λ i. i < n.switch_count) (swap_row k)
     unfolding row_swap section_number

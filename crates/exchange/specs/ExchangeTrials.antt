@@ -1,5 +1,5 @@
 -- What the code holds of a trial: the first swap along a path, the loop of a tie by the rows, and the last improving trial of a round.
-use Rattle.std.proofs.Math.Path.{◌≡◌, refl, ap, fun_ext}
+use Rattle.std.proofs.Math.Path.{◌≡◌, refl, ap}
 use Rattle.std.proofs.Common.{sym, ◌∙◌, arith, length-take, get_or-take}
 use Rattle.std.specs.Prelude.{Bool, ◌&&◌, List, [], ◌∷◌, ℕ, ◌+◌, ◌≤◌, ◌<◌, eqb, Float, length, take, drop, set}
 use Rattle.std.proofs.Math.Bool.{true, false, cond}
@@ -41,19 +41,19 @@ use Rattle.searches.specs.Given.{Held}
 use Rattle.states.specs.Listed.{switches_listed, switch_at_lem}
 use Rattle.searches.specs.StateLaws.{byte_at}
 use Rattle.searches.specs.SwitchReads.{status_read, count_read}
-use Rattle.exchange.specs.Exchange.{seen, loop_of, section_of, swap_with, trial, improves, improved, improving}
+use Rattle.exchange.specs.Exchange.{seen, loop_of, trial, improves, improved, improving}
 use Rattle.numbers.specs.IfSome.{IfSome, first_some_holds}
 use Rattle.exchange.specs.ExchangeValues.{section_at, section_in, sections_of, row_swap, row_trial, swap_at, trial_of}
-use Rattle.exchange.specs.ExchangeSwaps.{swapped_flags, swap_by_row, row_below}
+use Rattle.exchange.specs.ExchangeSwaps.{swapped_flags, row_below}
 use Rattle.numbers.specs.FirstLaws.{first_next, first_found}
 
 -- ---- a section as the code holds it
-section_some : (found : Option ℕ) (section : Section) {i : ℕ} → section ≡ section_at found → section ≡ At i → found ≡ some i
+pub section_some : (found : Option ℕ) (section : Section) {i : ℕ} → section ≡ section_at found → section ≡ At i → found ≡ some i
 unfolding section_at
 section_some none section e q = let z : ◌≡◌ {A = ℕ} 0 1 = cc in absurd (omega arith)
 section_some (some j) section e q = cc
 
-section_none : (found : Option ℕ) (section : Section) → section ≡ section_at found → section ≡ Absent → found ≡ none
+pub section_none : (found : Option ℕ) (section : Section) → section ≡ section_at found → section ≡ Absent → found ≡ none
 unfolding section_at
 section_none none section e q = refl
 section_none (some j) section e q = let z : ◌≡◌ {A = ℕ} 0 1 = cc in absurd (omega arith)
@@ -137,7 +137,7 @@ unfolding path_of
 path_list l p e = rw e (padded_front 256 0 l)
 
 -- ---- the trial of a tie by the rows
-first_swapped : (s : State) (tie : ℕ) (f : ℕ → Option ℕ) (l : List ℕ) → first_some (λ k. swap_at s tie (f k)) l ≡ swap_at s tie (first_some f l)
+pub first_swapped : (s : State) (tie : ℕ) (f : ℕ → Option ℕ) (l : List ℕ) → first_some (λ k. swap_at s tie (f k)) l ≡ swap_at s tie (first_some f l)
 unfolding first_some ◌or_else◌ swap_at
 first_swapped s tie f [] = refl
 first_swapped s tie f (k ∷ l) = go (f k) (first_swapped s tie f l)
@@ -157,21 +157,13 @@ module _ (n : PowerNetwork) (ok : check_records (records_of n) ≡ accepted tt) 
   abbrev tie_row : Option ℕ
   tie_row = row_trial g sections c.switches live on (one_open N (state_of n c) on)
 
-  loop_by_rows : row_ends_path g live on ≡ loop_of N (state_of n c) tie
+  pub loop_by_rows : row_ends_path g live on ≡ loop_of N (state_of n c) tie
   unfolding loop_of
   loop_by_rows =
       let listed : on < (feeder N).branches = unfold feeder in on_a_branch N ((check_inside N).0 ok) tie (omega (arith, switches_listed n)) in
       rw (a, b) (live_row_ends_path n sized ok (state_of n c) on listed)
 
-  trial_by_rows : trial N (state_of n c) tie ≡ swap_at (state_of n c) tie tie_row
-  unfolding trial row_trial
-  trial_by_rows =
-      let path = row_ends_path g live on in
-      ap (first_some (λ k. swap_with N (state_of n c) tie (section_of N k))) (sym loop_by_rows)
-      ∙ ap (λ f. first_some f path) (fun_ext (swap_by_row n ok c held tie h still_open sized g a sections q live b))
-      ∙ first_swapped (state_of n c) tie _ path
-
-  trial_below : IfSome (λ i. i < n.switch_count) tie_row
+  pub trial_below : IfSome (λ i. i < n.switch_count) tie_row
   unfolding row_trial
   trial_below = first_some_holds (λ i. i < n.switch_count) _ (row_below n ok c held tie h still_open sized g a sections q live b) _
 
@@ -199,26 +191,8 @@ pub record Tried (n : PowerNetwork) (c : NetworkConfiguration) (tie : ℕ) (sect
 
 module _ (n : PowerNetwork) (ok : check_records (records_of n) ≡ accepted tt) (c : NetworkConfiguration) (held : Held n c) (tie : ℕ) (sw : Switch) (made-live : Bool) (at : SwitchAt n (state_of n c) tie sw made-live)
     (see : seen (records_of n) (state_of n c) tie ≡ true) (live : List Bool) (b : live ≡ live_flags (records_of n) (state_of n c)) where
-  still_open : byte (state_of n c) tie ≡ 1
+  pub still_open : byte (state_of n c) tie ≡ 1
   still_open = eqb-true _ _ (both (operable (records_of n) tie) _ (both (is_tie (records_of n) tie) _ see).1).1
-
-  pub tie_tried : length n.buses ≡ 256 → (g : Graph) → g ≡ feeder_graph n → (sections : List ℕ) → sections ≡ sections_of (records_of n) → (section : Section)
-      → section ≡ section_at (row_trial g sections c.switches live sw.branch_idx made-live) → Tried n c tie section
-  unfolding swap_at
-  tie_tried sized g a sections q section e =
-      let row = tie_row n ok sized c held tie at.below still_open g a sections q live b in
-      let tried = trial_by_rows n ok sized c held tie at.below still_open g a sections q live b in
-      let listed : IfSome (λ i. i < n.switch_count) row = trial_below n ok sized c held tie at.below still_open g a sections q live b in
-      let found : section ≡ section_at row = e ∙ ap (λ w. section_at (row_trial g sections c.switches live w.branch_idx made-live)) (sym at.here)
-      ∙ ap (λ t. section_at (row_trial g sections c.switches live (branch_of (records_of n) tie) t)) (sym at.flag) in
-      record {
-        absent = λ l. tried ∙ ap (swap_at (state_of n c) tie) (section_none row section found l);
-        found = λ l. tried ∙ ap (swap_at (state_of n c) tie) (section_some row section found l);
-        below = λ l. some_below row listed (section_some row section found l);
-      }
-    where
-      some_below : (found : Option ℕ) → IfSome (λ i. i < n.switch_count) found → {section : ℕ} → found ≡ some section → section < n.switch_count
-      some_below found h e = rw e at h
 
   -- the flags after the swap
   pub tried_flags : (section : ℕ) → section < n.switch_count → (on opened : ℕ) → on ≡ sw.branch_idx → opened ≡ (get_or n.switches section no_switch).branch_idx
