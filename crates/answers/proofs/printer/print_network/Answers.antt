@@ -1,0 +1,30 @@
+-- `print_network` meets its contract: a checked network's search is not refused, and its lines stand one behind the other.
+use Rattle.std.proofs.Common.{length, ap, ◌∙◌, arith, rules}
+use Rattle.network.specs.Records.{records_of}
+use Rattle.slices.specs.WrittenLaws.{length_written}
+use Rattle.reconfiguration.specs.Solve.{result}
+use Rattle.searches.specs.StateLaws.{base_held}
+use Rattle.feeders.specs.SupplyLaws.{network_records}
+use Rattle.answers.specs.Printing.{move_lines, network_text}
+use Rattle.answers.specs.PrintingLaws.{network_short}
+use Rattle.answers.proofs.PrinterLaws.{solved_result, solved_state, not_refused, result_bits, network_long, lines_stored}
+use Rattle.answers.proofs.printer.print_network.Goals as goal
+
+pub write_result-requires : goal.write_result-requires
+write_result-requires c = (result_bits _ (network_records _ c.requires.0) (solved_result _ c.requires.0 _ (search rules) (rw c.in-Solved.is at c.solve.ensures)), omega (arith, c.requires.1))
+
+pub write_moves-requires : goal.write_moves-requires
+write_moves-requires c =
+    ((c.requires.0, base_held _ (network_records _ c.requires.0) c.build_base_configuration-configuration.ensures, solved_state _ c.requires.0 _ (search rules) c.solve.ensures), omega (arith, c.requires.1, ap length c.write_result.ensures ∙ length_written _ _))
+
+pub returns-in-Solved : goal.returns-in-Solved
+returns-in-Solved c =
+    let N = records_of c.args.network in
+    let same = solved_result _ c.requires.0 _ (search rules) (rw c.in-Solved.is at c.solve.ensures) in
+    let moves = c.write_moves.ensures in (
+      moves.0 ∙ network_long N,
+      unfold network_text in lines_stored c.args.out.now (result N) (move_lines N) (omega (arith, network_short N c.requires.0, c.requires.1)) (rw same at c.write_result.ensures) moves.1,
+    )
+
+pub returns-in-Refused : goal.returns-in-Refused
+returns-in-Refused c = not_refused _ c.requires.0 _ (search rules) (rw c.in-Refused.is at c.solve.ensures)
