@@ -4,12 +4,6 @@ use native.Mathlib.Omega.{arith}
 use Rattle.bfs.proofs.Entering.{dead_stays, marked_stays, enters, one_fits}
 use Rattle.bfs.proofs.walk.enter.Goals as goal
 
--- HAND -- a bus that is not flagged finds room
--- HAND room : (c : tie.Else2) → c.before.before.before.before.args.count < 256
--- HAND room c =
--- HAND     let w = c.before.before in
--- HAND     one_fits w.before.before.requires.2 _ w.wide8.ensures.1 c.if2.false
-
 pub returns-then-not-live : goal.returns-then-not-live
 returns-then-not-live c = dead_stays _ _ _ (c.if-not-live.true)
 

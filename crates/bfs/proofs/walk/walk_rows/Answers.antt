@@ -5,9 +5,6 @@ use Rattle.graph.specs.Rows.{row_leads}
 use Rattle.bfs.proofs.Turning.{start_turned, turned_few, one_turned, all_turned}
 use Rattle.bfs.proofs.walk.walk_rows.Goals as goal
 
--- HAND few-turned : (c : tie.After-expand invariant-loop decreases-loop) → c.before.before.before.before.before.before.before.before.loop.count ≤ 256
--- HAND few-turned c = turned_few _ _ _ c.before.before.before.before.before.before.before.before.loop.invariant
-
 pub bounds-seen-at : goal.bounds-seen-at
 bounds-seen-at c = c.wide8-at.ensures.1
 

@@ -1,13 +1,9 @@
--- `Graph::new` meets its contract. The invariant: the arrays are the rows of the listed branches so far; the step is `one_built`.
+-- `Graph::new` meets its contract. The invariant: the arrays are the rows of the listed branches so far; the step is `one_built`. `few`: as many as 512 are listed.
 use mathlib.Core.Path.{◌≡◌, refl}
 use Prim.Native.Nat.{◌≤◌, ◌+◌, ◌-◌}
 use native.Mathlib.Omega.{arith}
 use Rattle.graph.proofs.Building.{none_built, built_long, one_built, all_built}
 use Rattle.graph.proofs.rows.Graph.new.Goals as goal
-
--- HAND -- as many as 512 are listed
--- HAND few : (c : tie.At-loop invariant-loop decreases-loop) → c.before.at_most.result ≤ 512
--- HAND few c = omega (arith, c.before.at_most.ensures)
 
 pub loop-i-init : goal.loop-i-init
 loop-i-init c =
