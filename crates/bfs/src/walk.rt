@@ -20,8 +20,8 @@ fn enter(
     k: u16,
 ) -> u16
     requires { (barred : ℕ) × (o : List Visit) × Walking barred o seen.old bus.old by.old count }
-    ensures { (barred : ℕ) (o : List Visit) → Walking barred o seen.old bus.entry.now by.old count
-        → Walking barred (enter_live live barred o (record { bus = x; by = k })) seen.new bus.exit.now by.new result }
+    ensures { (barred : ℕ) (o : List Visit) → Walking barred o seen.old bus.old by.old count
+        → Walking barred (enter_live live barred o (record { bus = x; by = k })) seen.new bus.new by.new result }
 {
     if !live {
         return count;

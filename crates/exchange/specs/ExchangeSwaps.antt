@@ -119,7 +119,7 @@ module _ (N : Network) where
       go (some i) h = eqb-true _ _ (both (eqb (branch_of N i) k) _ h).0
 
 -- ---- a swap by the rows
-module _ (n : PowerNetwork) (ok : check_records (records_of n) ≡ accepted tt) (c : NetworkConfiguration) (held : Held n c) (tie : ℕ) (l : tie < n.switch_count) (still_Open : byte (state_of n c) tie ≡ 1) where
+module _ (n : PowerNetwork) (ok : check_records (records_of n) ≡ accepted tt) (c : NetworkConfiguration) (held : Held n c) (tie : ℕ) (l : tie < n.switch_count) (still_open : byte (state_of n c) tie ≡ 1) where
   abbrev N : Network
   N = records_of n
 
@@ -142,7 +142,7 @@ module _ (n : PowerNetwork) (ok : check_records (records_of n) ≡ accepted tt) 
   pub swapped_flags : (section : ℕ) → section < size N → set (set (live_flags N s) on (one_open N s on)) (branch_of N section) false ≡ live_flags N (swapped s tie section)
   unfolding swapped
   swapped_flags section h =
-      ap (λ flags. set flags (branch_of N section) false) (flags_closed N inside s long tie (omega (arith, switches_listed n)) still_Open)
+      ap (λ flags. set flags (branch_of N section) false) (flags_closed N inside s long tie (omega (arith, switches_listed n)) still_open)
       ∙ flags_opened N inside (set s tie 0) (length-set s tie 0 ∙ long) section h
 
   module _ (sized : length n.buses ≡ 256) (g : Graph) (a : g ≡ feeder_graph n) (sections : List ℕ) (q : sections ≡ sections_of N) (live : List Bool) (b : live ≡ live_flags N s) where
