@@ -3,7 +3,7 @@ use Rattle.std.proofs.Math.Path.{◌≡◌, refl, ap, fun_ext}
 use Rattle.std.proofs.Common.{sym, ◌∙◌, arith}
 use Rattle.std.specs.Prelude.{Bool, ◌&&◌, List, ℕ, ◌<◌, eqb, length, set}
 use Rattle.std.proofs.Math.Bool.{true, false, cond}
-use Rattle.std.proofs.Math.Option.{Option, none, some}
+use Rattle.std.specs.Prelude.{Option, None, Some}
 use Rattle.std.proofs.Math.ListN.{get_or}
 use borrow.Author.Tests.{lt-ltb}
 use Rattle.numbers.specs.Choose.{first_some}
@@ -49,13 +49,13 @@ module _ (n : PowerNetwork) (ok : check_records (records_of n) ≡ accepted tt) 
   unfolding swap_with swap_at row_swap section_number
   swap_by_row k = go (section_of N k) (listed n ok c held tie l still sized g a sections q live b k) (section_below N k) (section_here N k)
     where
-      same : (section : ℕ) (t : Bool) → cond t (some (swapped s tie section)) none ≡ swap_at s tie (cond t (some section) none)
+      same : (section : ℕ) (t : Bool) → cond t (Some (swapped s tie section)) None ≡ swap_at s tie (cond t (Some section) None)
       same section true = refl
       same section false = refl
 
       go : (found : Option ℕ) → get_or sections k 512 ≡ section_number found → IfSome (λ i. i < size N) found → IfSome (λ i. branch_of N i ≡ k) found → swap_with N s tie found ≡ swap_at s tie (swap_row k)
-      go none e h p = rw e
-      go (some section) e h p =
+      go None e h p = rw e
+      go (Some section) e h p =
           rw (e, lt-ltb section 512 (omega (arith, switches_listed n, few n ok c held tie l still)), ← byte_at n c section (omega (arith, switches_listed n)), judged n ok c held tie l still sized g a sections q live b k section h p)
           (same section (eqb (byte s section) 0 && radial_in N (swapped s tie section)))
 
@@ -92,5 +92,5 @@ module _ (n : PowerNetwork) (ok : check_records (records_of n) ≡ accepted tt) 
         below = λ l. some_below row listed (section_some row section found l);
       }
     where
-      some_below : (found : Option ℕ) → IfSome (λ i. i < n.switch_count) found → {section : ℕ} → found ≡ some section → section < n.switch_count
+      some_below : (found : Option ℕ) → IfSome (λ i. i < n.switch_count) found → {section : ℕ} → found ≡ Some section → section < n.switch_count
       some_below found h e = rw e at h

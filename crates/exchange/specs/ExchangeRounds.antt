@@ -2,7 +2,7 @@
 use Rattle.std.specs.Prelude.{◌≡◌, true, false, Float, length, set}
 use Rattle.std.proofs.Math.Path.{refl, sym, ap}
 use Rattle.std.proofs.Common.{◌∙◌, add-one, arith, length-set}
-use Rattle.std.proofs.Math.Option.{Option, none, some}
+use Rattle.std.specs.Prelude.{Option, None, Some}
 use Prim.Native.Nat.{ℕ, suc, ◌+◌, ◌≤◌, ◌<◌}
 use Rattle.states.specs.declared.configuration.NetworkConfiguration.{NetworkConfiguration}
 use Rattle.network.specs.declared.topology.PowerNetwork.{PowerNetwork}
@@ -30,21 +30,21 @@ pub counted : (N : Network) (x : Exchange) (last : Option State) (y : BranchExch
     → (step.found ≡ false → r ≡ record { configuration = y.configuration; loss = y.loss; rounds = y.rounds + 1; ended = true })
     → r ≡ exchange_of (after_round N x last)
 unfolding exchange_of after_round trial_of
-counted N x none y step r e q t f = f (ap (λ z. z.found) q) ∙ rw (e, add-one)
-counted N x (some s) y step r e q t f = t (ap (λ z. z.found) q) ∙ rw (q, e, add-one)
+counted N x None y step r e q t f = f (ap (λ z. z.found) q) ∙ rw (e, add-one)
+counted N x (Some s) y step r e q t f = t (ap (λ z. z.found) q) ∙ rw (q, e, add-one)
 
 round_counts : (N : Network) (x : Exchange) (last : Option State) → (after_round N x last).rounds ≡ suc x.rounds
 unfolding after_round
-round_counts N x none = refl
-round_counts N x (some t) = refl
+round_counts N x None = refl
+round_counts N x (Some t) = refl
 
 round_long : (N : Network) (x : Exchange) → length (next N x).state ≡ length x.state
 unfolding after_round swapped
 round_long N x = go (round_of N x.state x.loss) (round_swaps N x.state x.loss)
   where
     go : (last : Option State) → IfSome (Swap N x.state) last → length (after_round N x last).state ≡ length x.state
-    go none w = refl
-    go (some t) w = ap length w.result ∙ length-set (set x.state w.tie 0) w.section 1 ∙ length-set x.state w.tie 0
+    go None w = refl
+    go (Some t) w = ap length w.result ∙ length-set (set x.state w.tie 0) w.section 1 ∙ length-set x.state w.tie 0
 
 ended_held : (x : Exchange) → (exchange_of x).ended ≡ x.ended
 unfolding exchange_of

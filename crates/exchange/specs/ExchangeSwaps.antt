@@ -3,7 +3,7 @@ use Rattle.std.specs.Prelude.{◌≡◌, ◌≢◌, Bool, not, ◌&&◌, List, �
 use Rattle.std.proofs.Math.Path.{refl, sym, ap}
 use Rattle.std.proofs.Common.{◌∙◌, arith, length-set}
 use Rattle.std.proofs.Math.Bool.{true, false, and-false}
-use Rattle.std.proofs.Math.Option.{Option, none, some}
+use Rattle.std.specs.Prelude.{Option, None, Some}
 use Rattle.std.proofs.Math.Decide.{ℕ_discrete, dec_lt}
 use Rattle.std.proofs.Math.ListN.{get_or, set, get_or-eq_default}
 use borrow.Author.Tests.{eqb-true, eq-eqb, ne_eqb}
@@ -80,17 +80,17 @@ module _ (N : Network) where
           (ap section_number (least_found (section_on (branch_of N i)) i (rw (eq-eqb (branch_of N i) (branch_of N i) refl, t)) (first (least (section_on (branch_of N i)) i) (sym listed_so_far ∙ e) (least_below (section_on (branch_of N i)) i))))
           (λ k m n. ap section_number (sym (other_branch k n)))
         where
-          first : (found : Option ℕ) → section_number found ≡ 512 → IfSome (λ j. j < i) found → found ≡ none
-          first none e h = refl
-          first (some j) e h = absurd (omega (arith, inside.counts.2))
+          first : (found : Option ℕ) → section_number found ≡ 512 → IfSome (λ j. j < i) found → found ≡ None
+          first None e h = refl
+          first (Some j) e h = absurd (omega (arith, inside.counts.2))
 
       pub section_passed : get_or (sections_among i) (branch_of N i) 0 ≢ 512 → sections_among i ≡ sections_among (i + 1)
       unfolding sections_among section_number
       section_passed d = table_cong _ _ 512 (λ k m. ap section_number (sym (each k (ℕ_discrete k (branch_of N i)))))
         where
           kept : (found : Option ℕ) → least (section_on (branch_of N i)) i ≡ found → least (section_on (branch_of N i)) (i + 1) ≡ least (section_on (branch_of N i)) i
-          kept none e = absurd (d (listed_so_far ∙ ap section_number e))
-          kept (some j) e = least_kept (section_on (branch_of N i)) i j e ∙ sym e
+          kept None e = absurd (d (listed_so_far ∙ ap section_number e))
+          kept (Some j) e = least_kept (section_on (branch_of N i)) i j e ∙ sym e
 
           each : (k : ℕ) → Dec (k ≡ branch_of N i) → least (section_on k) (i + 1) ≡ least (section_on k) i
           each k (yes q) = rw q (kept (least (section_on (branch_of N i)) i) refl)
@@ -115,8 +115,8 @@ module _ (N : Network) where
   section_here k = go (least (section_on k) (size N)) (least_passes (section_on k) (size N))
     where
       go : (found : Option ℕ) → IfSome (λ i. section_on k i ≡ true) found → IfSome (λ i. branch_of N i ≡ k) found
-      go none h = tt
-      go (some i) h = eqb-true _ _ (both (eqb (branch_of N i) k) _ h).0
+      go None h = tt
+      go (Some i) h = eqb-true _ _ (both (eqb (branch_of N i) k) _ h).0
 
 -- ---- a swap by the rows
 module _ (n : PowerNetwork) (ok : check_records (records_of n) ≡ accepted tt) (c : NetworkConfiguration) (held : Held n c) (tie : ℕ) (l : tie < n.switch_count) (still_open : byte (state_of n c) tie ≡ 1) where
@@ -160,9 +160,9 @@ module _ (n : PowerNetwork) (ok : check_records (records_of n) ≡ accepted tt) 
     row_below k = go (section_of N k) (listed k) (section_below N k)
       where
         go : (found : Option ℕ) → get_or sections k 512 ≡ section_number found → IfSome (λ i. i < size N) found → IfSome (λ i. i < n.switch_count) (swap_row k)
-        go none e h = rw e tt
-        go (some section) e h =
+        go None e h = rw e tt
+        go (Some section) e h =
             let below : section < n.switch_count = omega (arith, switches_listed n) in
             rw e
-            (cond_holds (λ i. i < n.switch_count) (ltb section 512 && (eqb (get_or c.switches section 0) 0 && row_radial g (set (set live on (one_open N s on)) k false))) (some section) none
+            (cond_holds (λ i. i < n.switch_count) (ltb section 512 && (eqb (get_or c.switches section 0) 0 && row_radial g (set (set live on (one_open N s on)) k false))) (Some section) None
             (λ t. below) tt)

@@ -3,7 +3,7 @@ use Rattle.std.proofs.Math.Path.{◌≡◌, refl, ap}
 use Rattle.std.proofs.Common.{sym, ◌∙◌, arith, length-take, get_or-take}
 use Rattle.std.specs.Prelude.{Bool, ◌&&◌, List, [], ◌∷◌, ℕ, ◌+◌, ◌≤◌, ◌<◌, eqb, Float, length, take, drop, set}
 use Rattle.std.proofs.Math.Bool.{true, false, cond}
-use Rattle.std.proofs.Math.Option.{Option, none, some}
+use Rattle.std.specs.Prelude.{Option, None, Some}
 use Rattle.std.proofs.Math.Decide.{dec_lt}
 use Rattle.std.proofs.Math.Dec.{ltb}
 use Rattle.std.specs.Float.Ieee.{binary64, sub, lt}
@@ -48,15 +48,15 @@ use Rattle.exchange.specs.ExchangeSwaps.{swapped_flags, row_below}
 use Rattle.numbers.specs.FirstLaws.{first_next, first_found}
 
 -- ---- a section as the code holds it
-pub section_some : (found : Option ℕ) (section : Section) {i : ℕ} → section ≡ section_at found → section ≡ At i → found ≡ some i
+pub section_some : (found : Option ℕ) (section : Section) {i : ℕ} → section ≡ section_at found → section ≡ At i → found ≡ Some i
 unfolding section_at
-section_some none section e q = let z : ◌≡◌ {A = ℕ} 0 1 = cc in absurd (omega arith)
-section_some (some j) section e q = cc
+section_some None section e q = let z : ◌≡◌ {A = ℕ} 0 1 = cc in absurd (omega arith)
+section_some (Some j) section e q = cc
 
-pub section_none : (found : Option ℕ) (section : Section) → section ≡ section_at found → section ≡ Absent → found ≡ none
+pub section_none : (found : Option ℕ) (section : Section) → section ≡ section_at found → section ≡ Absent → found ≡ None
 unfolding section_at
-section_none none section e q = refl
-section_none (some j) section e q = let z : ◌≡◌ {A = ℕ} 0 1 = cc in absurd (omega arith)
+section_none None section e q = refl
+section_none (Some j) section e q = let z : ◌≡◌ {A = ℕ} 0 1 = cc in absurd (omega arith)
 
 -- ---- as it is read from the array
 module _ (sections : List ℕ) (k : ℕ) where
@@ -73,7 +73,7 @@ module _ (sections : List ℕ) (k : ℕ) where
     unfolding section_in
     found_read {i} q = go (ltb (get_or sections k 512) 512) refl (section_some _ section r q)
       where
-        go : (b : Bool) → ltb (get_or sections k 512) 512 ≡ b → cond b (some (get_or sections k 512)) none ≡ some i → (i ≡ get_or sections k 512) × (i < 512)
+        go : (b : Bool) → ltb (get_or sections k 512) 512 ≡ b → cond b (Some (get_or sections k 512)) None ≡ Some i → (i ≡ get_or sections k 512) × (i < 512)
         go true t e = let same : i ≡ get_or sections k 512 = cc in (same, omega (arith, ltb-true (get_or sections k 512) 512 t))
         go false t e = let z : ◌≡◌ {A = ℕ} 0 1 = cc in absurd (omega arith)
 
@@ -81,7 +81,7 @@ module _ (sections : List ℕ) (k : ℕ) where
     unfolding section_in
     none_read q = go (ltb (get_or sections k 512) 512) (section_none _ section r q)
       where
-        go : (b : Bool) → cond b (some (get_or sections k 512)) none ≡ none → b ≡ false
+        go : (b : Bool) → cond b (Some (get_or sections k 512)) None ≡ None → b ≡ false
         go true e = let z : ◌≡◌ {A = ℕ} 0 1 = cc in absurd (omega arith)
         go false e = refl
 
@@ -125,11 +125,11 @@ module _ (f : ℕ → Option ℕ) (array : List ℕ) (count i : ℕ) (section : 
   here found q = ap f (get_or-take count array i 0 l) ∙ q
 
   pub along_next : section ≡ Absent → first_some f (drop i path) ≡ first_some f path → first_some f (drop (i + 1) path) ≡ first_some f path
-  along_next h q = sym (first_next f path i inside (here none (section_none _ section e h))) ∙ q
+  along_next h q = sym (first_next f path i inside (here None (section_none _ section e h))) ∙ q
 
   pub along_found : {k : ℕ} → section ≡ At k → first_some f (drop i path) ≡ first_some f path → At k ≡ section_at (first_some f path)
   unfolding section_at
-  along_found {k} h q = ap section_at (sym (first_found f path i k inside (here (some k) (section_some _ section e h))) ∙ q)
+  along_found {k} h q = ap section_at (sym (first_found f path i k inside (here (Some k) (section_some _ section e h))) ∙ q)
 
 -- ---- a path as the code holds it
 pub path_list : (l : List ℕ) (p : PathBranches) → p ≡ path_of l → take p.count p.branch ≡ l
@@ -143,8 +143,8 @@ first_swapped s tie f [] = refl
 first_swapped s tie f (k ∷ l) = go (f k) (first_swapped s tie f l)
   where
     go : (found : Option ℕ) → first_some (λ k. swap_at s tie (f k)) l ≡ swap_at s tie (first_some f l) → (swap_at s tie found or_else first_some (λ k. swap_at s tie (f k)) l) ≡ swap_at s tie (found or_else first_some f l)
-    go none ih = ih
-    go (some section) ih = refl
+    go None ih = ih
+    go (Some section) ih = refl
 
 module _ (n : PowerNetwork) (ok : check_records (records_of n) ≡ accepted tt) (sized : length n.buses ≡ 256) (c : NetworkConfiguration) (held : Held n c) (tie : ℕ) (h : tie < n.switch_count)
     (still_open : byte (state_of n c) tie ≡ 1) (g : Graph) (a : g ≡ feeder_graph n) (sections : List ℕ) (q : sections ≡ sections_of (records_of n)) (live : List Bool) (b : live ≡ live_flags (records_of n) (state_of n c)) where
@@ -185,8 +185,8 @@ switch_read_lem n ok sized c counts e i l on p made-live q =
 
 -- what the section that the code finds for a tie says
 pub record Tried (n : PowerNetwork) (c : NetworkConfiguration) (tie : ℕ) (section : Section) : Type 0 where
-  pub absent : section ≡ Absent → trial (records_of n) (state_of n c) tie ≡ none
-  pub found : {i : ℕ} → section ≡ At i → trial (records_of n) (state_of n c) tie ≡ some (swapped (state_of n c) tie i)
+  pub absent : section ≡ Absent → trial (records_of n) (state_of n c) tie ≡ None
+  pub found : {i : ℕ} → section ≡ At i → trial (records_of n) (state_of n c) tie ≡ Some (swapped (state_of n c) tie i)
   pub below : {i : ℕ} → section ≡ At i → i < n.switch_count
 
 module _ (n : PowerNetwork) (ok : check_records (records_of n) ≡ accepted tt) (c : NetworkConfiguration) (held : Held n c) (tie : ℕ) (sw : Switch) (made-live : Bool) (at : SwitchAt n (state_of n c) tie sw made-live)
@@ -214,15 +214,15 @@ module _ (N : Network) (c : NetworkConfiguration) (s : State) (current : Float) 
   see_unseen f = rw f q
 
   module _ (t : seen N s i ≡ true) where
-    pub see_none : trial N s i ≡ none → last ≡ trial_of N c (improving N s current i or_else b)
+    pub see_none : trial N s i ≡ None → last ≡ trial_of N c (improving N s current i or_else b)
     unfolding improved ◌or_else◌
     see_none e = rw (t, e) q
 
-    pub see_tried : (u : State) → trial N s i ≡ some u → (loss : Float) → loss ≡ loss_in N u → (d : NetworkConfiguration) → d ≡ configuration_of u
+    pub see_tried : (u : State) → trial N s i ≡ Some u → (loss : Float) → loss ≡ loss_in N u → (d : NetworkConfiguration) → d ≡ configuration_of u
         → cond (lt loss (sub binary64 current billionth)) (record { found = true; configuration = d; loss = loss }) last ≡ trial_of N c (improving N s current i or_else b)
     unfolding improved improves trial_of ◌or_else◌
     see_tried u e loss l d p = rw (t, e, l, p) (go (lt (loss_in N u) (sub binary64 current billionth)))
       where
-        go : (better : Bool) → cond better (record { found = true; configuration = configuration_of u; loss = loss_in N u }) last ≡ trial_of N c (cond better (some u) none or_else b)
+        go : (better : Bool) → cond better (record { found = true; configuration = configuration_of u; loss = loss_in N u }) last ≡ trial_of N c (cond better (Some u) None or_else b)
         go true = refl
         go false = q

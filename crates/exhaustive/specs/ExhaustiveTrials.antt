@@ -3,7 +3,7 @@ use Rattle.std.specs.Prelude.{◌≡◌, Bool, cond, ◌||◌, Float}
 use Rattle.std.proofs.Math.Path.{refl, ap}
 use Rattle.std.proofs.Common.{sym, ◌∙◌, arith}
 use Rattle.std.proofs.Math.Bool.{true, false, not}
-use Rattle.std.proofs.Math.Option.{Option, none, some}
+use Rattle.std.specs.Prelude.{Option, None, Some}
 use Prim.Native.Nat.{ℕ, suc, ◌+◌, ◌≤◌}
 use Rattle.std.proofs.Math.Numerals.{add-one}
 use Rattle.std.specs.Float.Ieee.{lt}
@@ -41,8 +41,8 @@ module _ (N : Network) (x : Exhaustive) (y : ExhaustiveSearch) (e : y ≡ exhaus
     where
       go : (o : Option Least) → (not (is_some o) || lt b.loss (least_or_base N o).loss) ≡ true
           → record { found = true; configuration = configuration_of b.state; loss = b.loss; radial_count = suc x.radial_count } ≡ exhaustive_of N (with_radial (record { least = o; radial_count = x.radial_count }) b)
-      go none t = refl
-      go (some a) t = rw t
+      go None t = refl
+      go (Some a) t = rw t
 
   -- the least before it stays
   pub radial_kept : less ≡ false → record { found = true; configuration = y.configuration; loss = y.loss; radial_count = y.radial_count + 1 } ≡ exhaustive_of N (with_radial x b)
@@ -51,8 +51,8 @@ module _ (N : Network) (x : Exhaustive) (y : ExhaustiveSearch) (e : y ≡ exhaus
     where
       go : (o : Option Least) → (not (is_some o) || lt b.loss (least_or_base N o).loss) ≡ false
           → record { found = true; configuration = configuration_of (least_or_base N o).state; loss = (least_or_base N o).loss; radial_count = suc x.radial_count } ≡ exhaustive_of N (with_radial (record { least = o; radial_count = x.radial_count }) b)
-      go none f = clash {b = true} refl f
-      go (some a) f = rw f
+      go None f = clash {b = true} refl f
+      go (Some a) f = rw f
 
 -- ---- a mask more
 module _ (N : Network) (x : Exhaustive) (mask : ℕ) where

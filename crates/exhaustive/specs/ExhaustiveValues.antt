@@ -1,6 +1,6 @@
 -- The values by which the code holds the ties, the live branches of a mask, and where the exhaustive search stands.
 use Rattle.std.specs.Prelude.{Bool, true, false, cond, List, ℕ, get_or, set}
-use Rattle.std.proofs.Math.Option.{Option, none, some}
+use Rattle.std.specs.Prelude.{Option, None, Some}
 use Rattle.numbers.specs.Choose.{those}
 use Rattle.numbers.specs.TableLaws.{filled}
 use Rattle.numbers.specs.UpTo.{up_to}
@@ -32,8 +32,8 @@ opened_by ties mask live = up_to (opening ties mask) live ties.count
 -- ---- where the search stands
 
 abbrev pub is_some : Option Least → Bool
-is_some none = false
-is_some (some b) = true
+is_some None = false
+is_some (Some b) = true
 
 -- the least so far; where none was found, the base with its loss
 unfoldable pub exhaustive_of : Network → Exhaustive → ExhaustiveSearch

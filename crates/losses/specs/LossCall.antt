@@ -1,6 +1,6 @@
 -- What the loss call answers.
 use Rattle.std.specs.Prelude.{Bool, cond, ℕ, Float}
-use Rattle.std.proofs.Math.Option.{Option, none, some}
+use Rattle.std.specs.Prelude.{Option, None, Some}
 use Rattle.network.specs.Records.{Network}
 use Rattle.network.specs.Answers.{Answer, accepted, ◌and_then◌, Judgement}
 use Rattle.states.specs.Live.{check_state}
@@ -11,8 +11,8 @@ use Rattle.losses.specs.Loss.{loss_in}
 
 -- document 02: "A loss call on a state that isn't radial then gets refusal 11": where a supply is named, and only there
 abbrev pub check_fed : Network → Option ℕ → State → Judgement
-check_fed N none s = accepted tt
-check_fed N (some id) s = check_radial N s 0
+check_fed N None s = accepted tt
+check_fed N (Some id) s = check_radial N s 0
 
 -- the same by what the code has: whether a supply is named, and whether the state is radial
 abbrev pub judge_fed : Bool → Bool → Judgement

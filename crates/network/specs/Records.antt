@@ -1,6 +1,6 @@
 -- The records as lists, as long as their counts say.
 use Rattle.std.specs.Prelude.{Bool, true, false, List, [], ℕ, length, get_or, Float}
-use Rattle.std.proofs.Math.Option.{Option, none, some}
+use Rattle.std.specs.Prelude.{Option, None, Some}
 use Rattle.std.specs.Float.{binary64}
 use Rattle.std.specs.Float.Ieee.{of_bits}
 use Rattle.numbers.specs.Arrays.{padded}
@@ -35,16 +35,16 @@ pub record Network : Type 0 where
 
 -- a supply as the code holds it: whether one is named, and its id
 abbrev pub supply_of : Bool → ℕ → Option ℕ
-supply_of false id = none
-supply_of true id = some id
+supply_of false id = None
+supply_of true id = Some id
 
 abbrev pub has_supply : Option ℕ → Bool
-has_supply none = false
-has_supply (some id) = true
+has_supply None = false
+has_supply (Some id) = true
 
 abbrev pub supply_id : Option ℕ → ℕ
-supply_id none = 0
-supply_id (some id) = id
+supply_id None = 0
+supply_id (Some id) = id
 
 -- the first n of an array, also where it has fewer
 abbrev pub listed : {A : Type 0} → A → List A → ℕ → List A
@@ -81,4 +81,4 @@ network_of N =
     }
 
 abbrev pub empty_network : Float → ReconfigAlgorithm → ℕ → PowerNetwork
-empty_network base algorithm iterations = network_of (record { base = base; algorithm = algorithm; iterations = iterations; buses = []; branches = []; switches = []; supply = none })
+empty_network base algorithm iterations = network_of (record { base = base; algorithm = algorithm; iterations = iterations; buses = []; branches = []; switches = []; supply = None })

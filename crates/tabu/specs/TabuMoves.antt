@@ -3,7 +3,7 @@ use Rattle.std.specs.Prelude.{◌≡◌, Bool, not, ◌&&◌, ◌||◌, List, �
 use Rattle.std.proofs.Math.Path.{refl, sym, ap}
 use Rattle.std.proofs.Common.{◌∙◌, arith}
 use Rattle.std.proofs.Math.Bool.{true, false, cond, and-false}
-use Rattle.std.proofs.Math.Option.{Option, none, some}
+use Rattle.std.specs.Prelude.{Option, None, Some}
 use Rattle.std.specs.Float.Ieee.{lt}
 use Rattle.std.proofs.lemmas.Bool.{not-true, not-false}
 use Rattle.states.specs.declared.configuration.NetworkConfiguration.{NetworkConfiguration}
@@ -43,17 +43,17 @@ use Rattle.tabu.specs.TabuListLaws.{ids_held, list_held}
 -- ---- two candidates
 module _ (c : NetworkConfiguration) where
   -- "the least loss wins, the earlier on a tie"
-  pub lesser_held : (b : Option Move) (m : Move) (best candidate : Candidate) → best ≡ candidate_of c b → candidate ≡ candidate_of c (some m)
+  pub lesser_held : (b : Option Move) (m : Move) (best candidate : Candidate) → best ≡ candidate_of c b → candidate ≡ candidate_of c (Some m)
       → candidate_of c (lesser b m) ≡ cond best.found (cond (lt candidate.loss best.loss) candidate best) candidate
   unfolding candidate_of lesser_by
-  lesser_held none m best candidate e q = rw (e, q)
-  lesser_held (some k) m best candidate e q = rw (e, q) (go (lt m.loss k.loss))
+  lesser_held None m best candidate e q = rw (e, q)
+  lesser_held (Some k) m best candidate e q = rw (e, q) (go (lt m.loss k.loss))
     where
-      go : (t : Bool) → candidate_of c (cond t (some m) (some k)) ≡ cond t (candidate_of c (some m)) (candidate_of c (some k))
+      go : (t : Bool) → candidate_of c (cond t (Some m) (Some k)) ≡ cond t (candidate_of c (Some m)) (candidate_of c (Some k))
       go true = refl
       go false = refl
 
-  module _ (b : Option Move) (m : Move) (best candidate : Candidate) (e : best ≡ candidate_of c b) (q : candidate ≡ candidate_of c (some m)) (ids : List ℕ) (best_loss : Float) (t : Bool)
+  module _ (b : Option Move) (m : Move) (best candidate : Candidate) (e : best ≡ candidate_of c b) (q : candidate ≡ candidate_of c (Some m)) (ids : List ℕ) (best_loss : Float) (t : Bool)
       (h : t ≡ (not (among candidate.moved ids) || lt candidate.loss best_loss)) where
     abbrev after : Option Move
     after = cond (not (among m.moved ids) || lt m.loss best_loss) (lesser b m) b
@@ -69,9 +69,9 @@ module _ (c : NetworkConfiguration) where
     see_barred f = rw (same_test, f) e
 
 -- one switch more
-pub seen_more : (N : Network) (x : Tabu) (c : NetworkConfiguration) (i : ℕ) (r : Candidate) → r ≡ candidate_of c (seeing N x (up_to (seeing N x) none i) i)
-    → r ≡ candidate_of c (up_to (seeing N x) none (i + 1))
-seen_more N x c i r e = e ∙ ap (candidate_of c) (sym (up_to_more (seeing N x) none i))
+pub seen_more : (N : Network) (x : Tabu) (c : NetworkConfiguration) (i : ℕ) (r : Candidate) → r ≡ candidate_of c (seeing N x (up_to (seeing N x) None i) i)
+    → r ≡ candidate_of c (up_to (seeing N x) None (i + 1))
+seen_more N x c i r e = e ∙ ap (candidate_of c) (sym (up_to_more (seeing N x) None i))
 
 -- ---- where the search stands
 module _ (n : PowerNetwork) (y : TabuSearch) (x : Tabu) (w : Stands n y x) where
@@ -179,7 +179,7 @@ module _ (n : PowerNetwork) (y : TabuSearch) (x : Tabu) (w : Stands n y x) where
           abbrev After : Float → Type 0
           After loss =
               (c : NetworkConfiguration) (b : Option Move) (m : Move) → best ≡ candidate_of c b
-              → record { found = true; configuration = toggled_in y.configuration i; loss = loss; moved = sw.id } ≡ candidate_of c (some m)
+              → record { found = true; configuration = toggled_in y.configuration i; loss = loss; moved = sw.id } ≡ candidate_of c (Some m)
               → r ≡ candidate_of c (cond (not (among m.moved (ids_of y.barred)) || lt m.loss y.best_loss) (lesser b m) b)
 
           see_move : sw.can_operate ≡ true → (loss : Float) → radial_in N t ≡ true → loss ≡ loss_in N t → After loss → Best r
@@ -187,7 +187,7 @@ module _ (n : PowerNetwork) (y : TabuSearch) (x : Tabu) (w : Stands n y x) where
           see_move o loss v e h =
               let can : operable N i ≡ true = ap (λ u. u.can_operate) own ∙ o in
               let best-is : y.best_loss ≡ x.best_loss = ap (λ z. z.best_loss) w.held_by in
-              let held : record { found = true; configuration = toggled_in y.configuration i; loss = loss; moved = sw.id } ≡ candidate_of y.configuration (some (move_of N x i)) = rw (toggled_is, e, own) in
+              let held : record { found = true; configuration = toggled_in y.configuration i; loss = loss; moved = sw.id } ≡ candidate_of y.configuration (Some (move_of N x i)) = rw (toggled_is, e, own) in
               rw (can, v, ← barred_ids, ← best-is) (h y.configuration b (move_of N x i) q held)
 
           -- from a radial state, where no branch becomes live or dead

@@ -2,7 +2,7 @@
 use Rattle.std.specs.Prelude.{◌≡◌, refl, Bool, true, false, cond, List, [], ◌∷◌, ◌++◌, ℕ, ◌+◌, ◌-◌, ◌≤◌, ◌<◌, Float}
 use Rattle.std.proofs.Math.Path.{ap}
 use Rattle.std.proofs.Common.{◌∙◌, add-one, length-drop}
-use Rattle.std.proofs.Math.Option.{Option, none, some}
+use Rattle.std.specs.Prelude.{Option, None, Some}
 use native.Mathlib.Omega.{arith}
 use Rattle.std.specs.Float.Ieee.{lt}
 use Rattle.std.proofs.Math.ListN.{length}
@@ -41,8 +41,8 @@ module _ (N : Network) (x : Tabu) (found : Option Move) (y : TabuSearch) (step :
   after_none f = go found q
     where
       go : (found : Option Move) → step ≡ candidate_of y.configuration found → stopped ≡ tabu_of N (after_move x found)
-      go none q = rw e
-      go (some m) q = clash {b = step.found} (ap (λ c. c.found) q) f
+      go None q = rw e
+      go (Some m) q = clash {b = step.found} (ap (λ c. c.found) q) f
 
   module _ (w : IfSome (MoveFrom N x.state) found) (f : step.found ≡ true) (short : y.barred.count ≤ 7) (pushed : TabuList)
       (p : pushed ≡ tabu_list_of (last_seven (ids_of y.barred ++ (step.moved ∷ [])))) where
@@ -62,8 +62,8 @@ module _ (N : Network) (x : Tabu) (found : Option Move) (y : TabuSearch) (step :
       where
         go : (found : Option Move) → step ≡ candidate_of y.configuration found → IfSome (MoveFrom N x.state) found
             → moved (cond b step.configuration y.best) (cond b step.loss y.best_loss) ≡ tabu_of N (after_move x found)
-        go none q w = clash {b = step.found} f (ap (λ c. c.found) q)
-        go (some m) q w =
+        go None q w = clash {b = step.found} f (ap (λ c. c.found) q)
+        go (Some m) q w =
             let t' : lt m.loss x.best_loss ≡ b = rw (q, e) at t in
             rw (p, ids, q, e, w.toggle.radial, ← w.loses, t', choice_held b m.state x.best)
 
@@ -81,8 +81,8 @@ seven_short l = omega (arith, length-drop (length l - 7) l)
 module _ (N : Network) (x : Tabu) where
   keeps : FromBase N x.state → length x.barred ≤ 7 → (found : Option Move) → IfSome (MoveFrom N x.state) found → FromBase N (after_move x found).state × (length (after_move x found).barred ≤ 7)
   unfolding after_move
-  keeps h s none w = (h, s)
-  keeps h s (some m) w = (rw w.toggle.result (toggled_from_base N x.state h w.toggle.moved w.toggle.operates), seven_short _)
+  keeps h s None w = (h, s)
+  keeps h s (Some m) w = (rw w.toggle.result (toggled_from_base N x.state h w.toggle.moved w.toggle.operates), seven_short _)
 
 -- ---- the base
 pub base_held : (n : PowerNetwork) (c : NetworkConfiguration) (radial : Bool) (loss : Float) (list : TabuList)

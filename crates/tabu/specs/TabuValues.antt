@@ -1,6 +1,6 @@
 -- The values by which the code holds where the tabu search stands and what it finds.
 use Rattle.std.specs.Prelude.{◌≡◌, true, false, List, ℕ, ◌≤◌, length, take}
-use Rattle.std.proofs.Math.Option.{Option, none, some}
+use Rattle.std.specs.Prelude.{Option, None, Some}
 use Rattle.numbers.specs.Constants.{zero64}
 use Rattle.numbers.specs.Arrays.{array_of}
 use Rattle.states.specs.declared.configuration.NetworkConfiguration.{NetworkConfiguration}
@@ -32,8 +32,8 @@ HeldList t = (t ≡ tabu_list_of (ids_of t)) × (t.count ≤ 7)
 -- ---- moves
 -- a move that can be made; for none the configuration c that the round started from
 unfoldable pub candidate_of : NetworkConfiguration → Option Move → Candidate
-candidate_of c none = record { found = false; configuration = c; loss = zero64; moved = 0 }
-candidate_of c (some m) = record { found = true; configuration = configuration_of m.state; loss = m.loss; moved = m.moved }
+candidate_of c None = record { found = false; configuration = c; loss = zero64; moved = 0 }
+candidate_of c (Some m) = record { found = true; configuration = configuration_of m.state; loss = m.loss; moved = m.moved }
 
 -- switch i toggled
 abbrev pub toggled_in : NetworkConfiguration → ℕ → NetworkConfiguration

@@ -1,7 +1,7 @@
 // Translated and changed from src/network/reconfiguration.rs of oxigrid. Copyright 2024-2026 COOLJAPAN OU (Team Kitasan), Apache License 2.0.
 // Document 01's tabu search.
 ghost use Rattle.std.specs.Prelude.{◌≡◌, true, false, cond, not, ◌&&◌, ◌||◌, ◌<◌, eqb, set};
-ghost use Rattle.std.proofs.Math.Option.{Option, none, some};
+ghost use Rattle.std.specs.Prelude.{Option};
 ghost use Rattle.std.specs.Float.Ieee.{lt};
 ghost use Rattle.network.specs.Answers.{accepted};
 ghost use Rattle.network.specs.Check.{check_records};
@@ -78,7 +78,7 @@ fn is_allowed(candidate: Candidate, barred: TabuList, best_loss: f64) -> bool
 
 // The least loss wins, the earlier on a tie.
 fn lesser_of(best: Candidate, candidate: Candidate) -> Candidate
-    ensures { (c : NetworkConfiguration) (b : Option Move) (m : Move) → best ≡ candidate_of c b → candidate ≡ candidate_of c (some m)
+    ensures { (c : NetworkConfiguration) (b : Option Move) (m : Move) → best ≡ candidate_of c b → candidate ≡ candidate_of c (Some m)
         → result ≡ candidate_of c (lesser b m) }
 {
     if best.found {
@@ -98,7 +98,7 @@ fn see_candidate(
     best_loss: f64,
 ) -> Candidate
     requires { HeldList barred }
-    ensures { (c : NetworkConfiguration) (b : Option Move) (m : Move) → best ≡ candidate_of c b → candidate ≡ candidate_of c (some m)
+    ensures { (c : NetworkConfiguration) (b : Option Move) (m : Move) → best ≡ candidate_of c b → candidate ≡ candidate_of c (Some m)
         → result ≡ candidate_of c (cond (not (among m.moved (ids_of barred)) || lt m.loss best_loss) (lesser b m) b) }
 {
     if is_allowed(candidate, barred, best_loss) {
@@ -111,7 +111,7 @@ fn see_candidate(
 fn see_toggle(search: TabuSearch, best: Candidate, i: usize, id: u16, loss: f64) -> Candidate
     requires { HeldList search.barred × (i < 512) }
     ensures { (c : NetworkConfiguration) (b : Option Move) (m : Move) → best ≡ candidate_of c b
-        → record { found = true; configuration = toggled_in search.configuration i; loss = loss; moved = id } ≡ candidate_of c (some m)
+        → record { found = true; configuration = toggled_in search.configuration i; loss = loss; moved = id } ≡ candidate_of c (Some m)
         → result ≡ candidate_of c (cond (not (among m.moved (ids_of search.barred)) || lt m.loss search.best_loss) (lesser b m) b) }
 {
     let candidate = Candidate {
@@ -125,7 +125,7 @@ fn see_toggle(search: TabuSearch, best: Candidate, i: usize, id: u16, loss: f64)
 
 // No move: the state before, with nothing moved.
 fn no_candidate(configuration: NetworkConfiguration) -> Candidate
-    ensures { result ≡ candidate_of configuration none }
+    ensures { result ≡ candidate_of configuration None }
 {
     Candidate {
         found: false,
