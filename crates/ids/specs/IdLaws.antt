@@ -2,12 +2,12 @@
 -- found at its first position from p on, for a row rises, and a position that is put in stands below all others.
 use Rattle.std.specs.Prelude.{◌≡◌, Bool, true, false, cond, ◌≢◌, List, map, ltb, take, drop, set, replicate}
 use Rattle.std.proofs.Math.Path.{refl, sym}
-use Rattle.std.proofs.Common.{ap, ◌∙◌, zero-add, length-take, get_or-set_other}
+use Rattle.std.proofs.Common.{ap, ◌∙◌, zero-add, length-take, get_or-set_other, get_or-take}
 use Prim.Native.Nat.{ℕ, zero, suc, ◌+◌, ◌-◌, ◌≤◌, ◌<◌, min}
 use Rattle.std.proofs.Math.Decide.{ℕ_discrete}
 use Rattle.std.proofs.Math.Nat.{add-zero}
 use native.Mathlib.Omega.{arith}
-use Rattle.std.proofs.Math.ListN.{length, get_or, drop_of_length-le, length-set, length-replicate, get_or-eq_default}
+use Rattle.std.proofs.Math.ListN.{length, get_or, get_or-map, drop_of_length-le, length-set, length-replicate, get_or-eq_default}
 use Rattle.std.proofs.lemmas.List.{length-map, get_or-replicate}
 use Rattle.std.proofs.Math.Seq.{get_or-set_same}
 use borrow.Author.Tests.{lt-ltb, le-ltb, eq-eqb, ne_eqb, ltb-true, ltb-false}
@@ -17,7 +17,6 @@ use Rattle.numbers.specs.Choose.{index_of}
 use Rattle.numbers.specs.ChooseLaws.{index_here, index_behind}
 use Rattle.numbers.specs.Parts.{take_within}
 use Rattle.ids.specs.declared.rows.IdRows.{IdRows}
-use Rattle.network.specs.LookupLaws.{key_at}
 use Rattle.ids.specs.Ids.{bucket_of, id_array, rows, no_rows, put_at, put_id, rows_from, id_rows, seek, position_of}
 
 pub bucket_small : (id : ℕ) → bucket_of id < 256
@@ -188,6 +187,10 @@ position_found l short ids first next e count x c =
     let z : length l - length l ≡ 0 = omega arith in
     let h = rw (z, ← e) at (rows_held l short (length l) (omega arith)) in
     rw c (h.finds x (length l) (omega arith) ∙ zero-add (index_of x l))
+
+-- the key at a position of the first n records
+key_at : {A : Type 0} (key : A → ℕ) (n : ℕ) (l : List A) (i : ℕ) (d : A) → i < n → get_or (map key (take n l)) i (key d) ≡ key (get_or l i d)
+key_at key n l i d h = get_or-map key (take n l) i d ∙ ap key (get_or-take n l i d h)
 
 -- ---- the rows of the listed ones of an array of records, put in from the last position to the first
 module _ {A : Type 0} (key : A → ℕ) (none : A) (plain : key none ≡ 0) (l : List A) (n : ℕ) where
