@@ -1,7 +1,9 @@
 -- Answers taken apart: what an accepted answer says of its parts.
 use Rattle.std.specs.Prelude.{◌≡◌, refl, ◌↔◌, Bool, true, false, not, List, [], ◌∷◌, ℕ, Result, Ok, Err}
 use Rattle.std.proofs.Common.{sym, ap, subst, ◌∙◌, true≢false}
+use Rattle.std.specs.Result.{IsErrAnd}
 use Rattle.std.proofs.lemmas.Bool.{not-false}
+use Rattle.std.proofs.lemmas.Result.{err_from_is_err_and}
 use Rattle.network.specs.declared.error.Refusal.{Refusal}
 use Rattle.network.specs.Answers.{Answer, accepted, refused, answer_of, number_of, place_of, ◌and_then◌, Fault, ◌if◌, judge, Judgement}
 
@@ -74,3 +76,12 @@ accepted_then b r e = gives_way b (accepted_so r e)
 -- a refusal goes on, whatever the answer would have been
 pub refused_first : {A : Type 0} {v : Result (Unit {0}) Refusal} {a : Judgement} (b : Answer A) {r : Refusal} → v ≡ Err r → answer_of v ≡ a → refused (number_of r) (place_of r) ≡ (a and_then b)
 refused_first b q e = decides b (refused_so q e)
+
+-- what a `?` returns: the refusal itself
+pub handed_on : {A : Type 0} (w : Result A Refusal) (r : Refusal) → IsErrAnd w (λ e. e ≡ r) → answer_of w ≡ refused (number_of r) (place_of r)
+handed_on w r h = let p = err_from_is_err_and w h in rw (p.1, p.2)
+
+-- and where it stands in the place of the first answer
+pub refused_on : {A : Type 0} (b : Answer A) (w : Result A Refusal) {v : Result (Unit {0}) Refusal} {a : Judgement} {r : Refusal}
+    → IsErrAnd w (λ e. e ≡ r) → v ≡ Err r → answer_of v ≡ a → answer_of w ≡ (a and_then b)
+refused_on b w h q e = handed_on w _ h ∙ refused_first b q e
