@@ -1,5 +1,6 @@
 -- `check_branch_list` meets its contract: the branches before `at` passed.
-use Rattle.std.proofs.lemmas.Result.{err_from_is_err_and}
+use Rattle.std.proofs.Common.{◌∙◌}
+use Rattle.network.specs.AnswerLaws.{handed_on}
 use Rattle.checks.specs.CheckLaws.{passed_none, passed_more, passed_refused, passed_all}
 use Rattle.checks.specs.FaultLaws.{branch_judged}
 use Rattle.checks.proofs.check.check_branch_list.Goals as goal
@@ -9,9 +10,8 @@ loop-at-init c buses held = passed_none _ _ _
 
 pub returns-in_err-judge_branch : goal.returns-in_err-judge_branch
 returns-in_err-judge_branch c buses held =
-    let p = err_from_is_err_and c.from_residual.result c.from_residual.ensures.1 in
     let judged = branch_judged buses held _ _ _ _ _ c.position_of-from.ensures c.position_of-to.ensures c.in_err-judge_branch.ensures in
-    rw (p.1, p.2) (passed_refused _ _ _ (c.loop-at.invariant buses held) _ c.loop-at-test.true judged)
+    handed_on _ _ c.from_residual.ensures.1 ∙ passed_refused _ _ _ (c.loop-at.invariant buses held) _ c.loop-at-test.true judged
 
 pub loop-at-preserved : goal.loop-at-preserved
 loop-at-preserved c buses held =

@@ -1,7 +1,6 @@
 -- `check_buses_and_branches` meets its contract: the buses before `at` passed, and their ids are in rows.
 use Rattle.std.proofs.Common.{◌≡◌, sym, ◌∙◌, length, take, arith, take_all}
-use Rattle.std.proofs.lemmas.Result.{err_from_is_err_and}
-use Rattle.network.specs.AnswerLaws.{decides, gives_way}
+use Rattle.network.specs.AnswerLaws.{handed_on, decides, gives_way}
 use Rattle.network.specs.Limits.{bus_id}
 use Rattle.ids.specs.PutIds.{none_held}
 use Rattle.checks.specs.CheckLaws.{passed_none, passed_more, passed_refused, passed_all}
@@ -13,9 +12,8 @@ loop-at-init c = record { passed = passed_none _ _ _; held = rw c.new-rows.ensur
 
 pub returns-in_err-judge_bus : goal.returns-in_err-judge_bus
 returns-in_err-judge_bus c =
-    let p = err_from_is_err_and c.from_residual.result c.from_residual.ensures.1 in
     let judged = bus_judged _ c.loop-at.invariant.held _ _ _ _ (omega arith) c.position_of.ensures c.in_err-judge_bus.ensures in
-    rw (p.1, p.2) (decides _ (sym (passed_refused _ _ _ c.loop-at.invariant.passed _ c.loop-at-test.true judged)))
+    handed_on _ _ c.from_residual.ensures.1 ∙ decides _ (sym (passed_refused _ _ _ c.loop-at.invariant.passed _ c.loop-at-test.true judged))
 
 pub loop-at-preserved : goal.loop-at-preserved
 loop-at-preserved c =

@@ -1,10 +1,10 @@
 -- `check_switch_list` meets its contract: the switches before `at` passed, they are counted on their branch positions, their ties are counted, and their ids are in rows.
-use Rattle.std.proofs.Common.{refl, ◌<◌, get_or, arith}
-use Rattle.std.proofs.lemmas.Result.{err_from_is_err_and}
+use Rattle.std.proofs.Common.{refl, ◌∙◌, ◌<◌, get_or, arith}
 use Rattle.network.specs.Limits.{switch_id, ties}
 use Rattle.network.specs.Records.{no_switch}
 use Rattle.ids.specs.PutIds.{none_held}
 use Rattle.checks.specs.Counts.{no_counts}
+use Rattle.network.specs.AnswerLaws.{handed_on}
 use Rattle.checks.specs.CheckLaws.{passed_none, passed_more, passed_refused, passed_all}
 use Rattle.checks.specs.FaultLaws.{switch_judged, passed_so, count_more, ties_more, ties_before, put_more}
 use Rattle.checks.proofs.check.check_switch_list.Goals as goal
@@ -16,10 +16,9 @@ loop-at-init c = record { passed = λ h p q. passed_none _ _ _; counted_are = no
 
 pub returns-in_err-judge_switch : goal.returns-in_err-judge_switch
 returns-in_err-judge_switch c h p q =
-    let e = err_from_is_err_and c.from_residual.result c.from_residual.ensures.1 in
     let inv = c.loop-at.invariant in
     let judged = switch_judged h _ inv.held _ _ _ _ _ _ _ (omega (arith, p)) (omega arith) c.position_of.ensures (rw c.from-on.ensures at c.switches_on-before.ensures) inv.counted_are inv.ties_are (rw (p, q) c.in_err-judge_switch.ensures) in
-    rw (e.1, e.2) (passed_refused _ _ _ (inv.passed h p q) _ c.loop-at-test.true judged)
+    handed_on _ _ c.from_residual.ensures.1 ∙ passed_refused _ _ _ (inv.passed h p q) _ c.loop-at-test.true judged
 
 -- a switch that passed is on a branch, and at most one before it is
 on_branch : (c : In_ok-judge_switch) → (c.from-on.result < 512) × (c.switches_on-before.result < 2)
