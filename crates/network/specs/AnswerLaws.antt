@@ -66,7 +66,7 @@ module _ {A : Type 0} {a : Judgement} (b : Answer A) where
 pub accepted_so : {A : Type 0} {v : Result A Refusal} {a : Answer A} {x : A} → v ≡ Ok x → answer_of v ≡ a → a ≡ accepted x
 accepted_so r e = sym e ∙ ap answer_of r
 
-refused_so : {A : Type 0} {v : Result A Refusal} {a : Answer A} {r : Refusal} → v ≡ Err r → answer_of v ≡ a → a ≡ refused (number_of r) (place_of r)
+pub refused_so : {A : Type 0} {v : Result A Refusal} {a : Answer A} {r : Refusal} → v ≡ Err r → answer_of v ≡ a → a ≡ refused (number_of r) (place_of r)
 refused_so q e = sym e ∙ ap answer_of q
 
 -- in the place of the first answer: accepted, it gives way
