@@ -10,6 +10,7 @@ use graph::rows::Graph;
 use graph::walks::Walk;
 
 // The walk so far, and a mark at each bus that is not to be entered: those reached.
+// Which visits that are, its methods require, and no ghost field says it: a ghost field has one proof at most, and no field fixes the barred bus.
 #[derive(Drop)]
 struct Reached {
     seen: [bool; Graph::MAX_BUSES],

@@ -1,5 +1,5 @@
 -- `enter` meets its contract, by the laws of Entering. A bus that is not marked finds room, since no more buses are reached than marked.
-use Rattle.std.proofs.Common.{◌<◌, arith}
+use Rattle.std.proofs.Common.{arith}
 use Rattle.bfs.proofs.Entering.{dead_stays, marked_stays, enters, one_fits}
 use Rattle.bfs.proofs.walk.Reached.enter.Goals as goal
 use Rattle.bfs.proofs.walk.Reached.enter.Goals.{then-not-live-via-then-not-live, then-not-live-via-else-not-live+then-self-at}
@@ -12,19 +12,13 @@ returns-then-not-live c =
     ]
 
 pub bounds-self-end : goal.bounds-self-end
-bounds-self-end c =
-    let room : c.args.self.now.walk.count < 256 = one_fits c.requires.2 _ (omega arith) c.if-self-at.false in
-    omega arith
+bounds-self-end c = omega (arith, one_fits c.requires.2 _ (omega arith) c.if-self-at.false)
 
 pub bounds-self-end-2 : goal.bounds-self-end-2
-bounds-self-end-2 c =
-    let room : c.args.self.now.walk.count < 256 = one_fits c.requires.2 _ (omega arith) c.if-self-at.false in
-    omega arith
+bounds-self-end-2 c = omega (arith, one_fits c.requires.2 _ (omega arith) c.if-self-at.false)
 
 pub overflow_add-self : goal.overflow_add-self
-overflow_add-self c =
-    let room : c.args.self.now.walk.count < 256 = one_fits c.requires.2 _ (omega arith) c.if-self-at.false in
-    omega arith
+overflow_add-self c = omega (arith, one_fits c.requires.2 _ (omega arith) c.if-self-at.false)
 
 pub returns : goal.returns
 returns c = enters _ _ _ _ c.from-at.ensures (omega arith) _ c.from-end.ensures c.if-not-live.false c.if-self-at.false

@@ -1,14 +1,12 @@
 -- `expand` meets its contract. The invariant: what is left of the row, entered after what is done, gives the whole; the step is `one_expanded`.
-use Rattle.graph.specs.Rows.{row_leads}
 use Rattle.bfs.proofs.Expanding.{none_expanded, one_expanded, row_ended, row_cut}
 use Rattle.bfs.proofs.walk.Reached.expand.Goals as goal
 
 pub loop-init : goal.loop-init
-loop-init c barred = rw c.from.ensures (none_expanded _ _ barred _ _ _ _ _ _)
+loop-init c barred = rw c.from.ensures (none_expanded _ _ _ barred _)
 
 pub returns-then-h-ge-NO_HALF : goal.returns-then-h-ge-NO_HALF
-unfolding row_leads
-returns-then-h-ge-NO_HALF c barred = row_ended _ _ barred _ _ _ _ _ _ (c.loop.invariant barred) c.if-h-ge-NO_HALF.true
+returns-then-h-ge-NO_HALF c barred = row_ended _ _ _ barred _ (c.loop.invariant barred) c.if-h-ge-NO_HALF.true
 
 pub enter-requires : goal.enter-requires
 enter-requires c =
@@ -18,9 +16,8 @@ enter-requires c =
 
 pub loop-preserved : goal.loop-preserved
 loop-preserved c barred =
-    one_expanded _ _ barred _ _ _ _ _ _ (c.loop.invariant barred) _ _ c.loop-test.true c.if-h-ge-NO_HALF.false c.from-half.ensures c.from-at.ensures
+    one_expanded _ _ _ barred _ (c.loop.invariant barred) _ _ c.loop-test.true c.if-h-ge-NO_HALF.false c.from-half.ensures c.from-at.ensures
     (c.enter.ensures barred)
 
 pub returns : goal.returns
-unfolding row_leads
-returns c barred = row_cut _ _ barred _ _ _ _ _ _ (c.loop.invariant barred) c.loop-test.false
+returns c barred = row_cut _ _ _ barred _ (c.loop.invariant barred) c.loop-test.false
