@@ -80,12 +80,12 @@ fn turned(list: PathBranches) -> PathBranches
 }
 
 // The branches of the path that a walk finds, beginning at bus from: none where the buses are the same or to is not reached.
-fn bfs_path(graph: Graph, live: [bool; Graph::MAX_BRANCHES], from: u8, to: u8) -> PathBranches
-    ensures { result ≡ path_of (row_path graph live from to) }
+fn bfs_path(graph: &Graph, live: &[bool; Graph::MAX_BRANCHES], from: u8, to: u8) -> PathBranches
+    ensures { result ≡ path_of (row_path graph.now live.now from to) }
 {
-    let ways = ways_of(&walk(graph, live, from));
+    let ways = ways_of(&walk(*graph, *live, from));
     if ways[usize::from(to)].is_some() {
-        return turned(way_back(&graph, &ways, from, to));
+        return turned(way_back(graph, &ways, from, to));
     }
     PathBranches {
         count: 0,
@@ -98,5 +98,5 @@ pub fn path_of_ends(graph: Graph, live: [bool; Graph::MAX_BRANCHES], k: u16) -> 
     ensures { result ≡ path_of (row_ends_path graph live k) }
 {
     let (from, to) = ends_of(&graph, k);
-    bfs_path(graph, live, from, to)
+    bfs_path(&graph, &live, from, to)
 }
