@@ -1,11 +1,9 @@
--- How many bytes a state's array has, and how many switches a network's: what owning a value of the type tells (as `network/proofs/ArrayLengths`).
+-- How many bytes a state's array has: what owning a value of the type tells (as `network/proofs/ArrayLengths` for a network).
 use mathlib.Core.Path.{◌≡◌}
 use lib.ListN.{length}
 use denote.Laws.{Is}
 use denote.Struct.Laws.{vals}
 use borrow.Author.Rules.{rules}
-use Rattle.network.specs.declared.topology.PowerNetwork.{PowerNetwork}
-use Rattle.network.proofs.ArrayLengths as networks
 use Rattle.states.specs.declared.configuration.NetworkConfiguration.{NetworkConfiguration}
 use Rattle.states.specs.contracts.configuration.NetworkConfiguration.{the_row, the_type}
 use Rattle.states.proofs.configuration.NetworkConfiguration.TheLaws.{the_laws}
@@ -15,6 +13,3 @@ Owned c = Is the_row c (vals the_type the_laws c)
 
 pub bytes_512 : (c : NetworkConfiguration) → Owned c → length c.switches ≡ 512
 bytes_512 c owned = search rules
-
-pub switches_512 : (n : PowerNetwork) → networks.Owned n → length n.switches ≡ 512
-switches_512 n owned = search rules

@@ -1,7 +1,8 @@
 -- `live_branches` meets its contract: the flags of the branches with an open switch say which are live.
 use Rattle.std.proofs.Common.{◌∙◌, arith}
 use Rattle.states.specs.LiveLaws.{live_read}
-use Rattle.states.proofs.ArrayLengths.{bytes_512, switches_512}
+use Rattle.network.proofs.ArrayLengths.{switches_512}
+use Rattle.states.proofs.ArrayLengths.{bytes_512}
 use Rattle.states.proofs.configuration.live_branches.Goals as goal
 
 pub returns : goal.returns
