@@ -108,7 +108,7 @@ impl Reached {
         let row = usize::from(u);
         let from = usize::from(at[row]);
         let to = usize::from(at[row + 1]).min(Graph::MAX_HALVES);
-        // By positions: along the slice of near, which wants from no greater than to, a walk through a chain took a third longer.
+        // By positions: a slice of near wants a from that is not past to, and with it a walk through a chain took a third longer.
         for i in from..to {
             self.enter(near[i]);
         }
