@@ -132,11 +132,6 @@ module _ (N : Network) where
     base_radial_lem id named = (inside_radial_tree N (network_inside.0 ok).0 (base_state N)).1 ((network_inside.0 ok).2 id named).1
 
 -- ---- a value's supply
-module _ (n : PowerNetwork) where
-  pub value_supplied : n.has_supply ≡ true → (records_of n).supply ≡ Some n.supply
-  unfolding records_of
-  value_supplied e = rw e
-
-  pub value_unsupplied : n.has_supply ≡ false → (records_of n).supply ≡ None
-  unfolding records_of
-  value_unsupplied e = rw e
+pub value_supply : (n : PowerNetwork) → (records_of n).supply ≡ n.supply
+unfolding records_of
+value_supply n = refl
