@@ -1,8 +1,7 @@
 -- The loss call, case by case: without a supply it is a call on a state as any other; it answers the loss where the network, the state and, with a supply, radiality pass.
-use Rattle.std.specs.Prelude.{◌≡◌, refl, ◌↔◌, Bool, true, ℕ}
+use Rattle.std.specs.Prelude.{◌≡◌, refl, ◌↔◌, ℕ}
 use Rattle.std.proofs.Math.Path.{sym, ap}
 use Rattle.std.proofs.Common.{◌∙◌}
-use Rattle.std.proofs.Math.Bool.{false}
 use Rattle.std.specs.Prelude.{Option, None, Some}
 use Rattle.network.specs.declared.topology.PowerNetwork.{PowerNetwork}
 use Rattle.network.specs.Records.{Network, records_of}
@@ -15,7 +14,6 @@ use Rattle.feeders.specs.Feeder.{radial_in}
 use Rattle.feeders.specs.StateCalls.{on_state, check_radial}
 use Rattle.feeders.specs.StateCallLaws.{radial_accepted}
 use Rattle.feeders.specs.Supply.{check_network}
-use Rattle.feeders.specs.SupplyLaws.{value_supplied, value_unsupplied}
 use Rattle.losses.specs.Loss.{loss_in}
 use Rattle.losses.specs.LossCall.{check_fed, judge_fed, loss_call}
 use Rattle.losses.specs.SupplySide.{Fed}
@@ -46,9 +44,10 @@ module _ (N : Network) (s : State) where
       sym (gives_way (accepted (loss_in N s)) (fed_accepted.1 h) ∙ gives_way _ ((state_accepted N s 0).1 good) ∙ gives_way _ ok)
 
 -- what the code tests is 11 of the value's records
-pub fed_judged : (n : PowerNetwork) (s : State) → judge_fed n.has_supply (radial_in (records_of n) s) ≡ check_fed (records_of n) (records_of n).supply s
-fed_judged n s = go n.has_supply refl
+pub fed_judged : (n : PowerNetwork) (s : State) → judge_fed n.supply (radial_in (records_of n) s) ≡ check_fed (records_of n) (records_of n).supply s
+unfolding records_of check_radial
+fed_judged n s = go n.supply
   where
-    go : (b : Bool) → n.has_supply ≡ b → judge_fed b (radial_in (records_of n) s) ≡ check_fed (records_of n) (records_of n).supply s
-    go true e = sym (fed (records_of n) s (value_supplied n e) ∙ unfold check_radial in refl)
-    go false e = sym (unfed (records_of n) s (value_unsupplied n e))
+    go : (z : Option ℕ) → judge_fed z (radial_in (records_of n) s) ≡ check_fed (records_of n) z s
+    go None = refl
+    go (Some id) = refl
