@@ -1,11 +1,10 @@
 -- What the checks leave for the code behind them: the flags of live branches, a byte for each switch, and with a change accepted its graph and its flags.
-use Rattle.std.specs.Prelude.{◌≡◌, refl, Bool, ℕ, ◌≤◌, length}
+use Rattle.std.specs.Prelude.{◌≡◌, refl, Ok, Bool, List, ℕ, ◌≤◌, length}
 use Rattle.std.proofs.Math.Path.{ap}
 use Rattle.std.proofs.Common.{◌∙◌}
-use Rattle.network.specs.declared.error.Verdict.TheVariants.{Accepted}
 use Rattle.network.specs.declared.topology.PowerNetwork.{PowerNetwork}
 use Rattle.network.specs.Records.{records_of}
-use Rattle.network.specs.Answers.{accepted, answer_of}
+use Rattle.network.specs.Answers.{accepted, answer_of, Judgement}
 use Rattle.network.specs.AnswerLaws.{then_iff, accepted_so}
 use Rattle.network.specs.Check.{check_records}
 use Rattle.states.specs.Configuration.{configuration_of}
@@ -14,9 +13,11 @@ use Rattle.network.specs.InsideLaws.{check_inside}
 use Rattle.states.specs.Listed.{switches_listed, few_switches, state_accepted}
 use Rattle.states.specs.Live.{live, check_state}
 use Rattle.states.specs.Switches.{State}
-use Rattle.graph.specs.Rows.{flag}
+use Rattle.graph.specs.declared.rows.Graph.{Graph}
+use Rattle.graph.specs.Rows.{flag, row_radial}
 use Rattle.feeders.specs.FeederRows.{feeder_graph, live_flags}
-use Rattle.feeders.specs.FeederRowLaws.{flags_live, state_flags}
+use Rattle.feeders.specs.FeederRowLaws.{flags_live, state_flags, flags_radial}
+use Rattle.feeders.specs.StateCalls.{judge_radial, check_radial}
 use Rattle.feeders.specs.SupplyLaws.{network_records}
 use Rattle.changes.specs.declared.change.Change.{Change}
 use Rattle.changes.specs.Change.{check_plan, flags_in, Judged, judged_in, judged}
@@ -26,6 +27,12 @@ pub record Checked (n : PowerNetwork) (present wanted : State) : Type 0 where
   pub network : check_records (records_of n) ≡ accepted tt
   pub present_good : check_state (records_of n) present 0 ≡ accepted tt
   pub wanted_good : check_state (records_of n) wanted 1 ≡ accepted tt
+
+-- the change's graph and its flags are those of the network and the states
+pub record Made (n : PowerNetwork) (present wanted : State) (change : Change) : Type 0 where
+  pub graph : change.graph ≡ feeder_graph n
+  pub present_live : change.present_live ≡ flags_in n present
+  pub wanted_live : change.wanted_live ≡ flags_in n wanted
 
 -- the change is accepted, and its graph and its flags are those of the network and the states
 pub record Passed (n : PowerNetwork) (change : Change) (present wanted : State) : Type 0 where
@@ -45,6 +52,12 @@ module _ (n : PowerNetwork) where
     pub flags_so : (s : State) (place : ℕ) → check_state (records_of n) s place ≡ accepted tt → flags_in n s ≡ live_flags (records_of n) s
     flags_so s place good = state_flags (records_of n) s place passed good (configuration_of s) (flags_in n s) refl refl
 
+    -- refusal 11 of a state, as the graph and its flags show it
+    pub radial_judged : length n.buses ≡ 256 → (s : State) (place : ℕ) {graph : Graph} → graph ≡ feeder_graph n → {live : List Bool} → live ≡ live_flags (records_of n) s
+        → {a : Judgement} → a ≡ judge_radial (row_radial graph live) place → a ≡ check_radial (records_of n) s place
+    unfolding check_radial
+    radial_judged buses s place {graph} g {live} l j = j ∙ ap (λ b. judge_radial b place) (flags_radial n buses passed s graph live g l (row_radial graph live) refl)
+
   pub verdict_so : (present wanted : State) (change : Change) → judged_in change ≡ judged n present wanted → answer_of change.verdict ≡ check_plan (records_of n) present wanted
   unfolding judged
   verdict_so present wanted change e = ap (λ (j : Judged). j.answer) e
@@ -58,6 +71,11 @@ module _ (n : PowerNetwork) where
       few_switches n g.network,
     )
 
+    -- the flags are those of the two states
+    pub made_flags : Checked n present wanted → {change : Change} → Made n present wanted change
+        → (change.present_live ≡ live_flags (records_of n) present) × (change.wanted_live ≡ live_flags (records_of n) wanted)
+    made_flags g made = (made.present_live ∙ flags_so g.network present 0 g.present_good, made.wanted_live ∙ flags_so g.network wanted 1 g.wanted_good)
+
     accepted_checked : check_plan (records_of n) present wanted ≡ accepted tt → Checked n present wanted
     unfolding check_plan
     accepted_checked ok =
@@ -65,14 +83,10 @@ module _ (n : PowerNetwork) where
         let (p, e₂) = (then_iff _ _).0 e₁ in
         record { network = network_records (records_of n) r; present_good = p; wanted_good = ((then_iff _ _).0 e₂).0 }
 
-    pub accepted_passed : {change : Change} → change.verdict ≡ Accepted → judged_in change ≡ judged n present wanted → Passed n change present wanted
+    pub accepted_passed : {change : Change} {u : Unit {0}} → change.verdict ≡ Ok u → judged_in change ≡ judged n present wanted → Passed n change present wanted
     unfolding judged
     accepted_passed {change} v e =
         let ok = accepted_so v (verdict_so present wanted change e) in
-        let given = accepted_checked ok in
-        record {
-          ok = ok;
-          graph = ap (λ (j : Judged). j.graph) e;
-          present_live = ap (λ (j : Judged). j.present_live) e ∙ flags_so given.network present 0 given.present_good;
-          wanted_live = ap (λ (j : Judged). j.wanted_live) e ∙ flags_so given.network wanted 1 given.wanted_good;
-        }
+        let made : Made n present wanted change = record { graph = ap (λ (j : Judged). j.graph) e; present_live = ap (λ (j : Judged). j.present_live) e; wanted_live = ap (λ (j : Judged). j.wanted_live) e } in
+        let flags = made_flags (accepted_checked ok) made in
+        record { ok = ok; graph = made.graph; present_live = flags.0; wanted_live = flags.1 }
