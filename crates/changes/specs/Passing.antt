@@ -1,10 +1,10 @@
 -- What the checks leave for the code behind them: the flags of live branches, a byte for each switch, and with a change accepted its graph and its flags.
-use Rattle.std.specs.Prelude.{◌≡◌, refl, Ok, Bool, List, ℕ, ◌≤◌, length}
+use Rattle.std.specs.Prelude.{◌≡◌, refl, Ok, Bool, ℕ, ◌≤◌, length}
 use Rattle.std.proofs.Math.Path.{ap}
 use Rattle.std.proofs.Common.{◌∙◌}
 use Rattle.network.specs.declared.topology.PowerNetwork.{PowerNetwork}
 use Rattle.network.specs.Records.{records_of}
-use Rattle.network.specs.Answers.{accepted, answer_of, Judgement}
+use Rattle.network.specs.Answers.{accepted, answer_of}
 use Rattle.network.specs.AnswerLaws.{then_iff, accepted_so}
 use Rattle.network.specs.Check.{check_records}
 use Rattle.states.specs.Configuration.{configuration_of}
@@ -13,11 +13,9 @@ use Rattle.network.specs.InsideLaws.{check_inside}
 use Rattle.states.specs.Listed.{switches_listed, few_switches, state_accepted}
 use Rattle.states.specs.Live.{live, check_state}
 use Rattle.states.specs.Switches.{State}
-use Rattle.graph.specs.declared.rows.Graph.{Graph}
-use Rattle.graph.specs.Rows.{flag, row_radial}
+use Rattle.graph.specs.Rows.{flag}
 use Rattle.feeders.specs.FeederRows.{feeder_graph, live_flags}
-use Rattle.feeders.specs.FeederRowLaws.{flags_live, state_flags, flags_radial}
-use Rattle.feeders.specs.StateCalls.{judge_radial, check_radial}
+use Rattle.feeders.specs.FeederRowLaws.{flags_live, state_flags}
 use Rattle.feeders.specs.SupplyLaws.{network_records}
 use Rattle.changes.specs.declared.change.Change.{Change}
 use Rattle.changes.specs.Change.{check_plan, flags_in, Judged, judged_in, judged}
@@ -51,12 +49,6 @@ module _ (n : PowerNetwork) where
 
     pub flags_so : (s : State) (place : ℕ) → check_state (records_of n) s place ≡ accepted tt → flags_in n s ≡ live_flags (records_of n) s
     flags_so s place good = state_flags (records_of n) s place passed good (configuration_of s) (flags_in n s) refl refl
-
-    -- refusal 11 of a state, as the graph and its flags show it
-    pub radial_judged : length n.buses ≡ 256 → (s : State) (place : ℕ) {graph : Graph} → graph ≡ feeder_graph n → {live : List Bool} → live ≡ live_flags (records_of n) s
-        → {a : Judgement} → a ≡ judge_radial (row_radial graph live) place → a ≡ check_radial (records_of n) s place
-    unfolding check_radial
-    radial_judged buses s place {graph} g {live} l j = j ∙ ap (λ b. judge_radial b place) (flags_radial n buses passed s graph live g l (row_radial graph live) refl)
 
   pub verdict_so : (present wanted : State) (change : Change) → judged_in change ≡ judged n present wanted → answer_of change.verdict ≡ check_plan (records_of n) present wanted
   unfolding judged

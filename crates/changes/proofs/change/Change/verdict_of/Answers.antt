@@ -8,7 +8,8 @@ use Rattle.states.specs.Live.{check_state}
 use Rattle.feeders.specs.Supply.{check_network}
 use Rattle.feeders.specs.SupplyLaws.{network_records}
 use Rattle.changes.specs.Change.{check_plan}
-use Rattle.changes.specs.Passing.{Checked, radial_judged, made_flags}
+use Rattle.feeders.specs.StateCallLaws.{radial_judged}
+use Rattle.changes.specs.Passing.{Checked, made_flags}
 use Rattle.changes.proofs.change.Change.verdict_of.Goals as goal
 use Rattle.changes.proofs.change.Change.verdict_of.Goals.{In_ok-check_state-2, In_ok-check_radial}
 
@@ -22,7 +23,7 @@ behind_states c = gives_way _ (sym c.in_ok-check_state-2.ensures) ∙ gives_way 
 
 -- behind 11 of the present state
 present_radial : (c : In_ok-check_radial) → Checked c.args.network c.args.present.now c.args.wanted.now → accepted tt ≡ check_radial (records_of c.args.network) c.args.present.now 0
-present_radial c given = radial_judged _ given.network (search rules) _ 0 c.requires.graph (made_flags _ given c.requires).0 c.in_ok-check_radial.ensures
+present_radial c given = radial_judged _ (search rules) given.network _ 0 c.requires.graph (made_flags _ given c.requires).0 c.in_ok-check_radial.ensures
 
 pub returns-in_err-check_network : goal.returns-in_err-check_network
 unfolding check_plan
@@ -48,7 +49,7 @@ unfolding check_plan
 returns-in_err-check_radial c =
     let given = checked (goal.at.returns-in_err-check_radial c).In_ok-check_state-2 in
     handed_on _ _ c.from_residual-in_err-check_radial.ensures.1
-    ∙ decides _ (sym (radial_judged _ given.network (search rules) _ 0 c.requires.graph (made_flags _ given c.requires).0 c.in_err-check_radial.ensures))
+    ∙ decides _ (sym (radial_judged _ (search rules) given.network _ 0 c.requires.graph (made_flags _ given c.requires).0 c.in_err-check_radial.ensures))
     ∙ behind_states (goal.at.returns-in_err-check_radial c).In_ok-check_state-2
 
 pub returns-in_err-check_radial-2 : goal.returns-in_err-check_radial-2
@@ -56,7 +57,7 @@ unfolding check_plan
 returns-in_err-check_radial-2 c =
     let given = checked (goal.at.returns-in_err-check_radial-2 c).In_ok-check_state-2 in
     handed_on _ _ c.from_residual-in_err-check_radial-2.ensures.1
-    ∙ decides _ (sym (radial_judged _ given.network (search rules) _ 1 c.requires.graph (made_flags _ given c.requires).1 c.in_err-check_radial-2.ensures))
+    ∙ decides _ (sym (radial_judged _ (search rules) given.network _ 1 c.requires.graph (made_flags _ given c.requires).1 c.in_err-check_radial-2.ensures))
     ∙ gives_way _ (sym (present_radial (goal.at.returns-in_err-check_radial-2 c).In_ok-check_radial given))
     ∙ behind_states (goal.at.returns-in_err-check_radial-2 c).In_ok-check_state-2
 
@@ -68,6 +69,6 @@ unfolding check_plan
 returns c =
     let given = checked (goal.at.returns c).In_ok-check_state-2 in
     c.check_locked.ensures
-    ∙ gives_way _ (sym (radial_judged _ given.network (search rules) _ 1 c.requires.graph (made_flags _ given c.requires).1 c.in_ok-check_radial-2.ensures))
+    ∙ gives_way _ (sym (radial_judged _ (search rules) given.network _ 1 c.requires.graph (made_flags _ given c.requires).1 c.in_ok-check_radial-2.ensures))
     ∙ gives_way _ (sym (present_radial (goal.at.returns c).In_ok-check_radial given))
     ∙ behind_states (goal.at.returns c).In_ok-check_state-2
