@@ -1,3 +1,4 @@
 pub mod Cases
 pub mod Lent
 pub mod LentLaws
+pub mod Faults

@@ -1,12 +1,14 @@
 // The cases that test programs read: a line 'LENGTH NAME', a text of that length, a line feed, and lines of the program's own.
 #![tactic(auto)]
 
-ghost use Rattle.std.specs.Prelude.{◌≡◌, ◌≤◌, ◌<◌, ◌&&◌, ◌==◌, nat_eq, length, drop, get_or, MatchOption};
+ghost use Rattle.std.specs.Prelude.{◌≡◌, ◌≤◌, ◌<◌, ◌&&◌, ◌==◌, ℕ, nat_eq, length, drop, get_or, MatchOption};
 ghost use Rattle.std.specs.List.{starts_with, list_all};
 ghost use Rattle.std.specs.Iterator.{YieldsFirstBy, item_count};
 ghost use Rattle.cases.specs.Lent.{lines_end, cases_of, line_at, state_of};
 ghost use Rattle.cases.specs.LentLaws.{lent_text, cases_left};
 ghost use Rattle.cases.specs.Cases.{Inside, part_of, line_length, line_behind, digit_of, leading_number, first_case, state_bytes};
+
+pub mod faults;
 
 use scan::find;
 use std::array;
@@ -238,6 +240,14 @@ impl<'a> Iterator for Cases<'a> {
             lines: part_of(input, lines),
         })
     }
+}
+
+// So many bytes, all the same. A function's own array of half a million bytes would be written out in its proof; of this one it knows what is promised.
+pub fn filled<const N: usize>(byte: u8) -> [u8; N]
+    ensures long { N ≡ length result }
+    ensures each { (at : ℕ) → at < N → get_or result at byte ≡ byte }
+{
+    [byte; N]
 }
 
 // What each byte of a lent slice is before a call.
