@@ -1,7 +1,10 @@
 // Translated and changed from src/error.rs of oxigrid. Copyright 2024-2026 COOLJAPAN OU (Team Kitasan), Apache License 2.0.
 // The refusals in place of the source's error texts.
-ghost use Rattle.std.specs.Prelude.{◌≡◌};
+ghost use Rattle.std.specs.Prelude.{◌≡◌, Some, ◌++◌, ◌∷◌};
+ghost use Rattle.std.specs.Fmt.{decimal};
 ghost use Rattle.network.specs.Answers.{number_of, place_of};
+
+use std::fmt;
 
 // Why a text, its records or a state is refused, with the line, the state (0 present or only one, 1 wanted) or the switch id that it is refused for.
 #[derive(Clone, Copy, Debug, PartialEq, Eq)]
@@ -89,5 +92,16 @@ impl Refusal {
             Refusal::Locked { switch } => switch,
             Refusal::Room | Refusal::MovesDone => 0,
         }
+    }
+}
+
+// The two numbers, a blank between them.
+impl fmt::Display for Refusal {
+    ghost output = { λ r. Some (decimal (number_of r) ++ (32 ∷ decimal (place_of r))) };
+
+    fn fmt<W: fmt::Write>(&self, f: &mut fmt::Formatter<W>) -> fmt::Result {
+        let number = self.number();
+        let place = self.place();
+        write!(f, "{number} {place}")
     }
 }
