@@ -35,21 +35,6 @@ fn print_answer(rt: &impl Print, network: PowerNetwork, line: &[u8]) -> io::Resu
     }
 }
 
-// The text is read as a stored one, so that it is the call that refuses a branch from a bus to itself. A text that is refused here is said to be no feeder: such a case is
-// wrongly made.
-fn feeder(rt: &impl Print, text: &[u8], before: PowerNetwork) -> io::Result<PowerNetwork> {
-    if text.is_empty() {
-        return Ok(before);
-    }
-    match read_stored(text) {
-        Ok(network) => Ok(network),
-        Err(_) => {
-            rt.print(" no feeder")?;
-            Ok(before)
-        }
-    }
-}
-
 fn main(rt: HostRuntime) -> io::Result<()> {
     // Room for all cases.
     let mut room = filled::<458_752>(0);
@@ -57,7 +42,14 @@ fn main(rt: HostRuntime) -> io::Result<()> {
     let mut network = PowerNetwork::new(1.0, ReconfigAlgorithm::BranchExchange, 100);
     for case in Cases::of(&room[..n], 1) {
         rt.write_all(case.name)?;
-        network = feeder(&rt, case.text, network)?;
+        if !case.text.is_empty() {
+            // As a stored text, so that it is the call that refuses a branch from a bus to itself. A text that is refused here is said to be no feeder: such a case is
+            // wrongly made.
+            match read_stored(case.text) {
+                Ok(read) => network = read,
+                Err(_) => rt.print(" no feeder")?,
+            }
+        }
         print_answer(&rt, network, case.line(0))?;
     }
     Ok(())
