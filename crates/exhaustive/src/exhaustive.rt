@@ -171,10 +171,10 @@ fn count_masks(ties: usize) -> u16
 }
 
 // The base with its loss.
-fn base_of(start: Start) -> LeastState
+fn base_of(start: &Start) -> LeastState
     ensures { result ≡ record {
-      configuration = start.base;
-      loss = start.loss;
+      configuration = start.now.base;
+      loss = start.now.loss;
     } }
 {
     LeastState {
@@ -184,8 +184,8 @@ fn base_of(start: Start) -> LeastState
 }
 
 // After mask 0, which leaves the base as it is.
-fn with_base(start: Start) -> ExhaustiveSearch
-    ensures { (n : PowerNetwork) → length n.buses ≡ 256 → Started n start → result ≡ exhaustive_of (try_mask (records_of n) no_mask 0) }
+fn with_base(start: &Start) -> ExhaustiveSearch
+    ensures { (n : PowerNetwork) → length n.buses ≡ 256 → Started n start.now → result ≡ exhaustive_of (try_mask (records_of n) no_mask 0) }
 {
     let none = ExhaustiveSearch::new();
     if start.radial {
@@ -197,12 +197,12 @@ fn with_base(start: Start) -> ExhaustiveSearch
 // One mask more, whose state is radial.
 fn with_mask(
     network: PowerNetwork,
-    start: Start,
+    start: &Start,
     search: ExhaustiveSearch,
     live: [bool; PowerNetwork::MAX_BRANCHES],
     mask: u16,
 ) -> ExhaustiveSearch
-    requires { Started network start × (search.radial_count < 65535) × (live ≡ live_flags (records_of network) (masked (records_of network) mask))
+    requires { Started network start.now × (search.radial_count < 65535) × (live ≡ live_flags (records_of network) (masked (records_of network) mask))
         × (radial_in (records_of network) (masked (records_of network) mask) ≡ true) }
     ensures { (x : Exhaustive) → search ≡ exhaustive_of x → result ≡ exhaustive_of (try_mask (records_of network) x mask) }
 {
@@ -222,8 +222,8 @@ fn with_mask(
 
 // Document 01's exhaustive search, by rising masks. Their live branches follow from those with every switch closed: only a radial mask has its state made and
 // its loss taken.
-fn exhaustive_masks(network: PowerNetwork, start: Start) -> ExhaustiveSearch
-    requires { Started network start × (network.algorithm ≡ ReconfigAlgorithm.Exhaustive) }
+fn exhaustive_masks(network: PowerNetwork, start: &Start) -> ExhaustiveSearch
+    requires { Started network start.now × (network.algorithm ≡ ReconfigAlgorithm.Exhaustive) }
     ensures { result ≡ exhaustive_of (exhaustive (records_of network)) }
 {
     let closed_live = live_branches(network, NetworkConfiguration::new());
@@ -239,8 +239,8 @@ fn exhaustive_masks(network: PowerNetwork, start: Start) -> ExhaustiveSearch
 }
 
 // What the exhaustive search finds, the base where no mask is radial: it counts the radial states, and it converged.
-fn search(network: PowerNetwork, start: Start) -> Found
-    requires { Started network start × (network.algorithm ≡ ReconfigAlgorithm.Exhaustive) }
+fn search(network: PowerNetwork, start: &Start) -> Found
+    requires { Started network start.now × (network.algorithm ≡ ReconfigAlgorithm.Exhaustive) }
     ensures { result ≡ found_of (records_of network) (exhaustive_best (records_of network)) }
 {
     let done = exhaustive_masks(network, start);
@@ -260,7 +260,7 @@ fn solve_as_exhaustive(network: PowerNetwork, out: &mut [u8]) -> Result<Reconfig
 {
     check_search(network, out.len())?;
     let start = start_of(network);
-    Ok(answer_with(network, start, search(network, start), out))
+    Ok(answer_with(network, start, search(network, &start), out))
 }
 
 // The feeder with method 02 in its head.
