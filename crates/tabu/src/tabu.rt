@@ -176,7 +176,8 @@ impl TabuSearch {
     }
 }
 
-// A round from a radial state. Only a toggle that makes no branch live or dead leaves it radial, and the loss as it is.
+// A round from a radial state. Each of the two rounds has its loop: a shared one would take the test and the loss as a closure over the graph, the loads and the flags,
+// whose clauses are longer than the loop. Only a toggle that makes no branch live or dead leaves it radial, and the loss as it is.
 #[tactic(auto, using(states::specs::Listed::few_switches))]
 fn best_from_radial(network: PowerNetwork, search: &TabuSearch) -> Option<Candidate>
     requires { check_records (records_of network) ≡ accepted tt }
