@@ -1,5 +1,5 @@
 // The pairs of a plan.
-ghost use Rattle.std.specs.Prelude.{◌≡◌, true, false, [], ◌∷◌, ◌++◌, map, ℕ, ◌+◌, ◌<◌, ◌≤◌, length, get_or, set};
+ghost use Rattle.std.specs.Prelude.{◌≡◌, true, false, [], ◌∷◌, ◌++◌, map, ℕ, ◌+◌, ◌<◌, length, get_or, set};
 ghost use Rattle.network.specs.Answers.{accepted};
 ghost use Rattle.network.specs.Check.{check_records};
 ghost use Rattle.network.specs.Records.{records_of};
@@ -10,13 +10,13 @@ ghost use Rattle.changes.specs.Passing.{Passed};
 ghost use Rattle.plan.specs.Plan.{open_switches, id_of, plan};
 ghost use Rattle.plan.specs.Stored.{moves_in};
 
+use crate::list::SwitchList;
 use changes::change::Change;
 use graph::flags::flagged;
 use network::topology::PowerNetwork;
 use openings::opening::opening;
 use printing::writer::SwitchIds;
 use states::configuration::NetworkConfiguration;
-use std::marker::Model;
 
 // A pair: the ids of the switches that it closes, and of those that it opens.
 #[derive(Clone, Copy)]
@@ -27,55 +27,7 @@ pub struct Pair {
 
 // The pairs of a plan in order. Each closes another branch by a switch of its own: there are no more of them than switches (`specs/Length.plan_few`:
 // 255 at the most).
-#[derive(Drop)]
-pub struct PairList {
-    count: u16,
-    pairs: [Pair; PowerNetwork::MAX_SWITCHES],
-}
-
-impl Model for PairList {
-    ghost use Rattle.std.specs.Prelude.{List, take, ◌≤◌};
-    ghost use Rattle.plan.specs.declared.pairs.Pair.{Pair};
-
-    ghost Value = { List Pair };
-
-    ghost view = { λ l. take l.count l.pairs };
-
-    ghost invariant = { λ l. l.count ≤ 512 };
-}
-
-impl PairList {
-    // No pairs.
-    fn new() -> PairList
-        ensures { result ≡ [] }
-    {
-        let none = Pair {
-            closes: SwitchIds::new(),
-            opens: SwitchIds::new(),
-        };
-        PairList {
-            count: 0,
-            pairs: [none; PowerNetwork::MAX_SWITCHES],
-        }
-    }
-
-    // One pair more.
-    fn push(&mut self, pair: Pair)
-        requires { length self.old < 512 }
-        ensures { self.new ≡ self.old ++ pair ∷ [] }
-    {
-        self.pairs[usize::from(self.count)] = pair;
-        self.count += 1;
-    }
-
-    // The pairs as a slice.
-    pub fn as_slice(&self) -> &[Pair]
-        ensures pairs { result.now ≡ self.now }
-        ensures few { length result.now ≤ 512 }
-    {
-        &self.pairs[..usize::from(self.count)]
-    }
-}
+pub type PairList = SwitchList<Pair>;
 
 // The pairs made so far, and the branches that are live with them done.
 #[derive(Drop)]
@@ -143,9 +95,14 @@ pub(crate) fn pairs_of(
 {
     let closes = open_ids(network, present);
     let opens = open_ids(network, wanted);
+    let none = SwitchIds::new();
+    let pairs = PairList::new(Pair {
+        closes: none,
+        opens: none,
+    });
     let mut stage = Stage {
         live: change.present_live,
-        pairs: PairList::new(),
+        pairs,
     };
     for switch in &network.switches[..usize::from(network.switch_count)] {
         let k = switch.branch_idx;

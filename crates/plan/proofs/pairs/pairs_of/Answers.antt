@@ -17,7 +17,7 @@ pub shared_ref_as_front-switch-items : goal.shared_ref_as_front-switch-items
 shared_ref_as_front-switch-items c = omega (arith, few_switches _ (passed _ _ _ c.requires))
 
 pub loop-switch-init : goal.loop-switch-init
-loop-switch-init c = rw c.new.ensures (none_made _ _ _ c.requires)
+loop-switch-init c = rw c.new-pairs.ensures (none_made _ _ _ c.requires)
 
 pub bounds-opens-from : goal.bounds-opens-from
 bounds-opens-from c =

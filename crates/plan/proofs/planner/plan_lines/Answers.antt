@@ -11,23 +11,23 @@ returns-in_err-made c = not_accepted _ _ _ _ _ _ c.from_residual.ensures.1 (made
 pub text_length-length-requires : goal.text_length-length-requires
 text_length-length-requires c =
     let ok = made_accepted _ _ _ _ c.made_plan.ensures c.in_ok-made.was in
-    let pairs = ap moves_in c.as_slice-pairs.ensures.pairs ∙ made_pairs _ _ _ _ c.made_plan.ensures c.in_ok-made.was in
+    let pairs = ap moves_in c.as_slice-pairs.ensures.values ∙ made_pairs _ _ _ _ c.made_plan.ensures c.in_ok-made.was in
     lengths_fit _ _ _ c.args.out.now ok _ pairs
 
 pub returns-then-out-length : goal.returns-then-out-length
 returns-then-out-length c =
     let ok = made_accepted _ _ _ _ c.made_plan.ensures c.in_ok-made.was in
-    let pairs = ap moves_in c.as_slice-pairs.ensures.pairs ∙ made_pairs _ _ _ _ c.made_plan.ensures c.in_ok-made.was in
+    let pairs = ap moves_in c.as_slice-pairs.ensures.values ∙ made_pairs _ _ _ _ c.made_plan.ensures c.in_ok-made.was in
     no_room _ _ _ _ ok _ pairs c.text_length-length.ensures c.if-out-length.true
 
 pub write_pairs-requires : goal.write_pairs-requires
 write_pairs-requires c =
     let ok = made_accepted _ _ _ _ c.made_plan.ensures c.in_ok-made.was in
-    let pairs = ap moves_in c.as_slice-pairs.ensures.pairs ∙ made_pairs _ _ _ _ c.made_plan.ensures c.in_ok-made.was in
+    let pairs = ap moves_in c.as_slice-pairs.ensures.values ∙ made_pairs _ _ _ _ c.made_plan.ensures c.in_ok-made.was in
     room _ _ _ _ ok _ pairs c.text_length-length.ensures c.if-out-length.false
 
 pub returns : goal.returns
 returns c =
     let ok = made_accepted _ _ _ _ c.made_plan.ensures c.in_ok-made.was in
-    let pairs = ap moves_in c.as_slice-pairs.ensures.pairs ∙ made_pairs _ _ _ _ c.made_plan.ensures c.in_ok-made.was in
+    let pairs = ap moves_in c.as_slice-pairs.ensures.values ∙ made_pairs _ _ _ _ c.made_plan.ensures c.in_ok-made.was in
     lines_written _ _ _ _ ok _ pairs c.text_length-length.ensures c.if-out-length.false c.write_pairs.ensures
