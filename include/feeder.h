@@ -22,7 +22,7 @@
 extern "C" {
 #endif
 
-#define FEEDER_VERSION "0.10"
+#define FEEDER_VERSION "0.11"
 
 /* What a text may list, how many of its switches may be on one branch, how many iterations its head may ask for, and how many of its switches may be normally
  * open with method 02. */
