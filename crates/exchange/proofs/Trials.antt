@@ -9,7 +9,7 @@ use Rattle.numbers.specs.TableLaws.{any_default}
 use Rattle.numbers.specs.Choose.{first_some}
 use Rattle.numbers.specs.IfSome.{IfSome}
 use Rattle.states.specs.declared.configuration.NetworkConfiguration.{NetworkConfiguration}
-use Rattle.states.specs.Listed.{few_switches, switch_at_lem, switches_listed}
+use Rattle.states.specs.Listed.{few_switches, switches_listed}
 use Rattle.states.specs.OpenCounts.{one_open}
 use Rattle.states.specs.Switches.{State, byte, branch_of, size, swapped}
 use Rattle.network.specs.declared.switch.Switch.{Switch}
@@ -36,7 +36,7 @@ use Rattle.exchange.specs.ExchangeLaws.{Swap, trial_swaps}
 use Rattle.exchange.specs.Exchange.{seen, section_of, swap_with, trial}
 use Rattle.exchange.specs.ExchangeValues.{sections_of, row_swap, row_swap_with, row_trial, swap_at, trial_of}
 use Rattle.exchange.specs.ExchangeSwaps.{section_below, section_here, few, listed, judged}
-use Rattle.exchange.specs.ExchangeTrials.{InRound, SwitchAt, Tried, seen_trial, seen_read, switch_read_lem, tried_flags, first_swapped, loop_by_rows, trial_below, still_open}
+use Rattle.exchange.specs.ExchangeTrials.{InRound, SwitchAt, Tried, switch_read_lem, tried_flags, first_swapped, loop_by_rows, trial_below, still_open}
 
 module _ (n : PowerNetwork) (ok : check_records (records_of n) ≡ accepted tt) (c : NetworkConfiguration) (held : Held n c) (tie : ℕ) (l : tie < n.switch_count) (still : byte (state_of n c) tie ≡ 1)
     (sized : length n.buses ≡ 256) (g : Graph) (a : g ≡ feeder_graph n) (sections : List (Option ℕ)) (q : sections ≡ sections_of (records_of n)) (live : List Bool) (b : live ≡ live_flags (records_of n) (state_of n c)) where
@@ -138,29 +138,17 @@ module _ (r : Round) (w : InRound r) where
     pub has_flag : looked_at.branch_idx < 512
     has_flag = on_branch net passed i l looked_at refl
 
-    see : (b : Bool) → b ≡ (looked_at.normally_open && (looked_at.can_operate && eqb (get_or began.switches i 0) 1)) → seen (records_of net) state i ≡ b
-    see b e = seen_read net began i looked_at _ (record { below = l; here = switch_at_lem net i l; flag = refl }) b e
-
-    pub unseen_tried : (b : Bool) → b ≡ (looked_at.normally_open && (looked_at.can_operate && eqb (get_or began.switches i 0) 1)) → b ≡ false
-        → None ≡ trial_of (records_of net) (seen_trial (records_of net) state i)
-    unfolding trial_of
-    unseen_tried b e f = rw (see b e, f)
-
-    module _ (b : Bool) (e : b ≡ (looked_at.normally_open && (looked_at.can_operate && eqb (get_or began.switches i 0) 1))) (t : b ≡ true)
-        (on : ℕ) (p : on ≡ looked_at.branch_idx) (made-live : Bool) (m : made-live ≡ ((get_or net.branches on past_branch).status && eqb (get_or r.counts on 0) 1))
+    module _ (sees : seen (records_of net) state i ≡ true) (on : ℕ) (p : on ≡ looked_at.branch_idx) (made-live : Bool) (m : made-live ≡ ((get_or net.branches on past_branch).status && eqb (get_or r.counts on 0) 1))
         (section : Option ℕ) (q : section ≡ row_trial r.start.now.graph r.sections.now began.switches r.live looked_at.branch_idx made-live) where
-      sees : seen (records_of net) state i ≡ true
-      sees = see b e ∙ t
-
       here : SwitchAt net state i looked_at made-live
       here = switch_read_lem net passed w.branches began r.counts w.counts i l on p made-live m
 
       tried : Tried net began i section
       tried = tie_tried net passed began w.held i looked_at made-live here sees r.live flags w.buses r.start.now.graph given.1 r.sections.now w.listed section q
 
-      pub none_found : section ≡ None → None ≡ trial_of (records_of net) (seen_trial (records_of net) state i)
+      pub none_found : section ≡ None → None ≡ trial_of (records_of net) (trial (records_of net) state i)
       unfolding trial_of
-      none_found h = rw (sees, tried.absent h)
+      none_found h = rw (tried.absent h)
 
       module _ {found : ℕ} (h : section ≡ Some found) (at : ℕ) (a : at ≡ found) where
         pub found_byte : at < 512
@@ -172,7 +160,7 @@ module _ (r : Round) (w : InRound r) where
         pub swap_found : (opened : ℕ) → opened ≡ (get_or net.switches at no_switch).branch_idx → (live : List Bool) → live ≡ set (set r.live on made-live) opened false
             → (loss : Float) → loss ≡ live_loss r.start.now.graph r.start.now.loads net.branches net.base_mva live
             → (c : NetworkConfiguration) → c ≡ record { switches = set (set began.switches i 0) at 1 }
-            → Some (record { configuration = c; loss = loss }) ≡ trial_of (records_of net) (seen_trial (records_of net) state i)
+            → Some (record { configuration = c; loss = loss }) ≡ trial_of (records_of net) (trial (records_of net) state i)
         unfolding trial_of
         swap_found opened o live v loss s c d =
             let below : at < net.switch_count = omega (arith, tried.below h) in
@@ -182,4 +170,4 @@ module _ (r : Round) (w : InRound r) where
             let loses : loss ≡ loss_in (records_of net) (swapped state i at) =
             flags_loss net w.buses given (swapped state i at) (λ _ _. swap.radial)
             (v ∙ tried_flags net passed began w.held i looked_at made-live here sees r.live flags at below on opened p o) loss s in
-            rw (sees, so, loses, d ∙ swapped_held net began i at l below w.held few_listed)
+            rw (so, loses, d ∙ swapped_held net began i at l below w.held few_listed)

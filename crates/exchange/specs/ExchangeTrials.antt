@@ -2,7 +2,7 @@
 use Rattle.std.proofs.Math.Path.{◌≡◌, refl, ap}
 use Rattle.std.proofs.Common.{sym, ◌∙◌, arith}
 use Rattle.std.specs.Prelude.{Bool, ◌&&◌, List, [], ◌∷◌, ℕ, ◌+◌, ◌<◌, eqb, Float, length, drop, set}
-use Rattle.std.proofs.Math.Bool.{true, false, cond}
+use Rattle.std.proofs.Math.Bool.{true, false}
 use Rattle.std.specs.Prelude.{Option, None, Some}
 use Rattle.std.specs.Option.{is_some}
 use Rattle.std.specs.Float.Ieee.{binary64, sub, lt}
@@ -126,57 +126,49 @@ module _ (n : PowerNetwork) (ok : check_records (records_of n) ≡ accepted tt) 
       rw (b, e, p, ← switch_at_lem n section l, ← at.here, ← at.flag) (swapped_flags n ok c held tie at.below still_open section (omega (arith, switches_listed n)))
 
 -- ---- a switch more in a round
-pub seen_read : (n : PowerNetwork) (c : NetworkConfiguration) (i : ℕ) (sw : Switch) (made-live : Bool) → SwitchAt n (state_of n c) i sw made-live → (b : Bool)
-    → b ≡ (sw.normally_open && (sw.can_operate && eqb (get_or c.switches i 0) 1)) → seen (records_of n) (state_of n c) i ≡ b
-seen_read n c i sw made-live at b e =
-    ap (λ w. w.normally_open && (w.can_operate && eqb (byte (state_of n c) i) 1)) at.here
-    ∙ ap (λ x. sw.normally_open && (sw.can_operate && eqb x 1)) (byte_at n c i at.below)
+pub seen_read : (n : PowerNetwork) (c : NetworkConfiguration) (i : ℕ) → i < n.switch_count → (b : Bool)
+    → b ≡ ((get_or n.switches i no_switch).normally_open && ((get_or n.switches i no_switch).can_operate && eqb (get_or c.switches i 0) 1)) → seen (records_of n) (state_of n c) i ≡ b
+seen_read n c i l b e =
+    ap (λ w. w.normally_open && (w.can_operate && eqb (byte (state_of n c) i) 1)) (switch_at_lem n i l)
+    ∙ ap (λ x. (get_or n.switches i no_switch).normally_open && ((get_or n.switches i no_switch).can_operate && eqb x 1)) (byte_at n c i l)
     ∙ sym e
 
--- the trial of a switch that the round sees
-abbrev pub seen_trial : Network → State → ℕ → Option State
-seen_trial N s i = cond (seen N s i) (trial N s i) None
-
--- it counts if it improves
-improving_seen : (N : Network) (s : State) (current : Float) (i : ℕ) → improving N s current i ≡ improved N current (seen_trial N s i)
-unfolding improved
-improving_seen N s current i = go (seen N s i)
-  where
-    go : (b : Bool) → cond b (improved N current (trial N s i)) None ≡ improved N current (cond b (trial N s i) None)
-    go true = refl
-    go false = refl
-
-module _ (N : Network) (s : State) (current : Float) (i : ℕ) (last : Option Trial) (q : last ≡ trial_of N (last_some (improving N s current) i)) (tried : Option Trial) (e : tried ≡ trial_of N (seen_trial N s i)) where
+module _ (N : Network) (s : State) (current : Float) (i : ℕ) (last : Option Trial) (q : last ≡ trial_of N (last_some (improving N s current) i)) where
   abbrev so_far : Option State
   so_far = last_some (improving N s current) i
 
-  more : {next : Option Trial} → next ≡ trial_of N (improved N current (seen_trial N s i) or_else so_far) → next ≡ trial_of N (last_some (improving N s current) (i + 1))
-  more h = h ∙ ap (λ found. trial_of N (found or_else so_far)) (sym (improving_seen N s current i)) ∙ ap (trial_of N) (sym (last_more (improving N s current) i))
+  more : {next : Option Trial} (found : Option State) → improving N s current i ≡ found → next ≡ trial_of N (found or_else so_far) → next ≡ trial_of N (last_some (improving N s current) (i + 1))
+  more found e h = h ∙ ap (λ o. trial_of N (o or_else so_far)) (sym e) ∙ ap (trial_of N) (sym (last_more (improving N s current) i))
 
-  pub none_tried : tried ≡ None → last ≡ trial_of N (last_some (improving N s current) (i + 1))
-  unfolding trial_of improved ◌or_else◌
-  none_tried h = more (go (seen_trial N s i) (sym e ∙ h))
-    where
-      go : (found : Option State) → trial_of N found ≡ None → last ≡ trial_of N (improved N current found or_else so_far)
-      go None f = q
-      go (Some u) f = absurd (cc)
+  pub none_seen : seen N s i ≡ false → last ≡ trial_of N (last_some (improving N s current) (i + 1))
+  unfolding ◌or_else◌
+  none_seen f = more None (rw f) q
 
-  module _ {t : Trial} (h : tried ≡ Some t) where
-    pub better_tried : lt t.loss (sub binary64 current billionth) ≡ true → Some t ≡ trial_of N (last_some (improving N s current) (i + 1))
-    unfolding trial_of improved improves ◌or_else◌
-    better_tried b = more (go (seen_trial N s i) (sym e ∙ h))
+  module _ (sees : seen N s i ≡ true) (tried : Option Trial) (e : tried ≡ trial_of N (trial N s i)) where
+    pub none_tried : tried ≡ None → last ≡ trial_of N (last_some (improving N s current) (i + 1))
+    unfolding trial_of improved ◌or_else◌
+    none_tried h = more _ (rw sees) (go (trial N s i) (sym e ∙ h))
       where
-        go : (found : Option State) → trial_of N found ≡ Some t → Some t ≡ trial_of N (improved N current found or_else so_far)
-        go None f = absurd (cc)
-        go (Some u) f = let same : record { configuration = configuration_of u; loss = loss_in N u } ≡ t = cc in rw (ap (λ (w : Trial). w.loss) same, b) (ap Some (sym same))
+        go : (found : Option State) → trial_of N found ≡ None → last ≡ trial_of N (improved N current found or_else so_far)
+        go None f = q
+        go (Some u) f = absurd (cc)
 
-    pub other_tried : lt t.loss (sub binary64 current billionth) ≡ false → last ≡ trial_of N (last_some (improving N s current) (i + 1))
-    unfolding trial_of improved improves ◌or_else◌
-    other_tried b = more (go (seen_trial N s i) (sym e ∙ h))
-      where
-        go : (found : Option State) → trial_of N found ≡ Some t → last ≡ trial_of N (improved N current found or_else so_far)
-        go None f = absurd (cc)
-        go (Some u) f = let same : record { configuration = configuration_of u; loss = loss_in N u } ≡ t = cc in rw (ap (λ (w : Trial). w.loss) same, b) q
+    module _ {t : Trial} (h : tried ≡ Some t) where
+      pub better_tried : lt t.loss (sub binary64 current billionth) ≡ true → Some t ≡ trial_of N (last_some (improving N s current) (i + 1))
+      unfolding trial_of improved improves ◌or_else◌
+      better_tried b = more _ (rw sees) (go (trial N s i) (sym e ∙ h))
+        where
+          go : (found : Option State) → trial_of N found ≡ Some t → Some t ≡ trial_of N (improved N current found or_else so_far)
+          go None f = absurd (cc)
+          go (Some u) f = let same : record { configuration = configuration_of u; loss = loss_in N u } ≡ t = cc in rw (ap (λ (w : Trial). w.loss) same, b) (ap Some (sym same))
+
+      pub other_tried : lt t.loss (sub binary64 current billionth) ≡ false → last ≡ trial_of N (last_some (improving N s current) (i + 1))
+      unfolding trial_of improved improves ◌or_else◌
+      other_tried b = more _ (rw sees) (go (trial N s i) (sym e ∙ h))
+        where
+          go : (found : Option State) → trial_of N found ≡ Some t → last ≡ trial_of N (improved N current found or_else so_far)
+          go None f = absurd (cc)
+          go (Some u) f = let same : record { configuration = configuration_of u; loss = loss_in N u } ≡ t = cc in rw (ap (λ (w : Trial). w.loss) same, b) q
 
 -- what a round lends to its trials is of its network, its start and the state with which it began
 pub record InRound (r : Round) : Type 0 where

@@ -164,6 +164,7 @@ impl Round<'_> {
     fn first_swap(&self, live: &[bool; PowerNetwork::MAX_BRANCHES], path: &[u16]) -> Option<u16>
         ensures { result ≡ first_some (row_swap self.now.start.now.graph self.now.sections.now self.now.current.now.configuration.switches live.now) path.now }
     {
+        // No `find_map`: the library says of its answer no function of the list that it went over.
         for k in path {
             let found = self.swap_with(live, *k);
             if found.is_some() {
@@ -184,16 +185,14 @@ impl Round<'_> {
         self.first_swap(&closed, &path.branch[..usize::from(path.count)])
     }
 
-    // The trial of switch i, where the round sees it.
+    // The trial of switch i, a tie that the round sees.
     fn trial(&self, i: usize) -> Option<Trial>
-        requires { InRound self.now × (i < self.now.network.now.switch_count) }
-        ensures { let N = records_of self.now.network.now in let s = state_of self.now.network.now self.now.current.now.configuration in
-            result ≡ trial_of N (cond (seen N s i) (trial N s i) None) }
+        requires { InRound self.now × (i < self.now.network.now.switch_count)
+            × (seen (records_of self.now.network.now) (state_of self.now.network.now self.now.current.now.configuration) i ≡ true) }
+        ensures { let N = records_of self.now.network.now in
+            result ≡ trial_of N (trial N (state_of self.now.network.now self.now.current.now.configuration) i) }
     {
         let switch = self.network.switches[i];
-        if !is_seen(switch, self.current.configuration.switches[i]) {
-            return None;
-        }
         let on = usize::from(switch.branch_idx);
         let made_live = makes_live(self.network.branches[on].status, self.counts[on]);
         let section = usize::from(self.try_tie(switch.branch_idx, made_live)?);
@@ -232,9 +231,12 @@ fn branch_exchange_step(
     };
     let mut last = None;
     for i in 0..usize::from(network.switch_count) {
-        if let Some(trial) = round.trial(i) {
-            if improves(trial.loss, current.loss) {
-                last = Some(trial);
+        // Tested here: a call clears what it has room for, and most switches are no open ties.
+        if is_seen(network.switches[i], current.configuration.switches[i]) {
+            if let Some(trial) = round.trial(i) {
+                if improves(trial.loss, current.loss) {
+                    last = Some(trial);
+                }
             }
         }
     }
