@@ -54,7 +54,7 @@ fn count_differences(from: &[u8], to: &[u8]) -> usize
     from.iter().zip(to).filter(|(a, b)| a != b).count()
 }
 
-// The line of a switch, if it stands otherwise, and where the next line begins.
+// The line of a switch, if it stands otherwise, and where the next line begins. It is lent the whole slice, since the loop's invariant speaks of what stands in front too.
 fn write_change(out: &mut [u8], at: usize, switch: Switch, from: u8, to: u8) -> usize
     requires { at + length (line_of switch from to) ≤ length out.old }
     ensures { (out.new ≡ sets out.old at (line_of switch from to)) × (result ≡ at + length (line_of switch from to)) }

@@ -58,7 +58,8 @@ impl From<DropReason> for u8 {
     }
 }
 
-// The ids of switches of one branch that a pair moves, in list order: the first `count` of them, both where it is larger.
+// The ids of switches of one branch that a pair moves, in list order: the first `count` of them, both where it is larger. A count beside an array: there is no
+// heap, and a pair's ids are at most two.
 #[derive(Clone, Copy)]
 pub struct SwitchIds {
     pub count: u8,
@@ -84,7 +85,7 @@ struct IdDigits {
     number: u64,
 }
 
-// The byte of a field that says whether it is so.
+// The byte of a field that says whether it is so: by its name, since the answers that C gets are promised with it too.
 pub fn truth_byte(b: bool) -> u8
     ensures { result ≡ truth_byte b }
 {
@@ -101,7 +102,7 @@ fn write_losses(out: &mut [u8], base: u64, best: u64, reduction: u64)
     write_digits(&mut out[32..], 16, reduction);
 }
 
-// The frame 81: a search's answer. The losses and the reduction in percent are the bits of an f64.
+// The frame 81: a search's answer, by its fields in their order. The losses and the reduction in percent are the bits of an f64.
 pub fn write_answer(
     out: &mut [u8],
     radial: bool,

@@ -12,6 +12,7 @@ use printing::lengths::OPERATION_LENGTH;
 
 // The plan from the present state to the wanted one with so many of its single moves done: the moves that remain, and those that go back from there,
 // as 82 lines at the front of a slice each. `present` is the state in which the plan began. The answer is how many moves remain.
+// What is asked and the two slices are the call's own, one by one.
 pub fn resume(
     network: PowerNetwork,
     present: &[u8],

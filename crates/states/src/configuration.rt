@@ -15,7 +15,7 @@ use network::error::Refusal;
 use network::switch::Switch;
 use network::topology::PowerNetwork;
 
-// A state of the switches: a byte for each, in list order, and closed beyond the listed ones.
+// A state of the switches: a byte for each, in list order, and closed beyond the listed ones. Bytes, and no enum of the two: so states come in and go out.
 #[derive(Clone, Copy, Debug, PartialEq, Eq)]
 pub struct NetworkConfiguration {
     pub switches: [u8; NetworkConfiguration::MAX_SWITCHES],
@@ -129,7 +129,8 @@ pub fn live_branches(
     live_list(&network.branches[..branch_count], &opened)
 }
 
-// For each branch position how many of the switches on it are open in the state.
+// For each branch position how many of the switches on it are open in the state: counted, where `open_branches` notes whether there is one, and each is promised by a
+// definition of its own.
 pub fn open_counts(
     network: PowerNetwork,
     configuration: NetworkConfiguration,
