@@ -1,4 +1,5 @@
-// The calls on a frame text. A refusal of the text comes first, then those of the call itself.
+// The calls on a frame text. A refusal of the text comes first, then those of the call itself. Beside each call stands what it asks for, as a
+// Result that hands refusals on by `?`; the call makes numbers of it.
 ghost use Rattle.std.specs.Prelude.{◌≡◌};
 ghost use Rattle.network.specs.Answers.{accepted, answer_of, valued};
 ghost use Rattle.network.specs.Check.{check_records};
@@ -127,9 +128,7 @@ pub fn feeder_resume(
     ensures { record { answer = result; first = remaining.new; second = back.new }
         ≡ written_numbers_in_two (text_resume text.now present.now wanted.now count remaining.old back.old) }
 {
-    in_numbers(moves_left_of(
-        text, present, wanted, count, remaining, back,
-    ))
+    in_numbers(moves_left_of(text, present, wanted, count, remaining, back))
 }
 
 // The lines that the program `feeder` prints for the text: the value is how many bytes, and they stand at the front of the slice, which keeps what is behind
