@@ -1,5 +1,5 @@
 -- Laws that the code's earlier loops were proved by, one step after another. No proof needs them today; what they say of the definitions holds as before.
-use Rattle.std.specs.Prelude.{◌≡◌, refl, Bool, true, false, not, ◌&&◌, Some, None, List, ◌++◌, map, ℕ, ◌+◌, ◌*◌, ◌-◌, ◌<◌, ◌≤◌, min, length, get_or, take, drop, set, replicate}
+use Rattle.std.specs.Prelude.{◌≡◌, Result, Ok, Err, refl, Bool, true, false, not, ◌&&◌, Some, None, List, ◌++◌, map, ℕ, ◌+◌, ◌*◌, ◌-◌, ◌<◌, ◌≤◌, min, length, get_or, take, drop, set, replicate}
 use Rattle.std.proofs.Common.{sym, ap, ◌∙◌, arith, zero-add, add-zero, add-one, length-append, length-take, drop_of_length-le, take_all}
 use Rattle.std.proofs.Math.ListN.{length-map, get_or-eq_default}
 use mathlib.Core.List.{flat_map}
@@ -13,7 +13,8 @@ use Rattle.numbers.specs.TableLaws.{length_table, get_or_table, table_cong}
 use Rattle.network.specs.declared.bus.Bus.{Bus}
 use Rattle.network.specs.declared.branch.Branch.{Branch}
 use Rattle.network.specs.declared.topology.PowerNetwork.{PowerNetwork}
-use Rattle.network.specs.Answers.{accepted}
+use Rattle.network.specs.declared.error.Refusal.{Refusal}
+use Rattle.network.specs.Answers.{Answer, accepted}
 use Rattle.network.specs.Check.{check_records}
 use Rattle.network.specs.EachLaws.{each_at}
 use Rattle.network.specs.Faults.{bus_row, branch_row, bus_faults, branch_faults}
@@ -23,23 +24,33 @@ use Rattle.network.specs.Limits.{bus_id, ok_load, ok_r}
 use Rattle.network.specs.Lookups.{bus_index}
 use Rattle.network.specs.Records.{Network, no_bus, no_branch, listed, records_of}
 use Rattle.numbers.specs.Choose.{among}
-use Rattle.states.specs.Listed.{buses_listed, branches_listed, switches_listed, bus_at, branch_at}
+use Rattle.states.specs.Listed.{few_branches, few_switches, buses_listed, branches_listed, switches_listed, bus_at, branch_at}
 use Rattle.states.specs.Live.{open_on, live}
 use Rattle.states.specs.LiveLaws.{live_by}
 use Rattle.states.specs.Switches.{State, byte}
 use Rattle.slices.specs.Written.{written}
 use Rattle.slices.specs.WrittenLaws.{written_room}
 use Rattle.record_lines.specs.Kinds.{bus, branch, switch}
-use Rattle.frames.specs.Acceptable.{bus_fields, branch_fields, switch_fields}
+use Rattle.frames.specs.Acceptable.{text_of, bus_fields, branch_fields, switch_fields}
 use Rattle.frames.specs.Lengths.{line_length}
 use Rattle.frames.specs.RecordLaws.{no_nan}
 use Rattle.texts.specs.Lines.{IsNumber, bus_text, branch_text, switch_text}
 use Rattle.texts.specs.TextLaws.{kind_length}
 use Rattle.operations.specs.OperationValues.{differs}
-use Rattle.own_loops.specs.OwnLoops.{Dropped, dropped_branches, dropped_switches, dropped_lines}
+use Rattle.own_loops.specs.OwnLoopLaws.{value_without_lem}
+use Rattle.own_loops.specs.OwnLoops.{Dropped, without_own, dropped_branches, dropped_switches, dropped_lines}
 use Rattle.printing.specs.Lengths.{dropped_length}
 use Rattle.printing.specs.LineTexts.{lines_append, length_lines, length_dropped}
-use Rattle.repairs.specs.Repairs.{dropped_lines_text}
+use Rattle.repairs.specs.Repairs.{dropped_lines_text, repaired}
+use Rattle.repairs.specs.RepairValues.{Left}
+use Rattle.texts.specs.Texts.{written_text}
+use Rattle.printing.specs.Calls.{Call}
+use Rattle.printing.specs.CallLaws.{call_is}
+use Rattle.changes.specs.Change.{check_plan}
+use Rattle.plan.specs.declared.pairs.Pair.{Pair}
+use Rattle.plan.specs.MadePlans.{made_plan}
+use Rattle.plan.specs.Stored.{made_in}
+use Rattle.plan.specs.MadePlanLaws.{made_refused, made_accepted}
 use Rattle.exchange.specs.ExchangeValues.{sections_of}
 use Rattle.ids.specs.Ids.{bucket_of, id_array, rows, put_id, rows_from, rows_of, id_rows}
 
@@ -182,3 +193,28 @@ room_for_kinds N h = rw (both_kinds N) h
 
 pub branches_room : (N : Network) {room : ℕ} → length (dropped_lines_text (dropped_lines N)) ≤ room → length (dropped_lines_text (dropped_branches N)) ≤ room
 branches_room N h = omega (arith, room_for_kinds N h, length-append (dropped_lines_text (dropped_branches N)) (dropped_lines_text (dropped_switches N)))
+
+-- ---- a repaired text in two parts
+module _ (n left : PowerNetwork) (l : Left n left) where
+  left_records : records_of left ≡ without_own (records_of n)
+  left_records = ap records_of l.left_so ∙ value_without_lem n (few_branches n l.read) (few_switches n l.read)
+
+  pub in_two : text_of (records_of left) ++ dropped_lines_text (dropped_lines (records_of n)) ≡ repaired (records_of n)
+  unfolding repaired
+  in_two = rw left_records
+
+  pub room_for_both : {room : ℕ} → length (repaired (records_of n)) ≤ room → length (text_of (records_of left) ++ dropped_lines_text (dropped_lines (records_of n))) ≤ room
+  room_for_both h = rw in_two h
+
+  -- what `write_text` leaves in the slice
+  pub text_first : (out : List ℕ) → length (repaired (records_of n)) ≤ length out → {answer : Answer ℕ} {after : List ℕ}
+      → record { answer = answer; out = after } ≡ written_text (records_of left) out → after ≡ written (text_of (records_of left)) out
+  unfolding written_text
+  text_first out room e =
+      let long = length-append (text_of (records_of left)) (dropped_lines_text (dropped_lines (records_of n))) in
+      ap (λ (c : Call ℕ). c.out) (call_is _ (text_of (records_of left)) out l.good (omega (arith, room_for_both room)) e)
+
+-- ---- what making a plan answers
+pub made_answer : (N : Network) (present wanted : State) (m : Result (List Pair) Refusal) → made_in m ≡ made_plan N present wanted → (made_in m).answer ≡ check_plan N present wanted
+made_answer N present wanted (Ok pairs) e = sym (made_accepted N present wanted (Ok pairs) e refl)
+made_answer N present wanted (Err r) e = made_refused N present wanted (Err r) e refl
