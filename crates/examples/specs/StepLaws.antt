@@ -1,7 +1,7 @@
 -- Laws that the code's earlier loops were proved by, one step after another. No proof needs them today; what they say of the definitions holds as before.
 use Rattle.std.specs.Prelude.{◌≡◌, Result, Ok, Err, refl, Bool, true, false, not, ◌&&◌, Some, None, List, ◌++◌, map, ℕ, ◌+◌, ◌*◌, ◌-◌, ◌<◌, ◌≤◌, min, length, get_or, take, drop, set, replicate}
-use Rattle.std.proofs.Common.{sym, ap, ◌∙◌, arith, zero-add, add-zero, add-one, length-append, length-take, drop_of_length-le, take_all}
-use Rattle.std.proofs.Math.ListN.{length-map, get_or-eq_default}
+use Rattle.std.proofs.Common.{get_or-take, sym, ap, ◌∙◌, arith, zero-add, add-zero, add-one, length-append, length-take, drop_of_length-le, take_all}
+use Rattle.std.proofs.Math.ListN.{length-map, get_or-eq_default, get_or-map}
 use mathlib.Core.List.{flat_map}
 use borrow.Author.Tests.{lt-ltb, le-ltb, eq-eqb, ne_eqb}
 use Rattle.numbers.specs.Choose.{index_of}
@@ -84,6 +84,10 @@ found_at buses id i h e = rw (e, lt-ltb i (length buses) h)
 pub not_found : (buses : List Bus) (id i : ℕ) → length buses ≤ i → index_of id (map bus_id buses) ≡ i → None ≡ bus_index buses id
 unfolding bus_index
 not_found buses id i h e = rw (e, le-ltb i (length buses) h)
+
+-- the key at a position of the first n records
+pub key_at : {A : Type 0} (key : A → ℕ) (n : ℕ) (l : List A) (i : ℕ) (d : A) → i < n → get_or (map key (take n l)) i (key d) ≡ key (get_or l i d)
+key_at key n l i d h = get_or-map key (take n l) i d ∙ ap key (get_or-take n l i d h)
 
 -- ---- a record's faults, by what is read of it
 pub bus_faults_lem : (before : List Bus) (b read : Bus) (twice : Bool) → read ≡ b → twice ≡ among read.id (map bus_id before)
