@@ -14,7 +14,7 @@ use Rattle.network.specs.declared.bus.Bus.{Bus}
 use Rattle.network.specs.declared.branch.Branch.{Branch}
 use Rattle.network.specs.declared.topology.PowerNetwork.{PowerNetwork}
 use Rattle.network.specs.declared.error.Refusal.{Refusal}
-use Rattle.network.specs.Answers.{Answer, accepted}
+use Rattle.network.specs.Answers.{Answer, accepted, refused, judge}
 use Rattle.network.specs.Check.{check_records}
 use Rattle.network.specs.EachLaws.{each_at}
 use Rattle.network.specs.Faults.{bus_row, branch_row, bus_faults, branch_faults}
@@ -29,7 +29,15 @@ use Rattle.states.specs.Live.{open_on, live}
 use Rattle.states.specs.LiveLaws.{live_by}
 use Rattle.states.specs.Switches.{State, byte}
 use Rattle.slices.specs.Written.{written}
-use Rattle.slices.specs.WrittenLaws.{written_room}
+use Rattle.slices.specs.WrittenLaws.{length_written, written_append, written_room}
+use borrow.Rule.Slice.PartMut.{put_mid}
+use Rattle.std.proofs.Math.Decide.{dec_lt}
+use Rattle.graph.specs.declared.rows.Graph.{Graph}
+use Rattle.graph.specs.Rows.{row_radial}
+use Rattle.feeders.specs.Feeder.{radial_in}
+use Rattle.feeders.specs.FeederRows.{feeder_graph, live_flags}
+use Rattle.feeders.specs.FeederRowLaws.{flags_radial}
+use Rattle.feeders.specs.StateCalls.{check_radial}
 use Rattle.record_lines.specs.Kinds.{bus, branch, switch}
 use Rattle.frames.specs.Acceptable.{text_of, bus_fields, branch_fields, switch_fields}
 use Rattle.frames.specs.Lengths.{line_length}
@@ -222,3 +230,39 @@ module _ (n left : PowerNetwork) (l : Left n left) where
 pub made_answer : (N : Network) (present wanted : State) (m : Result (List Pair) Refusal) → made_in m ≡ made_plan N present wanted → (made_in m).answer ≡ check_plan N present wanted
 made_answer N present wanted (Ok pairs) e = sym (made_accepted N present wanted (Ok pairs) e refl)
 made_answer N present wanted (Err r) e = made_refused N present wanted (Err r) e refl
+
+-- ---- bytes b behind bytes a
+pub written_so : {a b after : List ℕ} (out : List ℕ) → after ≡ written a out → a ≡ b → after ≡ written b out
+written_so out w e = w ∙ ap (λ x. written x out) e
+
+module _ (a b out : List ℕ) (n : ℕ) (long : length a ≡ n) (room : length (a ++ b) ≤ length out) {l : List ℕ} (first : l ≡ written a out) where
+  kept : length l ≡ length out
+  kept = ap length first ∙ length_written a out
+
+  pub part_begins : n ≤ length l
+  part_begins = omega (arith, kept, length-append a b)
+
+  pub both_written : {part : List ℕ} → part ≡ written b (take (length l - n) (drop n l)) → put_mid n (length l - n) l part ≡ written (a ++ b) out
+  both_written next = written_append a b out n long (omega (arith, length-append a b)) first next
+
+-- ---- refusal 11, as the graph and the flags of a state show it
+module _ (n : PowerNetwork) (buses : length n.buses ≡ 256) (passed : check_records (records_of n) ≡ accepted tt) (s : State) (place : ℕ)
+    {graph : Graph} (g : graph ≡ feeder_graph n) {live : List Bool} (l : live ≡ live_flags (records_of n) s) {b : Bool} (e : b ≡ row_radial graph live) where
+  as_radial : radial_in (records_of n) s ≡ b
+  as_radial = sym (flags_radial n buses passed s graph live g l b e)
+
+  pub not_radial : b ≡ false → check_radial (records_of n) s place ≡ refused 11 place
+  unfolding check_radial judge
+  not_radial f = rw (as_radial, f)
+
+  pub is_radial : b ≡ true → check_radial (records_of n) s place ≡ accepted tt
+  unfolding check_radial judge
+  is_radial t = rw (as_radial, t)
+
+-- ---- beyond an array of sections there is none
+pub section_within : (sections : List ℕ) (k section : ℕ) → length sections ≡ 512 → section ≡ get_or sections k 512 → section < 512 → k < 512
+section_within sections k section long e l = go (dec_lt k 512)
+  where
+    go : Dec (k < 512) → k < 512
+    go (yes h) = h
+    go (no n) = absurd (omega (arith, get_or-eq_default sections 512 {n = k} (omega arith)))
