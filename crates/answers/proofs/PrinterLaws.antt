@@ -28,26 +28,18 @@ use Rattle.feeders.specs.StateCalls.{check_radial}
 use Rattle.changes.specs.Change.{check_plan}
 use Rattle.plan.specs.Plan.{plan, plan_text, planned, length_beside, planned_length}
 use Rattle.plan.specs.Length.{plan_fits}
-use Rattle.operations.specs.declared.operations.OperationsAnswer.{OperationsAnswer}
-use Rattle.operations.specs.declared.operations.OperationsAnswer.TheVariants as lists
 use Rattle.searches.specs.declared.answer.ReconfigResult.{ReconfigResult}
-use Rattle.searches.specs.declared.answer.SolveAnswer.TheVariants as solves
 use Rattle.states.specs.BaseLaws.{base_good}
 use Rattle.reconfiguration.specs.AnswersHavePlans.{best_good, solve_plan_accepted}
-use Rattle.searches.specs.Results.{Result, result_by, solved_by, result_of, solve_answer_of}
+use Rattle.searches.specs.Results.{Result, result_by, solved_by, result_of}
 use Rattle.reconfiguration.specs.Solve.{result, best, solved}
-use Rattle.operations.specs.Operations.{operations, operations_text, operations_call, operations_answer_of}
+use Rattle.operations.specs.Operations.{operations, operations_text, operations_call}
 use Rattle.operations.specs.OperationLines as Operations
 use Rattle.answers.specs.Printing.{result_lines, operation_lines, plan_lines, move_lines, network_text}
 use Rattle.answers.specs.PrintingValues.{HasBits}
 use Rattle.answers.specs.PrintingLaws.{length_result_lines, operations_short, base_bits, best_bits, reduction_bits}
 
 -- ---- accepted calls
--- the bytes of the lines that are answered
-abbrev pub operation_bytes : OperationsAnswer → ℕ
-operation_bytes (lists.Operations count) = operation_length * count
-operation_bytes (lists.Refused number place) = 0
-
 module _ (n : PowerNetwork) (ok : check_network (records_of n) ≡ accepted tt) (out : List ℕ) where
   abbrev N : Network
   N = records_of n
@@ -56,17 +48,18 @@ module _ (n : PowerNetwork) (ok : check_network (records_of n) ≡ accepted tt) 
   states_pass = (then_iff _ _).1 (ok, (then_iff _ _).1 ((state_accepted N (base_state N) 0).1 (base_good N), (state_accepted N (best N).state 1).1 (best_good N)))
 
   -- ---- the operations
-  pub operations_printed : operations_length ≤ length out → (a : OperationsAnswer) {after : List ℕ} {from to : List ℕ} → from ≡ base_state N → to ≡ (best N).state
-      → record { answer = operations_answer_of a; out = after } ≡ operations_call N from to out → (operation_bytes a ≡ length (operation_lines N)) × (after ≡ written (operation_lines N) out)
+  pub operations_printed : operations_length ≤ length out → {a : Answer ℕ} {after : List ℕ} {from to : List ℕ} → from ≡ base_state N → to ≡ (best N).state
+      → record { answer = a; out = after } ≡ operations_call N from to out → (a ≡ accepted (length (operations N (base_state N) (best N).state))) × (after ≡ written (operation_lines N) out)
   unfolding operation_lines operations_call
-  operations_printed room a {after} f t e =
+  operations_printed room f t e =
       let l = operations N (base_state N) (best N).state in
       let c = call_is (length l) (operations_text l) out states_pass (omega (arith, operations_short N (network_records N ok))) (rw (f, t) at e) in
-      (go a (ap (λ (x : Call ℕ). x.answer) c), ap (λ (x : Call ℕ). x.out) c)
-    where
-      go : (b : OperationsAnswer) → operations_answer_of b ≡ accepted (length (operations N (base_state N) (best N).state)) → operation_bytes b ≡ length (operation_lines N)
-      go (lists.Operations count) q = ap (λ (k : ℕ). operation_length * k) (same_value q) ∙ sym (Operations.length_text (operations N (base_state N) (best N).state))
-      go (lists.Refused number place) q = no_refusal q
+      (ap (λ (x : Call ℕ). x.answer) c, ap (λ (x : Call ℕ). x.out) c)
+
+  -- and how many bytes that are
+  pub operations_long : {count : ℕ} → count ≡ length (operations N (base_state N) (best N).state) → operation_length * count ≡ length (operation_lines N)
+  unfolding operation_lines
+  operations_long e = ap (λ (k : ℕ). operation_length * k) e ∙ sym (Operations.length_text (operations N (base_state N) (best N).state))
 
   -- ---- the plan
   not_planned : radial_in N (base_state N) ≡ false → check_plan N (base_state N) (best N).state ≡ refused 11 0
@@ -109,7 +102,7 @@ module _ (n : PowerNetwork) (ok : check_network (records_of n) ≡ accepted tt) 
   unfolding solved solved_by result
   solved_is e = call_is (result (records_of n)) (best (records_of n)).state space ok (omega (arith, few_switches n (network_records (records_of n) ok), switches_listed n, (best_good (records_of n)).long)) e
 
-  pub solved_result : {r : ReconfigResult} {after : List ℕ} → record { answer = solve_answer_of (solves.Solved r); out = after } ≡ solved (records_of n) space → result_of r ≡ result (records_of n)
+  pub solved_result : {r : ReconfigResult} {after : List ℕ} → record { answer = accepted (result_of r); out = after } ≡ solved (records_of n) space → result_of r ≡ result (records_of n)
   solved_result e = same_value (ap (λ (x : Call Result). x.answer) (solved_is e))
 
   pub solved_state : {a : Answer Result} {after : List ℕ} → record { answer = a; out = after } ≡ solved (records_of n) space → take n.switch_count after ≡ (best (records_of n)).state
@@ -117,7 +110,7 @@ module _ (n : PowerNetwork) (ok : check_network (records_of n) ≡ accepted tt) 
       let long : length (best (records_of n)).state ≡ n.switch_count = (best_good (records_of n)).long ∙ switches_listed n in
       take_written (best (records_of n)).state space long (omega (arith, few_switches n (network_records (records_of n) ok))) (ap (λ (x : Call Result). x.out) (solved_is e))
 
-  pub not_refused : {B : Type 0} {number place : ℕ} {after : List ℕ} → record { answer = solve_answer_of (solves.Refused number place); out = after } ≡ solved (records_of n) space → B
+  pub not_refused : {B : Type 0} {number place : ℕ} {after : List ℕ} → record { answer = refused number place; out = after } ≡ solved (records_of n) space → B
   not_refused e = no_refusal (ap (λ (x : Call Result). x.answer) (solved_is e))
 
 -- the bits of a result

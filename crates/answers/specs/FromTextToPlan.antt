@@ -1,11 +1,11 @@
 -- The main statement: from the bytes that come in to the pairs that are printed. Its words are defined in ReadBack (printed lines read back), Printing (`answered_text`, what
 -- `answer_text` promises), and in crate frames in Text (`read_text`), states in Live (`base_state`), reconfiguration in Solve (`best`), plan in Plan and Claim (`plan`,
 -- `SwitchingPlan`), graph in Graph and FormClaim (`Tree`, `FormMeaning`). `FromTextToPlanProof.from_text_to_plan` proves it.
-use Rattle.std.specs.Prelude.{◌≡◌, ◌↔◌, true, false, ℕ, ◌≤◌, ◌<◌, length, take, drop}
+use Rattle.std.specs.Prelude.{◌≡◌, ◌↔◌, true, false, ℕ, ◌≤◌, ◌<◌, length, take, drop, Ok}
 use mathlib.Core.List.{List, [], ◌∷◌, ◌++◌, map, Memᴰ}
 use Rattle.numbers.specs.Choose.{those}
 use Rattle.network.specs.Records.{Network}
-use Rattle.network.specs.Answers.{accepted}
+use Rattle.network.specs.Answers.{accepted, answer_of}
 use Rattle.states.specs.Live.{base_state, live}
 use Rattle.states.specs.Switches.{State, byte, size, switch}
 use Rattle.frames.specs.Text.{read_text}
@@ -22,8 +22,7 @@ use Rattle.plan.specs.Claim.{SwitchingPlan}
 use Rattle.reconfiguration.specs.Solve.{best, result}
 use Rattle.operations.specs.Operations.{operation_of, operations, operations_text}
 use Rattle.operations.specs.OperationValues.{differs}
-use Rattle.answers.specs.declared.printer.TextAnswer.TheVariants.{Printed}
-use Rattle.answers.specs.Printing.{result_lines, printed, answered_text, text_answer_of}
+use Rattle.answers.specs.Printing.{result_lines, printed, answered_text}
 use Rattle.answers.specs.ReadBack.{forms_in, operations_in, pairs_in}
 
 -- what is done to a switch by its bytes before and after, "00 (closed) or 01 (open)"
@@ -66,10 +65,10 @@ module _ (N : Network) where
 pub record MainStatement : Type 0 where
   -- for every text and every lent slice: where `answer_text` answers that n bytes are written, and `after` is the slice then, the text has records, the first n bytes
   -- of the slice say all this of them, and the bytes behind are as they were
-  pub call : (text out after : List ℕ) (n : ℕ) → record { answer = text_answer_of (Printed n); out = after } ≡ answered_text text out
+  pub call : (text out after : List ℕ) (n : ℕ) → record { answer = answer_of (Ok n); out = after } ≡ answered_text text out
       → (N : Network) × (read_text text ≡ accepted N) × FromTextToPlan N (take n after) × (drop n after ≡ drop n out)
   -- and it answers so for every text that has records, wherever `printed_length` bytes are lent
   pub answers : (text out : List ℕ) (N : Network) → read_text text ≡ accepted N → printed_length ≤ length out
-      → (n : ℕ) × (after : List ℕ) × (record { answer = text_answer_of (Printed n); out = after } ≡ answered_text text out)
+      → (n : ℕ) × (after : List ℕ) × (record { answer = answer_of (Ok n); out = after } ≡ answered_text text out)
   -- the bytes of `printed`, which `feeder`'s print_text promises, say it too
   pub program : (text : List ℕ) (N : Network) → read_text text ≡ accepted N → FromTextToPlan N (printed text)

@@ -1,7 +1,7 @@
 -- The main statement, proved: what the call writes is what is printed for the text (`text_printed`), and that is the text of its records (`network_printed`); its lines are
 -- those of the result, of the operations and of the pairs (`network_lines`); each kind is read back as it was written, for the ids of a text's records have four digits
 -- (`switch_short`) and a pair has at most two of a branch (`few_open`).
-use Rattle.std.specs.Prelude.{◌≡◌, ◌≢◌, Bool, not, ℕ, zero, suc, ◌≤◌, ◌<◌, eqb, length, take, drop}
+use Rattle.std.specs.Prelude.{◌≡◌, ◌≢◌, Bool, not, ℕ, zero, suc, ◌≤◌, ◌<◌, eqb, length, take, drop, Ok}
 use Rattle.std.proofs.Math.Path.{refl, sym, ap, ap₂, subst}
 use Rattle.std.proofs.Common.{◌∙◌, arith, lit<, eq-eqb}
 use Rattle.std.proofs.Math.Bool.{true, false, cond}
@@ -16,7 +16,7 @@ use Rattle.numbers.specs.Choose.{those}
 use Rattle.numbers.specs.ChooseLaws.{in_those, of_those, those_long}
 use Rattle.numbers.specs.Tests.{clash}
 use Rattle.network.specs.Records.{Network, no_switch}
-use Rattle.network.specs.Answers.{Answer, accepted, refused}
+use Rattle.network.specs.Answers.{Answer, accepted, refused, answer_of}
 use Rattle.network.specs.AnswerLaws.{no_refusal}
 use Rattle.network.specs.Inside.{Each}
 use Rattle.network.specs.InsideLaws.{check_inside}
@@ -50,8 +50,7 @@ use Rattle.reconfiguration.specs.AnswersHavePlans.{best_good, solve_has_plan}
 use Rattle.operations.specs.Operations.{operation_to, operation_of, operations, operations_text}
 use Rattle.operations.specs.OperationValues.{differs}
 use Rattle.operations.specs.OperationLines.{by_position}
-use Rattle.answers.specs.declared.printer.TextAnswer.TheVariants.{Printed}
-use Rattle.answers.specs.Printing.{result_text, result_lines, operation_lines, plan_lines, move_lines, network_text, printed_of, printed, answered_text, text_answer_of}
+use Rattle.answers.specs.Printing.{result_text, result_lines, operation_lines, plan_lines, move_lines, network_text, printed_of, printed, answered_text}
 use Rattle.answers.specs.ReadBack.{of_kind, read_form, forms_in, read_operation, operations_in, read_pair, pairs_in}
 use Rattle.answers.specs.ReadBackLaws.{own_kind, other_kind, answer_kind, form_kind, operation_kind, form_kept, operation_kept, pair_line, pair_kind, cut_pair, Named, pair_kept}
 use Rattle.answers.specs.Full.{always_printed}
@@ -62,12 +61,12 @@ network_printed : (text : List ℕ) (N : Network) → read_text text ≡ accepte
 unfolding printed
 network_printed text N r = ap printed_of r
 
-text_printed : (text out after : List ℕ) (n : ℕ) → record { answer = text_answer_of (Printed n); out = after } ≡ answered_text text out → take n after ≡ printed text
+text_printed : (text out after : List ℕ) (n : ℕ) → record { answer = answer_of (Ok n); out = after } ≡ answered_text text out → take n after ≡ printed text
 unfolding answered_text
 text_printed text out after n e = let c = call_answered _ (length (printed text)) (printed text) out e in rw (c.1, c.2) (take-append_seam (printed text) _)
 
 -- a text that is not refused has records
-text_has_records : (text out after : List ℕ) (n : ℕ) → record { answer = text_answer_of (Printed n); out = after } ≡ answered_text text out → (N : Network) × (read_text text ≡ accepted N)
+text_has_records : (text out after : List ℕ) (n : ℕ) → record { answer = answer_of (Ok n); out = after } ≡ answered_text text out → (N : Network) × (read_text text ≡ accepted N)
 unfolding answered_text judgement_of
 text_has_records text out after n e = go (read_text text) refl (call_answered _ _ (printed text) out e).0
   where
@@ -255,7 +254,7 @@ text_read : (text : List ℕ) (N : Network) → read_text text ≡ accepted N �
 text_read text N r = subst (FromTextToPlan N) (sym (network_printed text N r)) (network_read N ((claim.accepted_texts text N).0 r).writable (passed text N r))
 
 -- what lies behind the bytes that are written stays
-text_kept : (text out after : List ℕ) (n : ℕ) → record { answer = text_answer_of (Printed n); out = after } ≡ answered_text text out → drop n after ≡ drop n out
+text_kept : (text out after : List ℕ) (n : ℕ) → record { answer = answer_of (Ok n); out = after } ≡ answered_text text out → drop n after ≡ drop n out
 unfolding answered_text
 text_kept text out after n e = let c = call_answered _ (length (printed text)) (printed text) out e in rw (c.1, c.2) (drop-append_seam (printed text) _)
 

@@ -15,8 +15,6 @@ use Rattle.plan.specs.Plan.{plan, plan_text}
 use Rattle.searches.specs.Results.{Result}
 use Rattle.reconfiguration.specs.Solve.{result, best}
 use Rattle.operations.specs.Operations.{operations, operations_text}
-use Rattle.answers.specs.declared.printer.TextAnswer.{TextAnswer}
-use Rattle.answers.specs.declared.printer.TextAnswer.TheVariants.{Printed, Refused}
 
 -- "81: radial byte of the best state, base loss, best loss, reduction percent, iterations (u16), converged"
 unfoldable pub result_text : Result → List ℕ
@@ -63,8 +61,3 @@ printed_answer (refused number place) out = refusal_text number place
 -- what `feeder` prints of the call's answer; with room for every answer it is `printed text` (`PrintingLaws.printed_by_call`)
 abbrev pub printed_by : Call ℕ → List ℕ
 printed_by c = printed_answer c.answer c.out
-
--- document 01's values for each case of the code's answer
-abbrev pub text_answer_of : TextAnswer → Answer ℕ
-text_answer_of (Printed count) = accepted count
-text_answer_of (Refused number place) = refused number place

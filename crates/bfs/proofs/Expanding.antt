@@ -5,8 +5,11 @@ use mathlib.Core.List.{List, [], ◌∷◌}
 use Prim.Native.Nat.{ℕ, ◌+◌, ◌/◌, ◌<◌, ◌≤◌}
 use lib.ListN.{get_or}
 use Rattle.graph.specs.Walk.{Visit, enter_all}
-use Rattle.graph.specs.Rows.{row_from, leads}
-use Rattle.graph.specs.Walking.{Walking, enter_live}
+use Rattle.graph.specs.declared.rows.Graph.{Graph}
+use Rattle.graph.specs.Rows.{row_from, leads, row_leads, row_neighbours}
+use Rattle.graph.specs.Walking.{enter_live}
+use Rattle.bfs.specs.declared.walk.Reached.{Reached}
+use Rattle.bfs.specs.Reaches.{Reaches}
 use Rattle.bfs.proofs.Along.{along, Along, one_along}
 use Rattle.bfs.proofs.Along as Along
 
@@ -26,24 +29,28 @@ module _ (far : List ℕ) (live : List Bool) (barred : ℕ) where
       go true = refl
       go false = refl
 
-  module _ (next : List ℕ) (first : ℕ) (seen₀ : List Bool) (bus₀ by₀ : List ℕ) (n₀ : ℕ) where
-    pub record Expanding (seen : List Bool) (bus by : List ℕ) (n h i : ℕ) : Type 0 where
-      pub loop : Along enter_half next first (λ o. Walking barred o seen₀ bus₀ by₀ n₀) (λ o. Walking barred o seen bus by n) h i
+module _ (g : Graph) (live : List Bool) (u barred : ℕ) (r₀ : Reached) where
+  abbrev row : List ℕ
+  row = row_from g.next 1024 (get_or g.first u 0)
 
-    pub none_expanded : Expanding seen₀ bus₀ by₀ n₀ first 0
-    none_expanded = record { loop = Along.none_along enter_half next first (λ o. Walking barred o seen₀ bus₀ by₀ n₀) }
+  -- as many half-branches of bus u's row as i are entered, and the rest of the row begins with h
+  pub record Expanding (r : Reached) (h i : ℕ) : Type 0 where
+    pub loop : Along (enter_half g.far live barred) g.next (get_or g.first u 0) (λ o. Reaches barred o r₀) (λ o. Reaches barred o r) h i
 
-    module _ {seen : List Bool} {bus by : List ℕ} {n h i : ℕ} (e : Expanding seen bus by n h i) where
-      pub one_expanded : {seen' : List Bool} {bus' by' : List ℕ} {n' : ℕ} (half at : ℕ) → i < 1024 → h < 1024 → half ≡ h → at ≡ h / 2
-          → ((o : List Visit) → Walking barred o seen bus by n → Walking barred (enter_live (get_or live at false) barred o (record { bus = get_or far half 0; by = h / 2 })) seen' bus' by' n')
-          → Expanding seen' bus' by' n' (get_or next half 0) (i + 1)
-      one_expanded {seen'} {bus'} {by'} {n'} half at li lh p q step =
-          record { loop = rw p (one_along enter_half next first _ e.loop (λ o. Walking barred o seen' bus' by' n') li lh (rw (p, q) at step)) }
+  pub none_expanded : Expanding r₀ (get_or g.first u 0) 0
+  none_expanded = record { loop = Along.none_along (enter_half g.far live barred) g.next (get_or g.first u 0) (λ o. Reaches barred o r₀) }
 
-      pub row_ended : 1024 ≤ h → (o : List Visit) → Walking barred o seen₀ bus₀ by₀ n₀
-          → Walking barred (enter_all barred o (leads far live (row_from next 1024 first))) seen bus by n
-      row_ended l o w = rw (← all_entered (row_from next 1024 first) o) (Along.row_ended enter_half next first _ e.loop l o w)
+  module _ {r : Reached} {h i : ℕ} (e : Expanding r h i) where
+    pub one_expanded : {r' : Reached} (half at : ℕ) → i < 1024 → h < 1024 → half ≡ h → at ≡ h / 2
+        → ((o : List Visit) → Reaches barred o r → Reaches barred (enter_live (get_or live at false) barred o (record { bus = get_or g.far half 0; by = h / 2 })) r')
+        → Expanding r' (get_or g.next half 0) (i + 1)
+    one_expanded {r'} half at li lh p q step =
+        record { loop = rw p (one_along (enter_half g.far live barred) g.next (get_or g.first u 0) _ e.loop (λ o. Reaches barred o r') li lh (rw (p, q) at step)) }
 
-      pub row_cut : 1024 ≤ i → (o : List Visit) → Walking barred o seen₀ bus₀ by₀ n₀
-          → Walking barred (enter_all barred o (leads far live (row_from next 1024 first))) seen bus by n
-      row_cut l o w = rw (← all_entered (row_from next 1024 first) o) (Along.row_cut enter_half next first _ e.loop l o w)
+    pub row_ended : 1024 ≤ h → (o : List Visit) → Reaches barred o r₀ → Reaches barred (enter_all barred o (row_neighbours g live u)) r
+    unfolding row_leads
+    row_ended l o w = rw (← all_entered g.far live barred row o) (Along.row_ended (enter_half g.far live barred) g.next (get_or g.first u 0) _ e.loop l o w)
+
+    pub row_cut : 1024 ≤ i → (o : List Visit) → Reaches barred o r₀ → Reaches barred (enter_all barred o (row_neighbours g live u)) r
+    unfolding row_leads
+    row_cut l o w = rw (← all_entered g.far live barred row o) (Along.row_cut (enter_half g.far live barred) g.next (get_or g.first u 0) _ e.loop l o w)

@@ -6,22 +6,13 @@ ghost use Rattle.graph.specs.Rows.{flag, row_radial};
 
 use crate::walk::walk;
 use graph::rows::Graph;
-use numbers::{at_most, wide16};
 
 // How many branches are live.
-fn live_count(live: [bool; Graph::MAX_BRANCHES], branch_count: u16) -> u16
-    ensures { result ≡ count (flag live) branch_count }
+fn live_count(live: &[bool; Graph::MAX_BRANCHES], branch_count: u16) -> u16
+    ensures { result ≡ count (flag live.now) branch_count }
 {
-    let n = at_most(wide16(branch_count), Graph::MAX_BRANCHES);
-    let mut total = 0u16;
-    let mut k = 0usize;
-    while k < n {
-        if live[k] {
-            total += 1;
-        }
-        k += 1;
-    }
-    total
+    let n = usize::from(branch_count).min(Graph::MAX_BRANCHES);
+    live[..n].iter().map(|is_live| u16::from(*is_live)).sum()
 }
 
 // True for zero buses; else one live branch less than buses, and all buses reached.
@@ -32,7 +23,7 @@ pub fn is_radial(graph: Graph, live: [bool; Graph::MAX_BRANCHES]) -> bool
     if n == 0 {
         return true;
     }
-    if live_count(live, graph.branch_count) != n - 1 {
+    if live_count(&live, graph.branch_count) != n - 1 {
         return false;
     }
     walk(graph, live, 0).count == n

@@ -5,6 +5,17 @@
 mod calls;
 mod output;
 
-fn main(rt: HostRuntime) {
-    calls::print_input(&rt);
+use cases::{Cases, filled};
+use input::read_available;
+use std::io;
+
+fn main(rt: HostRuntime) -> io::Result<()> {
+    // Room for all cases.
+    let mut room = filled::<393_216>(0);
+    let n = read_available(&mut rt.stdin(), &mut room);
+    for case in Cases::of(&room[..n], 3) {
+        rt.write_all(case.name)?;
+        calls::print_call(&rt, case)?;
+    }
+    Ok(())
 }

@@ -1,1 +1,4 @@
 pub mod Cases
+pub mod Lent
+pub mod LentLaws
+pub mod Faults

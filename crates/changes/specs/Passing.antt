@@ -1,8 +1,7 @@
 -- What the checks leave for the code behind them: the flags of live branches, a byte for each switch, and with a change accepted its graph and its flags.
-use Rattle.std.specs.Prelude.{◌≡◌, refl, Bool, ℕ, ◌≤◌, length}
+use Rattle.std.specs.Prelude.{◌≡◌, refl, Ok, Bool, ℕ, ◌≤◌, length}
 use Rattle.std.proofs.Math.Path.{ap}
 use Rattle.std.proofs.Common.{◌∙◌}
-use Rattle.network.specs.declared.error.Verdict.TheVariants.{Accepted}
 use Rattle.network.specs.declared.topology.PowerNetwork.{PowerNetwork}
 use Rattle.network.specs.Records.{records_of}
 use Rattle.network.specs.Answers.{accepted, answer_of}
@@ -26,6 +25,12 @@ pub record Checked (n : PowerNetwork) (present wanted : State) : Type 0 where
   pub network : check_records (records_of n) ≡ accepted tt
   pub present_good : check_state (records_of n) present 0 ≡ accepted tt
   pub wanted_good : check_state (records_of n) wanted 1 ≡ accepted tt
+
+-- the change's graph and its flags are those of the network and the states
+pub record Made (n : PowerNetwork) (present wanted : State) (change : Change) : Type 0 where
+  pub graph : change.graph ≡ feeder_graph n
+  pub present_live : change.present_live ≡ flags_in n present
+  pub wanted_live : change.wanted_live ≡ flags_in n wanted
 
 -- the change is accepted, and its graph and its flags are those of the network and the states
 pub record Passed (n : PowerNetwork) (change : Change) (present wanted : State) : Type 0 where
@@ -58,6 +63,11 @@ module _ (n : PowerNetwork) where
       few_switches n g.network,
     )
 
+    -- the flags are those of the two states
+    pub made_flags : Checked n present wanted → {change : Change} → Made n present wanted change
+        → (change.present_live ≡ live_flags (records_of n) present) × (change.wanted_live ≡ live_flags (records_of n) wanted)
+    made_flags g made = (made.present_live ∙ flags_so g.network present 0 g.present_good, made.wanted_live ∙ flags_so g.network wanted 1 g.wanted_good)
+
     accepted_checked : check_plan (records_of n) present wanted ≡ accepted tt → Checked n present wanted
     unfolding check_plan
     accepted_checked ok =
@@ -65,14 +75,10 @@ module _ (n : PowerNetwork) where
         let (p, e₂) = (then_iff _ _).0 e₁ in
         record { network = network_records (records_of n) r; present_good = p; wanted_good = ((then_iff _ _).0 e₂).0 }
 
-    pub accepted_passed : {change : Change} → change.verdict ≡ Accepted → judged_in change ≡ judged n present wanted → Passed n change present wanted
+    pub accepted_passed : {change : Change} {u : Unit {0}} → change.verdict ≡ Ok u → judged_in change ≡ judged n present wanted → Passed n change present wanted
     unfolding judged
     accepted_passed {change} v e =
         let ok = accepted_so v (verdict_so present wanted change e) in
-        let given = accepted_checked ok in
-        record {
-          ok = ok;
-          graph = ap (λ (j : Judged). j.graph) e;
-          present_live = ap (λ (j : Judged). j.present_live) e ∙ flags_so given.network present 0 given.present_good;
-          wanted_live = ap (λ (j : Judged). j.wanted_live) e ∙ flags_so given.network wanted 1 given.wanted_good;
-        }
+        let made : Made n present wanted change = record { graph = ap (λ (j : Judged). j.graph) e; present_live = ap (λ (j : Judged). j.present_live) e; wanted_live = ap (λ (j : Judged). j.wanted_live) e } in
+        let flags = made_flags (accepted_checked ok) made in
+        record { ok = ok; graph = made.graph; present_live = flags.0; wanted_live = flags.1 }

@@ -16,15 +16,15 @@ use Rattle.printing.specs.CallLaws.{call_short, call_done}
 use Rattle.searches.specs.StateLaws.{base_long, base_held}
 use Rattle.controller.specs.Calls.{base_call}
 
-module _ (n : PowerNetwork) (ok : check_records (records_of n) ≡ accepted tt) (out : List ℕ) {count : ℕ} (counted : count ≡ n.switch_count) where
-  pub base_short : length out < count → record { answer = refused 13 0; out = out } ≡ base_call (records_of n) out
+module _ (n : PowerNetwork) (ok : check_records (records_of n) ≡ accepted tt) (out : List ℕ) where
+  pub base_short : length out < n.switch_count → record { answer = refused 13 0; out = out } ≡ base_call (records_of n) out
   unfolding base_call
-  base_short h = call_short _ (base_state (records_of n)) out refl (base_long n ∙ sym counted) h
+  base_short h = call_short _ (base_state (records_of n)) out refl (base_long n) h
 
-  pub base_done : count ≤ length out
-      → {base : NetworkConfiguration} → base ≡ configuration_of (base_state (records_of n)) → {after : List ℕ} → after ≡ written (take count base.switches) out
-      → record { answer = accepted count; out = after } ≡ base_call (records_of n) out
+  pub base_done : n.switch_count ≤ length out
+      → {base : NetworkConfiguration} → base ≡ configuration_of (base_state (records_of n)) → {after : List ℕ} → after ≡ written (take n.switch_count base.switches) out
+      → record { answer = accepted n.switch_count; out = after } ≡ base_call (records_of n) out
   unfolding base_call
   base_done room b {after} w =
-      ap (λ k. record { answer = accepted k; out = after }) (counted ∙ sym (switches_listed n))
-      ∙ call_done _ (base_state (records_of n)) out refl (base_long n ∙ sym counted) room (rw (w, counted, base_held n ok b))
+      ap (λ k. record { answer = accepted k; out = after }) (sym (switches_listed n))
+      ∙ call_done _ (base_state (records_of n)) out refl (base_long n) room (rw (w, base_held n ok b))

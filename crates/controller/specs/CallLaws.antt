@@ -1,8 +1,9 @@
 -- The calls on records give those on texts: what the reader and a call answered, put together.
-use Rattle.std.specs.Prelude.{◌≡◌, refl, not, List, ℕ, T, Float}
+use Rattle.std.specs.Prelude.{◌≡◌, refl, not, List, ℕ, T, Float, Result, Ok, Err, MatchResult}
 use Rattle.std.proofs.Common.{sym, ap, subst, ◌∙◌}
 use Rattle.std.specs.Float.Ieee.{is_nan}
-use Rattle.network.specs.Answers.{Answer, accepted, refused, ◌and_then◌, Judgement}
+use Rattle.network.specs.declared.error.Refusal.{Refusal}
+use Rattle.network.specs.Answers.{Answer, accepted, refused, answer_of, valued, number_of, place_of, ◌and_then◌, Judgement}
 use Rattle.network.specs.Records.{Network}
 use Rattle.printing.specs.Calls.{Call, TwoSlices}
 use Rattle.printing.specs.Printed.{truth_byte}
@@ -16,8 +17,11 @@ use Rattle.feeders.specs.Supply.{check_network}
 use Rattle.feeders.specs.SupplyLaws.{network_records}
 use Rattle.losses.specs.Accepted.{loss_finite}
 use Rattle.losses.specs.LossCall.{loss_call}
+use Rattle.searches.specs.declared.answer.ReconfigResult.{ReconfigResult}
+use Rattle.searches.specs.Results.{result_of}
 use Rattle.controller.specs.declared.answer.CallAnswer.{CallAnswer}
-use Rattle.controller.specs.Calls.{numbered, radial_byte, numbers_of, on_records, on_text, on_text_in_two, written_as, written_numbers_in_two}
+use Rattle.controller.specs.declared.answer.SolvedAnswer.{SolvedAnswer}
+use Rattle.controller.specs.Calls.{radial_byte, numbers_of, solved_numbers, on_records, on_text, on_text_in_two, written_as, written_numbers_in_two}
 
 -- ---- a loss has bits
 abbrev pub NoNan : Answer Float → Type 0
@@ -34,25 +38,27 @@ unfolding loss_call
 loss_no_nan N s x e = subst NoNan (sym e) (no_nan_behind _ _ λ ok. no_nan_behind _ _ λ _. no_nan_behind _ _ λ _. (loss_finite N (network_records N ok) s).2)
 
 -- ---- radial is a reading of the form
-behind_both : (c d : Judgement) (f : Form) → numbered radial_byte (c and_then d and_then accepted f) ≡ numbered truth_byte (c and_then d and_then accepted (is_tree f))
-unfolding numbered ◌and_then◌
+behind_both : (c d : Judgement) (f : Form) → valued radial_byte (c and_then d and_then accepted f) ≡ valued truth_byte (c and_then d and_then accepted (is_tree f))
+unfolding ◌and_then◌
 behind_both (accepted t) (accepted u) f = refl
 behind_both (accepted t) (refused n p) f = refl
 behind_both (refused n p) d f = refl
 
-pub radial_or_not : (N : Network) (s : List ℕ) → numbered radial_byte (on_state N s (form_in N s)) ≡ numbered truth_byte (on_state N s (radial_in N s))
-unfolding radial_in
-radial_or_not N s = behind_both (check_network N) (check_state N s 0) (form_in N s)
+pub radial_or_not : (a : Answer Network) (s : List ℕ)
+    → valued radial_byte (on_records a (λ N. on_state N s (form_in N s))) ≡ valued truth_byte (on_records a (λ N. on_state N s (radial_in N s)))
+unfolding on_records radial_in
+radial_or_not (accepted N) s = behind_both (check_network N) (check_state N s 0) (form_in N s)
+radial_or_not (refused n p) s = refl
 
 -- ---- a call on a text: the text is refused, or its records are answered
-module _ {A : Type 0} (f : A → ℕ) (t : List ℕ) (call : Network → Answer A) where
-  pub reading_refused : {n p : ℕ} → read_text t ≡ refused n p → refused n p ≡ numbered f (on_records (read_text t) call)
-  unfolding numbered on_records
+module _ {A : Type 0} (t : List ℕ) (call : Network → Answer A) where
+  pub reading_refused : {n p : ℕ} → read_text t ≡ refused n p → refused n p ≡ on_records (read_text t) call
+  unfolding on_records
   reading_refused so = rw so
 
-  pub reading_answered : {N : Network} → read_text t ≡ accepted N → {x : Answer A} → x ≡ call N → numbered f x ≡ numbered f (on_records (read_text t) call)
+  pub reading_answered : {N : Network} → read_text t ≡ accepted N → {x : Answer A} → x ≡ call N → x ≡ on_records (read_text t) call
   unfolding on_records
-  reading_answered so h = rw (h, so)
+  reading_answered so h = rw so h
 
 -- ---- the same, with a slice
 module _ {A : Type 0} (t : List ℕ) (call : Network → List ℕ → Call A) (out : List ℕ) where
@@ -64,7 +70,17 @@ module _ {A : Type 0} (t : List ℕ) (call : Network → List ℕ → Call A) (o
   unfolding on_text
   text_called so h = rw so h
 
--- the answer's numbers beside what the slice holds
+-- ---- the numbers of what a call answered
+pub call_numbers : (a : Result ℕ Refusal) {b : CallAnswer} → MatchResult a (λ v. b ≡ numbers_of (accepted v)) (λ r. b ≡ numbers_of (refused (number_of r) (place_of r))) → b ≡ numbers_of (answer_of a)
+call_numbers (Ok v) h = h
+call_numbers (Err r) h = h
+
+pub search_numbers : (a : Result ReconfigResult Refusal) {b : SolvedAnswer}
+    → MatchResult a (λ v. b ≡ solved_numbers (accepted (result_of v))) (λ r. b ≡ solved_numbers (refused (number_of r) (place_of r))) → b ≡ solved_numbers (valued result_of (answer_of a))
+search_numbers (Ok v) h = h
+search_numbers (Err r) h = h
+
+-- beside what the slice holds what the slice holds
 pub numbers_beside : {A B : Type 0} (inNumbers : Answer A → B) {b : B} {x : Answer A} {held : List ℕ} {p : Call A} → b ≡ inNumbers x → record { answer = x; out = held } ≡ p
     → record { answer = b; out = held } ≡ written_as inNumbers p
 numbers_beside inNumbers {held = held} q h = ap (λ y. record { answer = y; out = held }) q ∙ ap (written_as inNumbers) h

@@ -3,7 +3,7 @@ use Rattle.std.specs.Prelude.{List, ℕ}
 use Rattle.std.specs.Float.{binary64}
 use Rattle.std.specs.Float.Ieee.{to_bits}
 use Rattle.numbers.specs.Constants.{zero64}
-use Rattle.network.specs.Answers.{Answer, accepted, refused}
+use Rattle.network.specs.Answers.{Answer, accepted, refused, valued}
 use Rattle.states.specs.Live.{base_state}
 use Rattle.states.specs.Switches.{size}
 use Rattle.network.specs.Records.{Network}
@@ -22,11 +22,6 @@ use Rattle.reconfiguration.specs.Solve.{solved}
 use Rattle.operations.specs.Operations.{operations_call}
 use Rattle.controller.specs.declared.answer.CallAnswer.{CallAnswer}
 use Rattle.controller.specs.declared.answer.SolvedAnswer.{SolvedAnswer}
-
--- what was asked for, as a number; a refusal stays
-unfoldable pub numbered : {A : Type 0} → (A → ℕ) → Answer A → Answer ℕ
-numbered f (accepted a) = accepted (f a)
-numbered f (refused n p) = refused n p
 
 -- 1 for a tree, 0 for anything else
 abbrev pub radial_byte : Form → ℕ
@@ -71,15 +66,15 @@ on_records (refused number place) call = refused number place
 
 -- 1 where the state is radial, else 0, after refusal 10
 unfoldable pub text_radiality : List ℕ → List ℕ → Answer ℕ
-text_radiality text state = numbered truth_byte (on_records (read_text text) (λ N. on_state N state (radial_in N state)))
+text_radiality text state = valued truth_byte (on_records (read_text text) (λ N. on_state N state (radial_in N state)))
 
 -- what the live branches of the state are, the fields of the frame 84 as one number: "islands u16, then branch u16 or FFFF"; after refusal 10
 unfoldable pub text_form : List ℕ → List ℕ → Answer ℕ
-text_form text state = numbered form_number (on_records (read_text text) (λ N. on_state N state (form_in N state)))
+text_form text state = valued form_number (on_records (read_text text) (λ N. on_state N state (form_in N state)))
 
 -- the bits of the loss in MW, after refusal 10 and, where the text names a supply, 11
 unfoldable pub text_loss : List ℕ → List ℕ → Answer ℕ
-text_loss text state = numbered (to_bits binary64) (on_records (read_text text) (λ N. loss_call N state))
+text_loss text state = valued (to_bits binary64) (on_records (read_text text) (λ N. loss_call N state))
 
 -- ---- a call that writes: what it answers, and what the lent slice holds then
 pub record CallWritten (A : Type 0) : Type 0 where

@@ -33,7 +33,7 @@ use Rattle.answers.specs.Full.{form_in_full, radiality_in_full, loss_in_full, so
 use Rattle.texts.specs.Proof as writer
 use Rattle.record_bytes.specs.RecordBytes.{written_records, bytes_of_records}
 use Rattle.record_bytes.specs.RecordBytesLaws.{records_alike}
-use Rattle.controller.specs.Calls.{numbered, on_records, text_radiality, text_form, text_loss, on_text, text_plan, text_operations, text_solved, base_call, text_base, on_text_in_two, text_resume}
+use Rattle.controller.specs.Calls.{on_records, text_radiality, text_form, text_loss, on_text, text_plan, text_operations, text_solved, base_call, text_base, on_text_in_two, text_resume}
 
 module _ (t : List ℕ) (N : Network) (a : Acceptable t N) where
   has_records : read_text t ≡ accepted N
@@ -41,17 +41,17 @@ module _ (t : List ℕ) (N : Network) (a : Acceptable t N) where
 
   -- `feeder_radiality`, of any state
   pub text_radiality_in_full : (s : State) → GoodState N s → text_radiality t s ≡ accepted (truth_byte (radial_in N s))
-  unfolding text_radiality on_records numbered
+  unfolding text_radiality on_records
   text_radiality_in_full s good = rw (has_records, radiality_in_full N a.inside a.proper a.supplied s good)
 
   -- `feeder_form`, of any state
   pub text_form_in_full : (s : State) → GoodState N s → text_form t s ≡ accepted (form_number (form_in N s))
-  unfolding text_form on_records numbered
+  unfolding text_form on_records
   text_form_in_full s good = rw (has_records, form_in_full N a.inside a.proper a.supplied s good)
 
   -- `feeder_loss`, of any state, radial or not; where the text names a supply, of any radial one
   pub text_loss_in_full : (s : State) → GoodState N s → Fed N s → text_loss t s ≡ accepted (to_bits binary64 (loss_in N s))
-  unfolding text_loss on_records numbered
+  unfolding text_loss on_records
   text_loss_in_full s good fed = rw (has_records, loss_in_full N a.inside a.proper a.supplied s good fed)
 
   -- `feeder_plan`, between radial states whose switches that must move are operable: a line for each pair

@@ -1,34 +1,17 @@
 // What a call answers, in numbers alone.
-ghost use Rattle.std.specs.Prelude.{◌≡◌};
-ghost use Rattle.std.specs.Float.{binary64};
-ghost use Rattle.std.specs.Float.Ieee.{to_bits};
-ghost use Rattle.network.specs.Answers.{accepted, refused};
+ghost use Rattle.std.specs.Prelude.{◌≡◌, MatchResult};
+ghost use Rattle.network.specs.Answers.{accepted, refused, number_of, place_of};
 ghost use Rattle.graph.specs.Form.{form_number};
-ghost use Rattle.radiality.specs.Answers.{radiality_of};
-ghost use Rattle.losses.specs.Answers.{loss_answer_of};
-ghost use Rattle.plan.specs.Plan.{plan_answer_of};
-ghost use Rattle.resumption.specs.Resume.{resume_answer_of};
-ghost use Rattle.searches.specs.Results.{solve_answer_of};
-ghost use Rattle.operations.specs.Operations.{operations_answer_of};
-ghost use Rattle.answers.specs.Printing.{text_answer_of};
-ghost use Rattle.texts.specs.Texts.{write_answer_of};
-ghost use Rattle.controller.specs.Calls.{numbered, radial_byte, numbers_of, solved_numbers};
-ghost use Rattle.controller.specs.CallLaws.{NoNan};
+ghost use Rattle.searches.specs.Results.{result_of};
+ghost use Rattle.controller.specs.Calls.{numbers_of, radial_byte, solved_numbers};
 
-use answers::printer::TextAnswer;
 use graph::form::{Form, fields_of, is_tree};
-use losses::evaluation::LossAnswer;
-use operations::operations::OperationsAnswer;
-use plan::planner::PlanAnswer;
-use printing::writer::truth_byte;
-use radiality::radiality::Radiality;
-use resumption::resume::ResumeAnswer;
-use searches::answer::SolveAnswer;
-use texts::writer::WriteAnswer;
+use network::error::Refusal;
+use searches::answer::ReconfigResult;
 
 // Number 0 with what was asked for, or document 01's refusal number and place.
 #[repr(C)]
-#[derive(Clone, Copy)]
+#[derive(Clone, Copy, Debug, PartialEq, Eq)]
 pub struct CallAnswer {
     pub number: u8,
     pub place: u16,
@@ -37,7 +20,7 @@ pub struct CallAnswer {
 
 // Number 0 with the values of the 81 line, or document 01's refusal number and place beside zeros.
 #[repr(C)]
-#[derive(Clone, Copy)]
+#[derive(Clone, Copy, Debug, PartialEq)]
 pub struct SolvedAnswer {
     pub number: u8,
     pub place: u16,
@@ -49,154 +32,94 @@ pub struct SolvedAnswer {
     pub reduction: f64,
 }
 
-pub(crate) fn answered(value: u64) -> CallAnswer
-    ensures { result ≡ numbers_of (accepted value) }
-{
-    CallAnswer {
-        number: 0,
-        place: 0,
-        value,
+impl From<u64> for CallAnswer {
+    ghost from_gives = { λ value answer. answer ≡ numbers_of (accepted value) };
+
+    fn from(value: u64) -> CallAnswer {
+        CallAnswer {
+            number: 0,
+            place: 0,
+            value,
+        }
     }
 }
 
-pub(crate) fn refusal(number: u8, place: u16) -> CallAnswer
-    ensures { result ≡ numbers_of (refused number place) }
-{
-    CallAnswer {
-        number,
-        place,
-        value: 0,
+// How many pairs, moves or bytes: those calls answer a u16.
+impl From<u16> for CallAnswer {
+    ghost from_gives = { λ count answer. answer ≡ numbers_of (accepted count) };
+
+    fn from(count: u16) -> CallAnswer {
+        CallAnswer::from(u64::from(count))
+    }
+}
+
+impl From<Refusal> for CallAnswer {
+    ghost from_gives = { λ refusal answer. answer ≡ numbers_of (refused (number_of refusal) (place_of refusal)) };
+
+    fn from(refusal: Refusal) -> CallAnswer {
+        CallAnswer {
+            number: refusal.number(),
+            place: refusal.place(),
+            value: 0,
+        }
     }
 }
 
 // 1 for a tree, 0 for anything else.
-fn radial_byte(form: Form) -> u8
+pub(crate) fn radial_byte(form: Form) -> u8
     ensures { result ≡ radial_byte form }
 {
-    truth_byte(is_tree(form))
-}
-
-pub(crate) fn radiality_numbers(answer: Radiality) -> CallAnswer
-    ensures { result ≡ numbers_of (numbered radial_byte (radiality_of answer)) }
-{
-    match answer {
-        Radiality::Refused { number, place } => refusal(number, place),
-        Radiality::Formed(form) => answered(radial_byte(form) as u64),
-    }
+    u8::from(is_tree(form))
 }
 
 // Islands × 65,536 + branch.
-fn form_number(form: Form) -> u64
+pub fn form_number(form: Form) -> u64
     ensures { result ≡ form_number form }
 {
     let fields = fields_of(form);
-    0x1_0000 * fields.islands as u64 + fields.branch as u64
+    0x1_0000 * u64::from(fields.islands) + u64::from(fields.branch)
 }
 
-pub(crate) fn form_numbers(answer: Radiality) -> CallAnswer
-    ensures { result ≡ numbers_of (numbered form_number (radiality_of answer)) }
-{
-    match answer {
-        Radiality::Refused { number, place } => refusal(number, place),
-        Radiality::Formed(form) => answered(form_number(form)),
-    }
-}
+impl From<ReconfigResult> for SolvedAnswer {
+    ghost from_gives = { λ found answer. answer ≡ solved_numbers (accepted (result_of found)) };
 
-// No NaN has bits of its own, and no loss is a NaN.
-pub(crate) fn loss_numbers(answer: LossAnswer) -> CallAnswer
-    requires { NoNan (loss_answer_of answer) }
-    ensures { result ≡ numbers_of (numbered (to_bits binary64) (loss_answer_of answer)) }
-{
-    match answer {
-        LossAnswer::Refused { number, place } => refusal(number, place),
-        LossAnswer::Loss(loss) => answered(f64::to_bits(loss)),
-    }
-}
-
-pub(crate) fn plan_numbers(answer: PlanAnswer) -> CallAnswer
-    ensures { result ≡ numbers_of (plan_answer_of answer) }
-{
-    match answer {
-        PlanAnswer::Refused { number, place } => refusal(number, place),
-        PlanAnswer::Pairs(count) => answered(count as u64),
-    }
-}
-
-pub(crate) fn resume_numbers(answer: ResumeAnswer) -> CallAnswer
-    ensures { result ≡ numbers_of (resume_answer_of answer) }
-{
-    match answer {
-        ResumeAnswer::Refused { number, place } => refusal(number, place),
-        ResumeAnswer::Remaining(count) => answered(count as u64),
-    }
-}
-
-pub(crate) fn operations_numbers(answer: OperationsAnswer) -> CallAnswer
-    ensures { result ≡ numbers_of (operations_answer_of answer) }
-{
-    match answer {
-        OperationsAnswer::Refused { number, place } => refusal(number, place),
-        OperationsAnswer::Operations(count) => answered(count as u64),
-    }
-}
-
-// How many bytes were written into the slice.
-fn written_bytes(length: u16) -> CallAnswer
-    ensures { result ≡ numbers_of (accepted length) }
-{
-    answered(length as u64)
-}
-
-pub(crate) fn text_numbers(answer: TextAnswer) -> CallAnswer
-    ensures { result ≡ numbers_of (text_answer_of answer) }
-{
-    match answer {
-        TextAnswer::Refused { number, place } => refusal(number, place),
-        TextAnswer::Printed(length) => written_bytes(length),
-    }
-}
-
-pub(crate) fn write_numbers(answer: WriteAnswer) -> CallAnswer
-    ensures { result ≡ numbers_of (write_answer_of answer) }
-{
-    match answer {
-        WriteAnswer::Refused { number, place } => refusal(number, place),
-        WriteAnswer::Written(length) => written_bytes(length),
-    }
-}
-
-pub(crate) fn not_solved(number: u8, place: u16) -> SolvedAnswer
-    ensures { result ≡ solved_numbers (refused number place) }
-{
-    SolvedAnswer {
-        number,
-        place,
-        radial: 0,
-        converged: 0,
-        iterations: 0,
-        base_loss: 0.0,
-        best_loss: 0.0,
-        reduction: 0.0,
-    }
-}
-
-pub(crate) fn solved_numbers(answer: SolveAnswer) -> SolvedAnswer
-    ensures { result ≡ solved_numbers (solve_answer_of answer) }
-{
-    match answer {
-        SolveAnswer::Refused { number, place } => not_solved(number, place),
-        SolveAnswer::Solved(result) => {
-            let form = result.form;
-            SolvedAnswer {
-                number: 0,
-                place: 0,
-                radial: radial_byte(form),
-                converged: truth_byte(result.converged),
-                iterations: result.n_iterations,
-                base_loss: result.base_losses_mw,
-                best_loss: result.optimized_losses_mw,
-                reduction: result.loss_reduction_pct,
-            }
+    fn from(found: ReconfigResult) -> SolvedAnswer {
+        SolvedAnswer {
+            number: 0,
+            place: 0,
+            radial: radial_byte(found.form),
+            converged: u8::from(found.converged),
+            iterations: found.n_iterations,
+            base_loss: found.base_losses_mw,
+            best_loss: found.optimized_losses_mw,
+            reduction: found.loss_reduction_pct,
         }
+    }
+}
+
+impl From<Refusal> for SolvedAnswer {
+    ghost from_gives = { λ refusal answer. answer ≡ solved_numbers (refused (number_of refusal) (place_of refusal)) };
+
+    fn from(refusal: Refusal) -> SolvedAnswer {
+        SolvedAnswer {
+            number: refusal.number(),
+            place: refusal.place(),
+            radial: 0,
+            converged: 0,
+            iterations: 0,
+            base_loss: 0.0,
+            best_loss: 0.0,
+            reduction: 0.0,
+        }
+    }
+}
+
+// What a call answered, in numbers: those of its value, or those of its refusal.
+pub(crate) fn in_numbers<T: Into<A>, A: From<Refusal>>(answer: Result<T, Refusal>) -> A
+    ensures { MatchResult answer (λ value. T.converts value result) (λ refusal. A.from_gives refusal result) }
+{
+    match answer {
+        Ok(value) => value.into(),
+        Err(refusal) => A::from(refusal),
     }
 }

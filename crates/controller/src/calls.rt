@@ -1,24 +1,25 @@
-// The calls on a frame text. A refusal of the text comes first, then those of the call itself.
+// The calls on a frame text. A refusal of the text comes first, then those of the call itself. Beside each call stands what it asks for, as a
+// Result that hands refusals on by `?`; the call makes numbers of it.
 ghost use Rattle.std.specs.Prelude.{◌≡◌};
-ghost use Rattle.network.specs.Answers.{accepted};
+ghost use Rattle.network.specs.Answers.{accepted, answer_of, valued};
 ghost use Rattle.network.specs.Check.{check_records};
 ghost use Rattle.network.specs.Records.{records_of};
+ghost use Rattle.frames.specs.Text.{read_text};
+ghost use Rattle.feeders.specs.Feeder.{form_in};
+ghost use Rattle.feeders.specs.StateCalls.{on_state};
+ghost use Rattle.searches.specs.Results.{result_of};
 ghost use Rattle.answers.specs.Printing.{answered_text};
 ghost use Rattle.repairs.specs.Repairs.{repaired_text};
 ghost use Rattle.record_bytes.specs.RecordBytes.{written_records};
-ghost use Rattle.controller.specs.Calls.{numbers_of, text_radiality, text_form, text_loss, text_plan, text_resume, text_operations, text_solved, base_call, text_base, written_numbers, written_numbers_in_two, written_solved};
+ghost use Rattle.controller.specs.Calls.{numbers_of, on_records, text_radiality, text_form, text_loss, text_plan, text_resume, text_operations, text_solved, base_call, text_base, written_numbers, written_numbers_in_two, written_solved};
 
-use crate::answer::{
-    CallAnswer, SolvedAnswer, answered, form_numbers, loss_numbers, not_solved, operations_numbers,
-    plan_numbers, radiality_numbers, refusal, resume_numbers, solved_numbers, text_numbers,
-    write_numbers,
-};
+use crate::answer::{CallAnswer, SolvedAnswer, form_number, in_numbers, radial_byte};
 use answers::printer::answer_text;
 use frames::reader::read_text;
+use graph::form::Form;
 use losses::evaluation::evaluate_config;
-use network::error::Verdict;
+use network::error::Refusal;
 use network::topology::PowerNetwork;
-use numbers::wide16;
 use operations::operations::compute_switch_operations;
 use plan::planner::plan;
 use radiality::radiality::verify_radiality;
@@ -26,43 +27,67 @@ use reconfiguration::solve::solve;
 use record_bytes::records::write_records;
 use repairs::repair::repair_text;
 use resumption::resume::resume;
+use searches::answer::ReconfigResult;
 use slices::writer::write_bytes;
 use states::configuration::build_base_configuration;
+
+fn form_of(text: &[u8], state: &[u8]) -> Result<Form, Refusal>
+    ensures { answer_of result ≡ on_records (read_text text.now) (λ N. on_state N state.now (form_in N state.now)) }
+{
+    let network = read_text(text)?;
+    verify_radiality(network, state)
+}
+
+fn radiality_of(text: &[u8], state: &[u8]) -> Result<u64, Refusal>
+    ensures { answer_of result ≡ text_radiality text.now state.now }
+{
+    let form = form_of(text, state)?;
+    Ok(u64::from(radial_byte(form)))
+}
 
 // Whether a state is radial: the value is 1 where it is, else 0.
 pub fn feeder_radiality(text: &[u8], state: &[u8]) -> CallAnswer
     ensures { result ≡ numbers_of (text_radiality text.now state.now) }
 {
-    let reading = read_text(text);
-    let verdict = reading.verdict;
-    if let Verdict::Refused { number, place } = verdict {
-        return refusal(number, place);
-    }
-    radiality_numbers(verify_radiality(reading.network, state))
+    in_numbers(radiality_of(text, state))
+}
+
+fn form_number_of(text: &[u8], state: &[u8]) -> Result<u64, Refusal>
+    ensures { answer_of result ≡ text_form text.now state.now }
+{
+    let form = form_of(text, state)?;
+    Ok(form_number(form))
 }
 
 // What the live branches of a state are: the value is islands × 65,536 + the first branch that closes a loop, 65,535 where there is no loop.
 pub fn feeder_form(text: &[u8], state: &[u8]) -> CallAnswer
     ensures { result ≡ numbers_of (text_form text.now state.now) }
 {
-    let reading = read_text(text);
-    let verdict = reading.verdict;
-    if let Verdict::Refused { number, place } = verdict {
-        return refusal(number, place);
-    }
-    form_numbers(verify_radiality(reading.network, state))
+    in_numbers(form_number_of(text, state))
+}
+
+// No NaN has bits of its own, and no loss is a NaN.
+fn loss_of(text: &[u8], state: &[u8]) -> Result<u64, Refusal>
+    ensures { answer_of result ≡ text_loss text.now state.now }
+{
+    let network = read_text(text)?;
+    let loss = evaluate_config(network, state)?;
+    Ok(f64::to_bits(loss))
 }
 
 // The loss of a state, which must be radial only where the text names a supply: the value is the bits of the f64, in MW.
 pub fn feeder_loss(text: &[u8], state: &[u8]) -> CallAnswer
     ensures { result ≡ numbers_of (text_loss text.now state.now) }
 {
-    let reading = read_text(text);
-    let verdict = reading.verdict;
-    if let Verdict::Refused { number, place } = verdict {
-        return refusal(number, place);
-    }
-    loss_numbers(evaluate_config(reading.network, state))
+    in_numbers(loss_of(text, state))
+}
+
+fn plan_of(text: &[u8], present: &[u8], wanted: &[u8], out: &mut [u8]) -> Result<u16, Refusal>
+    ensures { record { answer = answer_of result; out = out.new }
+        ≡ text_plan text.now present.now wanted.now out.old }
+{
+    let network = read_text(text)?;
+    plan(network, present, wanted, out)
 }
 
 // The plan from the present state to the wanted one: the value is the number of pairs, and an 86 line for each stands at the front of the slice,
@@ -71,12 +96,22 @@ pub fn feeder_plan(text: &[u8], present: &[u8], wanted: &[u8], out: &mut [u8]) -
     ensures { record { answer = result; out = out.new }
         ≡ written_numbers (text_plan text.now present.now wanted.now out.old) }
 {
-    let reading = read_text(text);
-    let verdict = reading.verdict;
-    if let Verdict::Refused { number, place } = verdict {
-        return refusal(number, place);
-    }
-    plan_numbers(plan(reading.network, present, wanted, out))
+    in_numbers(plan_of(text, present, wanted, out))
+}
+
+fn moves_left_of(
+    text: &[u8],
+    present: &[u8],
+    wanted: &[u8],
+    count: u64,
+    remaining: &mut [u8],
+    back: &mut [u8],
+) -> Result<u16, Refusal>
+    ensures { record { answer = answer_of result; first = remaining.new; second = back.new }
+        ≡ text_resume text.now present.now wanted.now count remaining.old back.old }
+{
+    let network = read_text(text)?;
+    resume(network, present, wanted, count, remaining, back)
 }
 
 // The plan from the present state, in which it began, to the wanted one, with so many of its single moves done: the value is the number of moves that
@@ -93,12 +128,7 @@ pub fn feeder_resume(
     ensures { record { answer = result; first = remaining.new; second = back.new }
         ≡ written_numbers_in_two (text_resume text.now present.now wanted.now count remaining.old back.old) }
 {
-    let reading = read_text(text);
-    let verdict = reading.verdict;
-    if let Verdict::Refused { number, place } = verdict {
-        return refusal(number, place);
-    }
-    resume_numbers(resume(reading.network, present, wanted, count, remaining, back))
+    in_numbers(moves_left_of(text, present, wanted, count, remaining, back))
 }
 
 // The lines that the program `feeder` prints for the text: the value is how many bytes, and they stand at the front of the slice, which keeps what is behind
@@ -106,22 +136,29 @@ pub fn feeder_resume(
 pub fn feeder_answer_text(text: &[u8], out: &mut [u8]) -> CallAnswer
     ensures { record { answer = result; out = out.new } ≡ written_numbers (answered_text text.now out.old) }
 {
-    text_numbers(answer_text(text, out))
+    in_numbers(answer_text(text, out))
 }
 
 // The base's bytes at the front of the slice, or 13. A checked network has no more switches than a state has bytes.
-fn write_base(network: PowerNetwork, out: &mut [u8]) -> CallAnswer
+fn write_base(network: PowerNetwork, out: &mut [u8]) -> Result<u16, Refusal>
     requires { check_records (records_of network) ≡ accepted tt }
-    ensures { record { answer = result; out = out.new } ≡ written_numbers (base_call (records_of network) out.old) }
+    ensures { record { answer = answer_of result; out = out.new } ≡ base_call (records_of network) out.old }
 {
-    let count = wide16(network.switch_count);
-    if out.len() < count {
-        return refusal(13, 0);
+    let count = network.switch_count;
+    let n = usize::from(count);
+    if out.len() < n {
+        return Err(Refusal::Room);
     }
-    let base = build_base_configuration(network);
-    let state = base.switches;
-    write_bytes(out, &state[0..count]);
-    answered(count as u64)
+    let base = build_base_configuration(network).switches;
+    write_bytes(out, &base[..n]);
+    Ok(count)
+}
+
+fn base_of(text: &[u8], out: &mut [u8]) -> Result<u16, Refusal>
+    ensures { record { answer = answer_of result; out = out.new } ≡ text_base text.now out.old }
+{
+    let network = read_text(text)?;
+    write_base(network, out)
 }
 
 // The base of the text's feeder: the value is the number of switches, and a byte for each stands at the front of the slice, which keeps what is
@@ -129,12 +166,14 @@ fn write_base(network: PowerNetwork, out: &mut [u8]) -> CallAnswer
 pub fn feeder_base_state(text: &[u8], out: &mut [u8]) -> CallAnswer
     ensures { record { answer = result; out = out.new } ≡ written_numbers (text_base text.now out.old) }
 {
-    let reading = read_text(text);
-    let verdict = reading.verdict;
-    if let Verdict::Refused { number, place } = verdict {
-        return refusal(number, place);
-    }
-    write_base(reading.network, out)
+    in_numbers(base_of(text, out))
+}
+
+fn solution_of(text: &[u8], out: &mut [u8]) -> Result<ReconfigResult, Refusal>
+    ensures { record { answer = valued result_of (answer_of result); out = out.new } ≡ text_solved text.now out.old }
+{
+    let network = read_text(text)?;
+    solve(network, out)
 }
 
 // The search that the text asks for: the best state's bytes stand at the front of the slice, which keeps what is behind them, and the answer has
@@ -142,12 +181,15 @@ pub fn feeder_base_state(text: &[u8], out: &mut [u8]) -> CallAnswer
 pub fn feeder_solve(text: &[u8], out: &mut [u8]) -> SolvedAnswer
     ensures { record { answer = result; out = out.new } ≡ written_solved (text_solved text.now out.old) }
 {
-    let reading = read_text(text);
-    let verdict = reading.verdict;
-    if let Verdict::Refused { number, place } = verdict {
-        return not_solved(number, place);
-    }
-    solved_numbers(solve(reading.network, out))
+    in_numbers(solution_of(text, out))
+}
+
+fn operations_of(text: &[u8], from: &[u8], to: &[u8], out: &mut [u8]) -> Result<u16, Refusal>
+    ensures { record { answer = answer_of result; out = out.new }
+        ≡ text_operations text.now from.now to.now out.old }
+{
+    let network = read_text(text)?;
+    compute_switch_operations(network, from, to, out)
 }
 
 // The operations that lead from one state to another, in switch order and not in the order in which switches may move (that is the plan's): the
@@ -156,12 +198,7 @@ pub fn feeder_operations(text: &[u8], from: &[u8], to: &[u8], out: &mut [u8]) ->
     ensures { record { answer = result; out = out.new }
         ≡ written_numbers (text_operations text.now from.now to.now out.old) }
 {
-    let reading = read_text(text);
-    let verdict = reading.verdict;
-    if let Verdict::Refused { number, place } = verdict {
-        return refusal(number, place);
-    }
-    operations_numbers(compute_switch_operations(reading.network, from, to, out))
+    in_numbers(operations_of(text, from, to, out))
 }
 
 // The frame text of records in bytes: the value is how many bytes the text has, and they stand at the front of the slice, which keeps what is behind them. A
@@ -169,7 +206,7 @@ pub fn feeder_operations(text: &[u8], from: &[u8], to: &[u8], out: &mut [u8]) ->
 pub fn feeder_write_text(records: &[u8], out: &mut [u8]) -> CallAnswer
     ensures { record { answer = result; out = out.new } ≡ written_numbers (written_records records.now out.old) }
 {
-    write_numbers(write_records(records, out))
+    in_numbers(write_records(records, out))
 }
 
 // The repair of a stored text: the value is how many bytes, and they stand at the front of the slice, which keeps what is behind them: the text without its
@@ -177,5 +214,5 @@ pub fn feeder_write_text(records: &[u8], out: &mut [u8]) -> CallAnswer
 pub fn feeder_repair_text(text: &[u8], out: &mut [u8]) -> CallAnswer
     ensures { record { answer = result; out = out.new } ≡ written_numbers (repaired_text text.now out.old) }
 {
-    write_numbers(repair_text(text, out))
+    in_numbers(repair_text(text, out))
 }

@@ -37,33 +37,28 @@ module _ (far : List ℕ) (live : List Bool) (places : List ℕ) where
       one_drawn : DrawnSoFar (set from k (from_of k)) (set to k (to_of k)) (k + 1)
       one_drawn = record { froms = rw s.froms (filled_more from_of 0 512 k l); tos = rw s.tos (filled_more to_of 0 512 k l) }
 
-      module _ {from' to' : List ℕ} where
-        pub one_turned : turned k ≡ true → from' ≡ set from k (get_or far (2 * k) 0) → to' ≡ set to k (get_or far (2 * k + 1) 0) → DrawnSoFar from' to' (k + 1)
-        one_turned e p q = rw (p, q) (rw e at one_drawn)
+      module _ {ends : ℕ × ℕ} where
+        pub one_turned : turned k ≡ true → ends ≡ (get_or far (2 * k) 0, get_or far (2 * k + 1) 0) → DrawnSoFar (set from k ends.0) (set to k ends.1) (k + 1)
+        one_turned e p = rw p (rw e at one_drawn)
 
-        pub one_kept : turned k ≡ false → from' ≡ set from k (get_or far (2 * k + 1) 0) → to' ≡ set to k (get_or far (2 * k) 0) → DrawnSoFar from' to' (k + 1)
-        one_kept e p q = rw (p, q) (rw e at one_drawn)
+        pub one_kept : turned k ≡ false → ends ≡ (get_or far (2 * k + 1) 0, get_or far (2 * k) 0) → DrawnSoFar (set from k ends.0) (set to k ends.1) (k + 1)
+        one_kept e p = rw p (rw e at one_drawn)
 
-    pub all_drawn : (n : ℕ) → k ≡ n → ◌≡◌ {A = Ends} (record { from = from; to = to }) (drawn_ends far live places n)
+    -- there are no more than 512 to draw
+    pub all_drawn : (n : ℕ) → k ≡ min n 512 → ◌≡◌ {A = Ends} (record { from = from; to = to }) (drawn_ends far live places n)
     unfolding drawn_ends filled
-    all_drawn n e = rw (s.froms, s.tos, e)
-
-  -- there are no more than 512 to draw
-  drawn_within : (n : ℕ) → drawn_ends far live places (min n 512) ≡ drawn_ends far live places n
-  unfolding drawn_ends filled
-  drawn_within n = ap₂ ends_by (filled_within from_of 0 512 n) (filled_within to_of 0 512 n)
-    where
-      ends_by : List ℕ → List ℕ → Ends
-      ends_by from to = record { from = from; to = to }
+    all_drawn n e = rw (s.froms, s.tos, e) (ap₂ ends_by (filled_within from_of 0 512 n) (filled_within to_of 0 512 n))
+      where
+        ends_by : List ℕ → List ℕ → Ends
+        ends_by from to = record { from = from; to = to }
 
 -- the buses of a walk, read back from its array
 buses_of_lem : (o : List Visit) → take (walked o).count (walked o).bus ≡ buses_of o
 unfolding walked
 buses_of_lem o = rw (← length-map o (λ (v : Visit). v.bus)) (padded_front 256 0 (buses_of o))
 
-pub graph_drawn : (g : Graph) (live : List Bool) (z : ℕ) (w : Walk) (places : List ℕ) (n : ℕ) (ends : Ends)
-    → w ≡ walked (walk_by (row_neighbours g live) z z) → places ≡ places_of (take w.count w.bus) → n ≡ min g.branch_count 512 → ends ≡ drawn_ends g.far live places n
+pub graph_drawn : (g : Graph) (live : List Bool) (z : ℕ) (w : Walk) (places : List ℕ) (ends : Ends)
+    → w ≡ walked (walk_by (row_neighbours g live) z z) → places ≡ places_of (take w.count w.bus) → ends ≡ drawn_ends g.far live places g.branch_count
     → graph_of g.bus_count g.branch_count ends.from ends.to ≡ drawn_graph g live z
 unfolding drawn_graph
-graph_drawn g live z w places n ends walk placed count drawn =
-    rw (drawn, count, drawn_within, placed, walk, buses_of_lem)
+graph_drawn g live z w places ends walk placed drawn = rw (drawn, placed, walk, buses_of_lem)

@@ -20,9 +20,9 @@ module _ (order : List ℕ) where
   unfolding index_of
   none_placed n e = replicate_table n 256 ∙ table_cong _ _ 256 (λ b l. rw (drop_of_length-le order {i = n} (omega arith)) (sym (add-zero n)))
 
-  pub one_placed : (at b : ℕ) → at < length order → get_or order at 0 ≡ b → b < 256 → set (places_from (at + 1)) b at ≡ places_from at
-  one_placed at b l e small =
-      table_set _ _ 256 b at small (index_here b order at l e) (λ x k ne. sym (index_behind x order at l (λ q. ne (sym q ∙ e))))
+  pub one_placed : (at b : ℕ) {after : ℕ} → after ≡ at + 1 → at < length order → get_or order at 0 ≡ b → b < 256 → set (places_from after) b at ≡ places_from at
+  one_placed at b s l e small =
+      rw s (table_set _ _ 256 b at small (index_here b order at l e) (λ x k ne. sym (index_behind x order at l (λ q. ne (sym q ∙ e)))))
 
   pub all_placed : places_from 0 ≡ places_of order
   unfolding places_of

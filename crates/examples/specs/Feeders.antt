@@ -1,6 +1,6 @@
 -- The records of the examples, and document 01's triangle.
 use Rattle.std.specs.Prelude.{true, false, List, [], ◌∷◌, ℕ, Float}
-use Rattle.std.proofs.Math.Option.{none, some}
+use Rattle.std.specs.Prelude.{None, Some}
 use Rattle.std.specs.Float.{binary64}
 use Rattle.std.specs.Float.Ieee.{of_bits}
 use Rattle.network.specs.declared.bus.Bus.{Bus}
@@ -29,7 +29,7 @@ tie id k = record { id = id; branch_idx = k; normally_open = true; can_operate =
 -- base_mva is 1
 abbrev pub network : ReconfigAlgorithm → ℕ → List Bus → List Branch → List Switch → Network
 network algorithm iterations buses branches switches =
-    record { base = float 0x3FF0000000000000; algorithm = algorithm; iterations = iterations; buses = buses; branches = branches; switches = switches; supply = none }
+    record { base = float 0x3FF0000000000000; algorithm = algorithm; iterations = iterations; buses = buses; branches = branches; switches = switches; supply = None }
 
 -- with the triangle's head
 abbrev pub records : List Bus → List Branch → List Switch → Network
@@ -58,4 +58,4 @@ triangle = triangle_with BranchExchange 100
 -- ---- document 02: fed from the bus with this id
 abbrev pub fed_from : ℕ → Network → Network
 fed_from id N =
-    record { base = N.base; algorithm = N.algorithm; iterations = N.iterations; buses = N.buses; branches = N.branches; switches = N.switches; supply = some id }
+    record { base = N.base; algorithm = N.algorithm; iterations = N.iterations; buses = N.buses; branches = N.branches; switches = N.switches; supply = Some id }

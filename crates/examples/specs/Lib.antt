@@ -9,3 +9,4 @@ pub mod Resumptions
 pub mod BothEnds
 pub mod Forms
 pub mod Repairs
+pub mod StepLaws

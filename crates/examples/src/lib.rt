@@ -1,2 +1,2 @@
-// Document 01's worked examples, run through the definitions: no code, only specs.
+// Document 01's worked examples, run through the definitions, and laws of steps that no proof needs: no code, only specs.
 #![tactic(auto)]

@@ -1,6 +1,6 @@
 -- Document 01's branch exchange, step by step. Its background is Merlin and Back 1975.
 use Rattle.std.specs.Prelude.{Bool, true, false, cond, not, ◌&&◌, List, ℕ, suc, eqb, ltb, Float}
-use Rattle.std.proofs.Math.Option.{Option, none, some}
+use Rattle.std.specs.Prelude.{Option, None, Some}
 use Rattle.std.specs.Float.{binary64}
 use Rattle.std.specs.Float.Ieee.{sub, lt}
 use Rattle.numbers.specs.Constants.{billionth}
@@ -27,8 +27,8 @@ section_of N k = least (λ i. eqb (branch_of N i) k && (not (is_tie N i) && oper
 
 -- the swap of a tie with a section, where the section "is closed" and the "swap is radial"
 unfoldable pub swap_with : Network → State → ℕ → Option ℕ → Option State
-swap_with N s tie none = none
-swap_with N s tie (some section) = cond (eqb (byte s section) 0 && radial_in N (swapped s tie section)) (some (swapped s tie section)) none
+swap_with N s tie None = None
+swap_with N s tie (Some section) = cond (eqb (byte s section) 0 && radial_in N (swapped s tie section)) (Some (swapped s tie section)) None
 
 -- "so the rank is path order. The first branch whose first operable section switch is closed and whose swap is radial is tried, then the tie is done, better or not"
 unfoldable pub trial : Network → State → ℕ → Option State
@@ -40,12 +40,12 @@ improves N current t = lt (loss_in N t) (sub binary64 current billionth)
 
 -- a trial, if it improves
 unfoldable pub improved : Network → Float → Option State → Option State
-improved N current none = none
-improved N current (some t) = cond (improves N current t) (some t) none
+improved N current None = None
+improved N current (Some t) = cond (improves N current t) (Some t) None
 
 -- what a round finds at switch i, in the state with which it began: the trial of a tie that it sees, if it improves
 abbrev pub improving : Network → State → Float → ℕ → Option State
-improving N s current i = cond (seen N s i) (improved N current (trial N s i)) none
+improving N s current i = cond (seen N s i) (improved N current (trial N s i)) None
 
 -- a round "sees the normally open, operable, still open switches in list order"; "The last improving tie wins the round"
 unfoldable pub round_of : Network → State → Float → Option State
@@ -60,8 +60,8 @@ pub record Exchange : Type 0 where
 
 -- "Every round counts"; "A round without one ends the search"
 unfoldable pub after_round : Network → Exchange → Option State → Exchange
-after_round N x none = record { state = x.state; loss = x.loss; rounds = suc x.rounds; ended = true }
-after_round N x (some t) = record { state = t; loss = loss_in N t; rounds = suc x.rounds; ended = false }
+after_round N x None = record { state = x.state; loss = x.loss; rounds = suc x.rounds; ended = true }
+after_round N x (Some t) = record { state = t; loss = loss_in N t; rounds = suc x.rounds; ended = false }
 
 -- where it stands after a round more
 abbrev pub next : Network → Exchange → Exchange

@@ -2,7 +2,7 @@
 -- first round sees ties. A fact for the reader: no proof uses it.
 use Rattle.std.specs.Prelude.{◌≡◌, ◌≢◌, true, false, length, set}
 use Rattle.std.proofs.Common.{ap, ◌∙◌, true≢false, eqb-true}
-use Rattle.std.proofs.Math.Option.{Option, none, some}
+use Rattle.std.specs.Prelude.{Option, None, Some}
 use Prim.Native.Nat.{ℕ, suc, ◌+◌, ◌≤◌, ◌<◌}
 use Rattle.std.proofs.Math.Decide.{ℕ_discrete, dec_lt}
 use native.Mathlib.Omega.{arith}
@@ -74,8 +74,8 @@ module _ (N : Network) where
       Q x = (x.ended ≡ false → left x ≤ most) × (left x ≤ suc most)
 
       one : (x : Exchange) → left x ≤ most → (found : Option State) → IfSome (Swap N x.state) found → Q (after_round N x found)
-      one x h none w = (λ e. absurd (true≢false e), omega arith)
-      one x h (some t) w = let less = swap_count x.state t w in (λ e. omega arith, omega arith)
+      one x h None w = (λ e. absurd (true≢false e), omega arith)
+      one x h (Some t) w = let less = swap_count x.state t w in (λ e. omega arith, omega arith)
 
       ends : (x : Exchange) → Q x → x.rounds ≤ suc most
       ends x h = omega (arith, h.1)

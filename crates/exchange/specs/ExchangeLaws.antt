@@ -2,7 +2,7 @@
 use Rattle.std.specs.Prelude.{◌≡◌, false, not, ◌&&◌, ℕ, ◌<◌, eqb, Float}
 use Rattle.std.proofs.Math.Path.{refl}
 use Rattle.std.proofs.Math.Bool.{true}
-use Rattle.std.proofs.Math.Option.{Option, none, some}
+use Rattle.std.specs.Prelude.{Option, None, Some}
 use borrow.Author.Tests.{not-true}
 use Rattle.numbers.specs.Tests.{both}
 use Rattle.network.specs.Records.{Network}
@@ -36,8 +36,8 @@ module _ (N : Network) where
     module _ (tie : ℕ) (l : tie < size N) (e : seen N s tie ≡ true) where
       swap_with_swaps : (k : ℕ) (section : Option ℕ) → IfSome (λ i. (eqb (branch_of N i) k && (not (is_tie N i) && operable N i)) ≡ true) section → IfSome (Swap N s) (swap_with N s tie section)
       unfolding swap_with
-      swap_with_swaps k none h = tt
-      swap_with_swaps k (some i) h = cond_holds (Swap N s) _ (some (swapped s tie i)) none go tt
+      swap_with_swaps k None h = tt
+      swap_with_swaps k (Some i) h = cond_holds (Swap N s) _ (Some (swapped s tie i)) None go tt
         where
           go : (eqb (byte s i) 0 && radial_in N (swapped s tie i)) ≡ true → Swap N s (swapped s tie i)
           go r =
@@ -61,11 +61,11 @@ module _ (N : Network) where
     -- what a round finds is a swap
     pub round_swaps : (current : Float) → IfSome (Swap N s) (round_of N s current)
     unfolding round_of improved
-    round_swaps current = last_holds (improving N s current) (Swap N s) (size N) (λ i l. cond_holds (Swap N s) (seen N s i) _ none (λ e. one (trial N s i) (trial_swaps i l e)) tt)
+    round_swaps current = last_holds (improving N s current) (Swap N s) (size N) (λ i l. cond_holds (Swap N s) (seen N s i) _ None (λ e. one (trial N s i) (trial_swaps i l e)) tt)
       where
         one : (found : Option State) → IfSome (Swap N s) found → IfSome (Swap N s) (improved N current found)
-        one none w = tt
-        one (some t) w = cond_holds (Swap N s) (improves N current t) (some t) none (λ e. w) tt
+        one None w = tt
+        one (Some t) w = cond_holds (Swap N s) (improves N current t) (Some t) None (λ e. w) tt
 
   -- what holds of the base and is kept by each round holds at the end
   pub rounds_keep : (Q : Exchange → Type 0) → ((x : Exchange) → x.ended ≡ false → Q x → Q (next N x)) → Q (exchange_start N) → Q (exchange N)
@@ -77,8 +77,8 @@ module _ (N : Network) where
   exchange_keeps P swaps = rounds_keep (λ x. P x.state) (λ x e h. one x h (round_of N x.state x.loss) (round_swaps x.state x.loss))
     where
       one : (x : Exchange) → P x.state → (found : Option State) → IfSome (Swap N x.state) found → P (after_round N x found).state
-      one x h none w = h
-      one x h (some t) w = swaps x.state t h w
+      one x h None w = h
+      one x h (Some t) w = swaps x.state t h w
 
   -- the loss that it carries is that of its state
   pub exchange_loss : (exchange N).loss ≡ loss_in N (exchange N).state
@@ -86,8 +86,8 @@ module _ (N : Network) where
   exchange_loss = rounds_keep (λ x. x.loss ≡ loss_in N x.state) (λ x e h. one x h (round_of N x.state x.loss)) refl
     where
       one : (x : Exchange) → x.loss ≡ loss_in N x.state → (found : Option State) → (after_round N x found).loss ≡ loss_in N (after_round N x found).state
-      one x h none = h
-      one x h (some t) = refl
+      one x h None = h
+      one x h (Some t) = refl
 
   -- ---- of the answer
   pub exchange_from_base : FromBase N (exchange N).state

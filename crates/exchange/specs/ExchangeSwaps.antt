@@ -1,10 +1,11 @@
 -- The first operable section switch of each branch as the code lists it, and the swap of a tie with it by the rows of the feeder.
-use Rattle.std.specs.Prelude.{◌≡◌, ◌≢◌, Bool, not, ◌&&◌, List, ℕ, ◌+◌, ◌≤◌, ◌<◌, eqb, ltb, length}
+use Rattle.std.specs.Prelude.{◌≡◌, ◌≢◌, Bool, not, ◌&&◌, List, ℕ, ◌+◌, ◌≤◌, ◌<◌, eqb, length}
 use Rattle.std.proofs.Math.Path.{refl, sym, ap}
 use Rattle.std.proofs.Common.{◌∙◌, arith, length-set}
 use Rattle.std.proofs.Math.Bool.{true, false, and-false}
-use Rattle.std.proofs.Math.Option.{Option, none, some}
-use Rattle.std.proofs.Math.Decide.{ℕ_discrete, dec_lt}
+use Rattle.std.specs.Prelude.{Option, None, Some}
+use Rattle.std.specs.Option.{option_or}
+use Rattle.std.proofs.Math.Decide.{dec_lt}
 use Rattle.std.proofs.Math.ListN.{get_or, set, get_or-eq_default}
 use borrow.Author.Tests.{eqb-true, eq-eqb, ne_eqb}
 use Rattle.numbers.specs.Choose.{least}
@@ -32,7 +33,7 @@ use Rattle.searches.specs.StateLaws.{held_long}
 use Rattle.searches.specs.LiveFlags.{on_flagged, flags_opened, flags_closed}
 use Rattle.exchange.specs.Exchange.{section_of}
 use Rattle.numbers.specs.IfSome.{IfSome, cond_holds, least_passes}
-use Rattle.exchange.specs.ExchangeValues.{section_number, sections_of, row_swap}
+use Rattle.exchange.specs.ExchangeValues.{sections_of, row_swap, row_swap_with}
 use Rattle.numbers.specs.FirstLaws.{least_same, least_kept, least_found, least_none, least_below}
 
 -- ---- the first operable section switch of each branch
@@ -44,12 +45,12 @@ module _ (N : Network) where
   section_on k i = eqb (branch_of N i) k && is_section i
 
   -- of those among the first i switches
-  unfoldable pub sections_among : ℕ → List ℕ
-  sections_among i = table (λ k. section_number (least (section_on k) i)) 512
+  unfoldable pub sections_among : ℕ → List (Option ℕ)
+  sections_among i = table (λ k. least (section_on k) i) 512
 
-  pub sections_none : table (λ k. 512) 512 ≡ sections_among 0
-  unfolding sections_among section_number
-  sections_none = table_cong _ _ 512 (λ k l. ap section_number (sym (least_none (section_on k) 0 (λ i h. absurd (omega arith)))))
+  pub sections_none : table (λ k. None) 512 ≡ sections_among 0
+  unfolding sections_among
+  sections_none = table_cong _ _ 512 (λ k l. sym (least_none (section_on k) 0 (λ i h. absurd (omega arith))))
 
   pub sections_all : (i : ℕ) → i ≡ size N → sections_among i ≡ sections_of N
   unfolding sections_among sections_of section_of
@@ -57,11 +58,7 @@ module _ (N : Network) where
 
   pub other_skipped : (i : ℕ) → is_section i ≡ false → sections_among i ≡ sections_among (i + 1)
   unfolding sections_among
-  other_skipped i f = table_cong _ _ 512 (λ k l. ap section_number (sym (least_same (section_on k) i (rw (f, and-false)))))
-
-  pub sections_long : length (sections_of N) ≡ 512
-  unfolding sections_of
-  sections_long = length_table _ 512
+  other_skipped i f = table_cong _ _ 512 (λ k l. sym (least_same (section_on k) i (rw (f, and-false))))
 
   module _ (inside : Inside N) where
     -- a section more: it is listed where its branch has none before it
@@ -69,42 +66,30 @@ module _ (N : Network) where
       other_branch : (k : ℕ) → k ≢ branch_of N i → least (section_on k) (i + 1) ≡ least (section_on k) i
       other_branch k n = least_same (section_on k) i (rw (ne_eqb (branch_of N i) k (λ e. n (sym e))))
 
-      listed_so_far : get_or (sections_among i) (branch_of N i) 0 ≡ section_number (least (section_on (branch_of N i)) i)
+      listed_so_far : get_or (sections_among i) (branch_of N i) None ≡ least (section_on (branch_of N i)) i
       unfolding sections_among
-      listed_so_far = get_or_table _ 512 (branch_of N i) 0 (on_flagged N inside i)
+      listed_so_far = get_or_table _ 512 (branch_of N i) None (on_flagged N inside i)
 
-      pub section_listed : is_section i ≡ true → get_or (sections_among i) (branch_of N i) 0 ≡ 512 → set (sections_among i) (branch_of N i) i ≡ sections_among (i + 1)
-      unfolding sections_among section_number
-      section_listed t e =
-          table_set _ _ 512 (branch_of N i) i (on_flagged N inside i)
-          (ap section_number (least_found (section_on (branch_of N i)) i (rw (eq-eqb (branch_of N i) (branch_of N i) refl, t)) (first (least (section_on (branch_of N i)) i) (sym listed_so_far ∙ e) (least_below (section_on (branch_of N i)) i))))
-          (λ k m n. ap section_number (sym (other_branch k n)))
+      pub section_listed : is_section i ≡ true → set (sections_among i) (branch_of N i) (option_or (get_or (sections_among i) (branch_of N i) None) (Some i)) ≡ sections_among (i + 1)
+      unfolding sections_among
+      section_listed t =
+          table_set _ _ 512 (branch_of N i) _ (on_flagged N inside i)
+          (sym (ap (λ found. option_or found (Some i)) listed_so_far ∙ more (least (section_on (branch_of N i)) i) refl))
+          (λ k m n. sym (other_branch k n))
         where
-          first : (found : Option ℕ) → section_number found ≡ 512 → IfSome (λ j. j < i) found → found ≡ none
-          first none e h = refl
-          first (some j) e h = absurd (omega (arith, inside.counts.2))
+          more : (found : Option ℕ) → least (section_on (branch_of N i)) i ≡ found → option_or found (Some i) ≡ least (section_on (branch_of N i)) (i + 1)
+          more None e = sym (least_found (section_on (branch_of N i)) i (rw (eq-eqb (branch_of N i) (branch_of N i) refl, t)) e)
+          more (Some j) e = sym (least_kept (section_on (branch_of N i)) i j e)
 
-      pub section_passed : get_or (sections_among i) (branch_of N i) 0 ≢ 512 → sections_among i ≡ sections_among (i + 1)
-      unfolding sections_among section_number
-      section_passed d = table_cong _ _ 512 (λ k m. ap section_number (sym (each k (ℕ_discrete k (branch_of N i)))))
-        where
-          kept : (found : Option ℕ) → least (section_on (branch_of N i)) i ≡ found → least (section_on (branch_of N i)) (i + 1) ≡ least (section_on (branch_of N i)) i
-          kept none e = absurd (d (listed_so_far ∙ ap section_number e))
-          kept (some j) e = least_kept (section_on (branch_of N i)) i j e ∙ sym e
-
-          each : (k : ℕ) → Dec (k ≡ branch_of N i) → least (section_on k) (i + 1) ≡ least (section_on k) i
-          each k (yes q) = rw q (kept (least (section_on (branch_of N i)) i) refl)
-          each k (no n) = other_branch k n
-
-    section_read : (k : ℕ) → get_or (sections_of N) k 512 ≡ section_number (section_of N k)
-    unfolding sections_of section_of section_number
+    section_read : (k : ℕ) → get_or (sections_of N) k None ≡ section_of N k
+    unfolding sections_of section_of
     section_read k = go (dec_lt k 512)
       where
-        go : Dec (k < 512) → get_or (sections_of N) k 512 ≡ section_number (section_of N k)
-        go (yes l) = get_or_table _ 512 k 512 l
+        go : Dec (k < 512) → get_or (sections_of N) k None ≡ section_of N k
+        go (yes l) = get_or_table _ 512 k None l
         go (no n) =
-            get_or-eq_default (sections_of N) 512 (rw (length_table (λ k. section_number (section_of N k)) 512) (omega arith))
-            ∙ ap section_number (sym (least_none (section_on k) (size N) (λ i l. rw (ne_eqb (branch_of N i) k (λ e. absurd (omega (arith, on_flagged N inside i)))))))
+            get_or-eq_default (sections_of N) None (rw (length_table (section_of N) 512) (omega arith))
+            ∙ sym (least_none (section_on k) (size N) (λ i l. rw (ne_eqb (branch_of N i) k (λ e. absurd (omega (arith, on_flagged N inside i))))))
 
   pub section_below : (k : ℕ) → IfSome (λ i. i < size N) (section_of N k)
   unfolding section_of
@@ -115,8 +100,8 @@ module _ (N : Network) where
   section_here k = go (least (section_on k) (size N)) (least_passes (section_on k) (size N))
     where
       go : (found : Option ℕ) → IfSome (λ i. section_on k i ≡ true) found → IfSome (λ i. branch_of N i ≡ k) found
-      go none h = tt
-      go (some i) h = eqb-true _ _ (both (eqb (branch_of N i) k) _ h).0
+      go None h = tt
+      go (Some i) h = eqb-true _ _ (both (eqb (branch_of N i) k) _ h).0
 
 -- ---- a swap by the rows
 module _ (n : PowerNetwork) (ok : check_records (records_of n) ≡ accepted tt) (c : NetworkConfiguration) (held : Held n c) (tie : ℕ) (l : tie < n.switch_count) (still_open : byte (state_of n c) tie ≡ 1) where
@@ -145,24 +130,23 @@ module _ (n : PowerNetwork) (ok : check_records (records_of n) ≡ accepted tt) 
       ap (λ flags. set flags (branch_of N section) false) (flags_closed N inside s long tie (omega (arith, switches_listed n)) still_open)
       ∙ flags_opened N inside (set s tie 0) (length-set s tie 0 ∙ long) section h
 
-  module _ (sized : length n.buses ≡ 256) (g : Graph) (a : g ≡ feeder_graph n) (sections : List ℕ) (q : sections ≡ sections_of N) (live : List Bool) (b : live ≡ live_flags N s) where
+  module _ (sized : length n.buses ≡ 256) (g : Graph) (a : g ≡ feeder_graph n) (sections : List (Option ℕ)) (q : sections ≡ sections_of N) (live : List Bool) (b : live ≡ live_flags N s) where
     abbrev swap_row : ℕ → Option ℕ
     swap_row = row_swap g sections c.switches (set live on (one_open N s on))
 
-    pub listed : (k : ℕ) → get_or sections k 512 ≡ section_number (section_of N k)
+    pub listed : (k : ℕ) → get_or sections k None ≡ section_of N k
     listed k = rw q (section_read N inside k)
 
     pub judged : (k section : ℕ) → section < size N → branch_of N section ≡ k → row_radial g (set (set live on (one_open N s on)) k false) ≡ radial_in N (swapped s tie section)
     judged k section h e = flags_radial n sized ok (swapped s tie section) g _ a (rw (b, ← e) (swapped_flags section h)) _ refl
 
     pub row_below : (k : ℕ) → IfSome (λ i. i < n.switch_count) (swap_row k)
-    unfolding row_swap section_number
-    row_below k = go (section_of N k) (listed k) (section_below N k)
+    unfolding row_swap row_swap_with
+    row_below k = rw (listed k) (go (section_of N k) (section_below N k))
       where
-        go : (found : Option ℕ) → get_or sections k 512 ≡ section_number found → IfSome (λ i. i < size N) found → IfSome (λ i. i < n.switch_count) (swap_row k)
-        go none e h = rw e tt
-        go (some section) e h =
+        go : (found : Option ℕ) → IfSome (λ i. i < size N) found → IfSome (λ i. i < n.switch_count) (row_swap_with g c.switches (set live on (one_open N s on)) k found)
+        go None h = tt
+        go (Some section) h =
             let below : section < n.switch_count = omega (arith, switches_listed n) in
-            rw e
-            (cond_holds (λ i. i < n.switch_count) (ltb section 512 && (eqb (get_or c.switches section 0) 0 && row_radial g (set (set live on (one_open N s on)) k false))) (some section) none
-            (λ t. below) tt)
+            cond_holds (λ i. i < n.switch_count) (eqb (get_or c.switches section 1) 0 && row_radial g (set (set live on (one_open N s on)) k false)) (Some section) None
+            (λ t. below) tt

@@ -1,6 +1,6 @@
 -- Document 01's exhaustive search, step by step.
 use Rattle.std.specs.Prelude.{Bool, true, cond, not, ◌&&◌, ℕ, suc, ◌/◌, ◌%◌, ◌^◌, eqb, Float}
-use Rattle.std.proofs.Math.Option.{Option, none, some}
+use Rattle.std.specs.Prelude.{Option, None, Some}
 use Rattle.numbers.specs.UpTo.{up_to, table}
 use Rattle.numbers.specs.Counts.{count}
 use Rattle.network.specs.declared.switch.ReconfigAlgorithm.TheVariants as method
@@ -47,7 +47,7 @@ with_loss N t = record { state = t; loss = loss_in N t }
 
 -- before the first mask
 abbrev pub no_mask : Exhaustive
-no_mask = record { least = none; radial_count = 0 }
+no_mask = record { least = None; radial_count = 0 }
 
 -- a radial state more
 abbrev pub with_radial : Exhaustive → Least → Exhaustive
@@ -63,8 +63,8 @@ exhaustive N = up_to (try_mask N) no_mask (2 ^ tie_count N)
 
 -- "with none, the base"
 unfoldable pub least_or_base : Network → Option Least → Least
-least_or_base N none = with_loss N (base_state N)
-least_or_base N (some x) = x
+least_or_base N None = with_loss N (base_state N)
+least_or_base N (Some x) = x
 
 -- "the count is the radial states"; "It converged"
 unfoldable pub exhaustive_best : Network → Best

@@ -3,7 +3,7 @@ use Rattle.std.specs.Prelude.{◌≡◌, Bool, ◌&&◌, ℕ, ◌<◌, ◌^◌}
 use Rattle.std.proofs.Math.Path.{refl}
 use Rattle.std.proofs.Common.{sym, ◌∙◌}
 use Rattle.std.proofs.Math.Bool.{true, false, not}
-use Rattle.std.proofs.Math.Option.{Option, none, some}
+use Rattle.std.specs.Prelude.{Option, None, Some}
 use Rattle.numbers.specs.Counts.{count}
 use Rattle.numbers.specs.TableLaws.{length_table, get_or_table}
 use Rattle.numbers.specs.UpTo.{up_to_keeps}
@@ -57,8 +57,8 @@ module _ (N : Network) where
       try m x h false e = rw e h
 
       or_base : (found : Option Least) → IfSome Closes found → Closes (least_or_base N found)
-      or_base none h = record { good = base_good N; more = λ k l. l; radial = λ r. r; loses = refl }
-      or_base (some b) h = h
+      or_base None h = record { good = base_good N; more = λ k l. l; radial = λ r. r; loses = refl }
+      or_base (Some b) h = h
 
   pub exhaustive_sound : SoundBest N (exhaustive_best N)
   unfolding exhaustive_best

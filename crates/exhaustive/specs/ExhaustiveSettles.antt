@@ -5,7 +5,7 @@ use Rattle.std.proofs.Math.Path.{refl, sym}
 use Rattle.std.proofs.Common.{◌∙◌, inl, arith, pow_pos}
 use Rattle.std.proofs.Math.Logic.{inr}
 use Rattle.std.proofs.Math.Bool.{true, false, not}
-use Rattle.std.proofs.Math.Option.{none, some}
+use Rattle.std.specs.Prelude.{None, Some}
 use Rattle.std.proofs.Math.Nat.{zero-div}
 use Rattle.numbers.specs.Counts.{count}
 use Rattle.numbers.specs.TableLaws.{as_table}
@@ -41,7 +41,7 @@ module _ (N : Network) where
 
     -- after mask 0 the least is the base's
     BaseLeast : ℕ → Exhaustive → Type 0
-    BaseLeast n x = ((n ≡ 0) × (x.least ≡ none)) ⊎ (x.least ≡ some (with_loss N (base_state N)))
+    BaseLeast n x = ((n ≡ 0) × (x.least ≡ None)) ⊎ (x.least ≡ Some (with_loss N (base_state N)))
 
     pub exhaustive_of_radial : least_or_base N (exhaustive N).least ≡ with_loss N (base_state N)
     unfolding exhaustive try_mask lesser_by least_or_base BaseLeast

@@ -28,6 +28,7 @@ use Rattle.states.specs.Switches.{State, byte, branch_of, size, switch, is_tie}
 use Rattle.exhaustive.specs.declared.exhaustive.Ties.{Ties}
 use Rattle.searches.specs.LiveFlags.{on_flagged, flags_opened}
 use Rattle.exhaustive.specs.Exhaustive.{bit, tie_count, masked_byte, masked}
+use Rattle.exhaustive.specs.ExhaustiveMasks.{tie_behind, section_behind}
 use Rattle.exhaustive.specs.ExhaustiveValues.{tie_at, ties_of, opening, opened_by}
 
 -- ---- a tie opened or left closed, by the bits of the mask that are left
@@ -79,9 +80,6 @@ module _ (N : Network) where
     tie_position : tie_at N (count (is_tie N) i) ≡ i
     tie_position = those_at (is_tie N) (size N) i l tie
 
-    tie_behind : count (is_tie N) (i + 1) ≡ count (is_tie N) i + 1
-    tie_behind = ap (count (is_tie N)) (add-one i) ∙ count_yes (is_tie N) i tie ∙ sym (add-one (count (is_tie N) i))
-
     pub tie_room : tie_count N ≤ 10 → count (is_tie N) i < 10
     tie_room few = omega (arith, counted_before (is_tie N) (size N) i l tie)
 
@@ -91,7 +89,7 @@ module _ (N : Network) where
     tie_listed few held e on p =
         let c = count (is_tie N) i in
         let a = ap (set (filled (λ j. branch_of N (tie_at N j)) 0 10 c) c) (p ∙ sym (ap (branch_of N) tie_position)) ∙ filled_more (λ j. branch_of N (tie_at N j)) 0 10 c few in
-        rw (e, tie_behind, a)
+        rw (e, tie_behind N i tie, a)
 
     -- what is read of it behind the others
     on_read : (t : ℕ) → t ≤ 10 → count (is_tie N) i < t → get_or (ties_of N t).on (count (is_tie N) i) 0 ≡ branch_of N i
@@ -99,7 +97,7 @@ module _ (N : Network) where
     on_read t few k = get_or_table _ 10 (count (is_tie N) i) 0 (omega arith) ∙ rw (lt-ltb (count (is_tie N) i) t k, tie_position)
 
   pub section_skipped : (i : ℕ) → is_tie N i ≡ false → (held : Ties) → held ≡ ties_of N (count (is_tie N) i) → held ≡ ties_of N (count (is_tie N) (i + 1))
-  section_skipped i f held e = e ∙ ap (ties_of N) (sym (ap (count (is_tie N)) (add-one i) ∙ count_no (is_tie N) i f))
+  section_skipped i f held e = e ∙ ap (ties_of N) (sym (section_behind N i f))
 
   -- ---- the live branches of a mask
   -- every switch closed

@@ -1,6 +1,8 @@
 -- The values by which the code holds the ties, the live branches of a mask, and where the exhaustive search stands.
-use Rattle.std.specs.Prelude.{Bool, true, false, cond, List, ℕ, get_or, set}
-use Rattle.std.proofs.Math.Option.{Option, none, some}
+use Rattle.std.specs.Prelude.{Bool, true, false, cond, List, ℕ, Float, get_or, set}
+use Rattle.std.specs.Prelude.{Option, None, Some}
+use Rattle.std.specs.Option.{option_map}
+use Rattle.std.specs.Float.Ieee.{lt}
 use Rattle.numbers.specs.Choose.{those}
 use Rattle.numbers.specs.TableLaws.{filled}
 use Rattle.numbers.specs.UpTo.{up_to}
@@ -10,8 +12,9 @@ use Rattle.states.specs.Configuration.{configuration_of}
 use Rattle.network.specs.Records.{Network}
 use Rattle.states.specs.Switches.{branch_of, size, is_tie}
 use Rattle.exhaustive.specs.declared.exhaustive.ExhaustiveSearch.{ExhaustiveSearch}
+use Rattle.exhaustive.specs.declared.exhaustive.LeastState.{LeastState}
 use Rattle.exhaustive.specs.declared.exhaustive.Ties.{Ties}
-use Rattle.exhaustive.specs.Exhaustive.{bit, Least, Exhaustive, least_or_base}
+use Rattle.exhaustive.specs.Exhaustive.{bit, Least, Exhaustive}
 
 -- ---- ties
 -- the position of the t-th tie among the switches
@@ -31,15 +34,18 @@ opened_by ties mask live = up_to (opening ties mask) live ties.count
 
 -- ---- where the search stands
 
-abbrev pub is_some : Option Least → Bool
-is_some none = false
-is_some (some b) = true
+-- a state with its loss
+abbrev pub least_of : Least → LeastState
+least_of b = record { configuration = configuration_of b.state; loss = b.loss }
 
--- the least so far; where none was found, the base with its loss
-unfoldable pub exhaustive_of : Network → Exhaustive → ExhaustiveSearch
-exhaustive_of N x =
-    let b = least_or_base N x.least in
-    record { found = is_some x.least; configuration = configuration_of b.state; loss = b.loss; radial_count = x.radial_count }
+-- the least so far, and how many radial states there were. Where none was found, `least_or_base` takes the base with its loss
+unfoldable pub exhaustive_of : Exhaustive → ExhaustiveSearch
+exhaustive_of x = record { least = option_map least_of x.least; radial_count = x.radial_count }
+
+-- is a radial state with this loss the least so far
+abbrev pub is_least : Option LeastState → Float → Bool
+is_least None loss = true
+is_least (Some b) loss = lt loss b.loss
 
 -- the feeder with method 02 in its head, as the code has it
 abbrev pub exhaustive_head : PowerNetwork → PowerNetwork
@@ -54,6 +60,5 @@ exhaustive_head n =
       base_mva = n.base_mva;
       algorithm = method.Exhaustive;
       max_iterations = n.max_iterations;
-      has_supply = n.has_supply;
       supply = n.supply;
     }

@@ -1,44 +1,75 @@
 // Translated and changed from src/network/reconfiguration.rs of oxigrid. Copyright 2024-2026 COOLJAPAN OU (Team Kitasan), Apache License 2.0.
 // Document 01's exhaustive search. `exhaustive_masks` goes through the masks of the source's `enumerate_radial_configs` and keeps the least radial state,
 // where the source makes a list of the radial ones first.
-ghost use Rattle.std.specs.Prelude.{◌≡◌, true, cond, not, ◌&&◌, ◌||◌, ℕ, ◌+◌, ◌<◌, ◌≤◌, ◌/◌, ◌%◌, ◌^◌, eqb, get_or, set};
-ghost use Rattle.std.specs.Float.Ieee.{lt};
-ghost use Rattle.network.specs.Answers.{accepted};
+ghost use Rattle.std.specs.Prelude.{◌≡◌, true, cond, Some, ℕ, ◌+◌, ◌<◌, ◌≤◌, ◌^◌, get_or, length, set};
+ghost use Rattle.network.specs.Answers.{accepted, answer_of, valued};
 ghost use Rattle.network.specs.Check.{check_records};
 ghost use Rattle.states.specs.Configuration.{configuration_of};
-ghost use Rattle.states.specs.Live.{state_byte, base_state};
 ghost use Rattle.network.specs.Records.{Network, records_of};
 ghost use Rattle.feeders.specs.Feeder.{radial_in};
 ghost use Rattle.feeders.specs.FeederRows.{live_flags};
-ghost use Rattle.states.specs.Switches.{State};
-ghost use Rattle.feeders.specs.Supply.{check_network};
-ghost use Rattle.searches.specs.Results.{solved_by, solve_answer_of};
-ghost use Rattle.searches.specs.SearchValues.{start_of, found_of};
-ghost use Rattle.searches.specs.Given.{Given, Base};
-ghost use Rattle.exhaustive.specs.Exhaustive.{tie_count, masked, Exhaustive, no_mask, with_radial, try_mask, exhaustive, exhaustive_best, as_exhaustive};
-ghost use Rattle.exhaustive.specs.ExhaustiveValues.{ties_of, opened_by, exhaustive_of, exhaustive_head};
+ghost use Rattle.searches.specs.Results.{result_of, solved_by};
+ghost use Rattle.searches.specs.SearchValues.{found_of};
+ghost use Rattle.searches.specs.Given.{Started};
+ghost use Rattle.exhaustive.specs.Exhaustive.{tie_count, masked, Exhaustive, Least, no_mask, with_radial, try_mask, exhaustive, exhaustive_best, as_exhaustive};
+ghost use Rattle.exhaustive.specs.ExhaustiveValues.{ties_of, opened_by, is_least, least_of, exhaustive_of, exhaustive_head};
 
 use bfs::radial::is_radial;
-use graph::rows::Graph;
-use losses::loads::{Loads, live_loss};
-use network::error::Verdict;
+use losses::loads::live_loss;
+use network::error::Refusal;
 use network::switch::{ReconfigAlgorithm, Switch};
 use network::topology::PowerNetwork;
-use numbers::wide16;
-use searches::answer::{Found, SolveAnswer, answer_with, check_search};
+use searches::answer::{Found, ReconfigResult, answer_with, check_search};
 use searches::start::{Start, start_of};
 use states::configuration::{NetworkConfiguration, live_branches};
 
-// The least radial state so far with its loss, the base with its loss where none was found yet, and how many radial states there were.
+// A state with its loss.
 #[derive(Clone, Copy)]
-struct ExhaustiveSearch {
-    found: bool,
+struct LeastState {
     configuration: NetworkConfiguration,
     loss: f64,
+}
+
+// The least radial state so far, where one was found yet, and how many radial states there were.
+#[derive(Clone, Copy)]
+struct ExhaustiveSearch {
+    least: Option<LeastState>,
     radial_count: u16,
 }
 
-// The ties in list order: how many there are, and the branch of each.
+impl ExhaustiveSearch {
+    // Before the first mask.
+    #[tactic(auto, unfolding(crate::specs::ExhaustiveValues::exhaustive_of))]
+    fn new() -> ExhaustiveSearch
+        ensures { result ≡ exhaustive_of no_mask }
+    {
+        ExhaustiveSearch {
+            least: None,
+            radial_count: 0,
+        }
+    }
+
+    // Is a radial state with this loss the least so far: the first, or strictly below the least before it?
+    fn is_least(self, loss: f64) -> bool
+        ensures { result ≡ is_least self.least loss }
+    {
+        self.least.is_none_or(|least| loss < least.loss)
+    }
+
+    // One radial state more: it is counted, and kept where it is the least.
+    fn with_radial(mut self, state: LeastState) -> ExhaustiveSearch
+        requires { self.radial_count < 65535 }
+        ensures { (x : Exhaustive) (b : Least) → self ≡ exhaustive_of x → state ≡ least_of b → result ≡ exhaustive_of (with_radial x b) }
+    {
+        self.radial_count += 1;
+        if self.is_least(state.loss) {
+            self.least = Some(state);
+        }
+        self
+    }
+}
+
+// The ties in list order: how many there are, and the branch of each. An array with a count, since there is no heap; the other entries are 0.
 #[derive(Clone, Copy)]
 struct Ties {
     count: usize,
@@ -64,9 +95,8 @@ impl Ties {
           on = set self.on self.count on;
         } }
     {
-        let at = self.count;
-        self.on[at] = on;
-        self.count = at + 1;
+        self.on[self.count] = on;
+        self.count += 1;
         self
     }
 }
@@ -78,43 +108,19 @@ fn is_tie(switch: Switch) -> bool
     switch.normally_open
 }
 
-// The byte of a switch, with the bits of a mask that are left: the lowest closes a tie, and a section is closed.
-fn masked_byte(tie: bool, rest: u16) -> u8
-    ensures { result ≡ state_byte (tie && not (eqb (rest % 2) 1)) }
-{
-    if tie {
-        if rest % 2 == 1 {
-            return NetworkConfiguration::CLOSED;
-        }
-        return NetworkConfiguration::OPEN;
-    }
-    NetworkConfiguration::CLOSED
-}
-
-// The bits of a mask that are left behind a switch: a tie takes the lowest.
-fn bits_left(tie: bool, rest: u16) -> u16
-    ensures { result ≡ cond tie (rest / 2) rest }
-{
-    if tie {
-        return rest / 2;
-    }
-    rest
-}
-
-// The state of a mask: bit i closes the i-th tie.
+// The state of a mask: bit i closes the i-th tie. A tie takes the lowest bit of those that are left; a section is closed.
 fn masked(network: PowerNetwork, mask: u16) -> NetworkConfiguration
     requires { network.switch_count ≤ 512 }
     ensures { result ≡ configuration_of (masked (records_of network) mask) }
 {
-    let count = wide16(network.switch_count);
+    let count = usize::from(network.switch_count);
     let mut configuration = NetworkConfiguration::new();
     let mut rest = mask;
-    let mut i = 0usize;
-    while i < count {
-        let tie = is_tie(network.switches[i]);
-        configuration.switches[i] = masked_byte(tie, rest);
-        rest = bits_left(tie, rest);
-        i += 1;
+    for (i, switch) in network.switches[..count].iter().enumerate() {
+        if is_tie(*switch) {
+            configuration.switches[i] = u8::from(rest & 1 == 0);
+            rest >>= 1;
+        }
     }
     configuration
 }
@@ -124,15 +130,12 @@ fn find_ties(network: PowerNetwork) -> Ties
     requires { (check_records (records_of network) ≡ accepted tt) × (tie_count (records_of network) ≤ 10) }
     ensures { result ≡ ties_of (records_of network) (tie_count (records_of network)) }
 {
-    let count = wide16(network.switch_count);
+    let count = usize::from(network.switch_count);
     let mut ties = Ties::new();
-    let mut i = 0usize;
-    while i < count {
-        let switch = network.switches[i];
-        if is_tie(switch) {
+    for switch in &network.switches[..count] {
+        if is_tie(*switch) {
             ties = ties.with(switch.branch_idx);
         }
-        i += 1;
     }
     ties
 }
@@ -149,14 +152,12 @@ fn masked_live(
 {
     let mut live = closed_live;
     let mut rest = mask;
-    let mut t = 0usize;
-    while t < ties.count {
-        let on = wide16(ties.on[t]);
-        if rest % 2 == 0 {
+    for branch in &ties.on[..ties.count] {
+        let on = usize::from(*branch);
+        if rest & 1 == 0 {
             live[on] = false;
         }
-        rest = rest / 2;
-        t += 1;
+        rest >>= 1;
     }
     live
 }
@@ -169,57 +170,26 @@ fn count_masks(ties: usize) -> u16
     1u16 << ties
 }
 
-// Is a radial state with this loss the least so far: the first, or strictly below the least before it?
-fn is_least(search: ExhaustiveSearch, loss: f64) -> bool
-    ensures { result ≡ (not search.found || lt loss search.loss) }
+// The base with its loss.
+fn base_of(start: &Start) -> LeastState
+    ensures { result ≡ record {
+      configuration = start.now.base;
+      loss = start.now.loss;
+    } }
 {
-    if search.found {
-        return loss < search.loss;
-    }
-    true
-}
-
-// One radial state more: it is counted, and kept where it is the least.
-fn with_radial(
-    search: ExhaustiveSearch,
-    configuration: NetworkConfiguration,
-    loss: f64,
-) -> ExhaustiveSearch
-    requires { search.radial_count < 65535 }
-    ensures { (N : Network) (x : Exhaustive) (s : State) → search ≡ exhaustive_of N x → configuration ≡ configuration_of s
-        → result ≡ exhaustive_of N (with_radial x (record { state = s; loss = loss })) }
-{
-    let radial_count = search.radial_count + 1;
-    let least = search.configuration;
-    if is_least(search, loss) {
-        return ExhaustiveSearch {
-            found: true,
-            configuration,
-            loss,
-            radial_count,
-        };
-    }
-    ExhaustiveSearch {
-        found: true,
-        configuration: least,
-        loss: search.loss,
-        radial_count,
+    LeastState {
+        configuration: start.base,
+        loss: start.loss,
     }
 }
 
 // After mask 0, which leaves the base as it is.
-fn with_base(base: NetworkConfiguration, base_radial: bool, base_loss: f64) -> ExhaustiveSearch
-    ensures { (n : PowerNetwork) → Base n base base_loss → base_radial ≡ radial_in (records_of n) (base_state (records_of n))
-        → result ≡ exhaustive_of (records_of n) (try_mask (records_of n) no_mask 0) }
+fn with_base(start: &Start) -> ExhaustiveSearch
+    ensures { (n : PowerNetwork) → length n.buses ≡ 256 → Started n start.now → result ≡ exhaustive_of (try_mask (records_of n) no_mask 0) }
 {
-    let none = ExhaustiveSearch {
-        found: false,
-        configuration: base,
-        loss: base_loss,
-        radial_count: 0,
-    };
-    if base_radial {
-        return with_radial(none, base, base_loss);
+    let none = ExhaustiveSearch::new();
+    if start.radial {
+        return none.with_radial(base_of(start));
     }
     none
 }
@@ -227,110 +197,89 @@ fn with_base(base: NetworkConfiguration, base_radial: bool, base_loss: f64) -> E
 // One mask more, whose state is radial.
 fn with_mask(
     network: PowerNetwork,
-    graph: Graph,
-    loads: Loads,
+    start: &Start,
     search: ExhaustiveSearch,
     live: [bool; PowerNetwork::MAX_BRANCHES],
     mask: u16,
 ) -> ExhaustiveSearch
-    requires { Given network graph loads × (search.radial_count < 65535) × (live ≡ live_flags (records_of network) (masked (records_of network) mask))
+    requires { Started network start.now × (search.radial_count < 65535) × (live ≡ live_flags (records_of network) (masked (records_of network) mask))
         × (radial_in (records_of network) (masked (records_of network) mask) ≡ true) }
-    ensures { (x : Exhaustive) → search ≡ exhaustive_of (records_of network) x → result ≡ exhaustive_of (records_of network) (try_mask (records_of network) x mask) }
+    ensures { (x : Exhaustive) → search ≡ exhaustive_of x → result ≡ exhaustive_of (try_mask (records_of network) x mask) }
 {
-    let branches = network.branches;
-    let loss = live_loss(graph, loads, branches, network.base_mva, live);
-    with_radial(search, masked(network, mask), loss)
+    let loss = live_loss(
+        start.graph,
+        start.loads,
+        network.branches,
+        network.base_mva,
+        live,
+    );
+    let configuration = masked(network, mask);
+    search.with_radial(LeastState {
+        configuration,
+        loss,
+    })
 }
 
 // Document 01's exhaustive search, by rising masks. Their live branches follow from those with every switch closed: only a radial mask has its state made and
 // its loss taken.
-fn exhaustive_masks(
-    network: PowerNetwork,
-    graph: Graph,
-    loads: Loads,
-    base: NetworkConfiguration,
-    base_radial: bool,
-    base_loss: f64,
-) -> ExhaustiveSearch
-    requires { Given network graph loads × Base network base base_loss
-        × (base_radial ≡ radial_in (records_of network) (base_state (records_of network))) × (network.algorithm ≡ ReconfigAlgorithm.Exhaustive) }
-    ensures { result ≡ exhaustive_of (records_of network) (exhaustive (records_of network)) }
+fn exhaustive_masks(network: PowerNetwork, start: &Start) -> ExhaustiveSearch
+    requires { Started network start.now × (network.algorithm ≡ ReconfigAlgorithm.Exhaustive) }
+    ensures { result ≡ exhaustive_of (exhaustive (records_of network)) }
 {
     let closed_live = live_branches(network, NetworkConfiguration::new());
     let ties = find_ties(network);
-    let masks = count_masks(ties.count);
-    let mut search = with_base(base, base_radial, base_loss);
-    let mut mask = 1u16;
-    while mask < masks {
+    let mut search = with_base(start);
+    for mask in 1..count_masks(ties.count) {
         let live = masked_live(closed_live, ties, mask);
-        if is_radial(graph, live) {
-            search = with_mask(network, graph, loads, search, live, mask);
+        if is_radial(start.graph, live) {
+            search = with_mask(network, start, search, live, mask);
         }
-        mask += 1;
     }
     search
 }
 
-// What the exhaustive search finds: it counts the radial states, and it converged.
-fn search(network: PowerNetwork, start: Start) -> Found
-    requires { (check_network (records_of network) ≡ accepted tt) × (start ≡ start_of network) × (network.algorithm ≡ ReconfigAlgorithm.Exhaustive) }
+// What the exhaustive search finds, the base where no mask is radial: it counts the radial states, and it converged.
+fn search(network: PowerNetwork, start: &Start) -> Found
+    requires { Started network start.now × (network.algorithm ≡ ReconfigAlgorithm.Exhaustive) }
     ensures { result ≡ found_of (records_of network) (exhaustive_best (records_of network)) }
 {
-    let graph = start.graph;
-    let loads = start.loads;
-    let base = start.base;
-    let done = exhaustive_masks(network, graph, loads, base, start.radial, start.loss);
-    let configuration = done.configuration;
+    let done = exhaustive_masks(network, start);
+    let best = done.least.unwrap_or(base_of(start));
     Found {
-        configuration,
-        loss: done.loss,
+        configuration: best.configuration,
+        loss: best.loss,
         iterations: done.radial_count,
         converged: true,
     }
 }
 
 // The exhaustive search of a feeder that asks for it: so it has at most ten ties.
-fn solve_as_exhaustive(network: PowerNetwork, out: &mut [u8]) -> SolveAnswer
+fn solve_as_exhaustive(network: PowerNetwork, out: &mut [u8]) -> Result<ReconfigResult, Refusal>
     requires { network.algorithm ≡ ReconfigAlgorithm.Exhaustive }
-    ensures { record { answer = solve_answer_of result; out = out.new } ≡ solved_by exhaustive_best (records_of network) out.old }
+    ensures { record { answer = valued result_of (answer_of result); out = out.new } ≡ solved_by exhaustive_best (records_of network) out.old }
 {
-    if let Verdict::Refused { number, place } = check_search(network, out.len()) {
-        return SolveAnswer::Refused { number, place };
-    }
+    check_search(network, out.len())?;
     let start = start_of(network);
-    answer_with(network, start, search(network, start), out)
+    Ok(answer_with(network, start, search(network, &start), out))
 }
 
 // The feeder with method 02 in its head.
 fn as_exhaustive(network: PowerNetwork) -> PowerNetwork
     ensures { result ≡ exhaustive_head network }
 {
-    let buses = network.buses;
-    let branches = network.branches;
-    let switches = network.switches;
     PowerNetwork {
-        buses,
-        branches,
-        switches,
-        bus_count: network.bus_count,
-        branch_count: network.branch_count,
-        switch_count: network.switch_count,
-        base_mva: network.base_mva,
         algorithm: ReconfigAlgorithm::Exhaustive,
-        max_iterations: network.max_iterations,
-        has_supply: network.has_supply,
-        supply: network.supply,
+        ..network
     }
 }
 
 // Document 01's exhaustive search of a feeder, whichever search its head asks for: the best state's bytes at the front of the slice, and the result.
 // The feeder is tested as one that asks for this search, which wants at most ten ties: one that does is handed on as it is, and only of another a copy is made.
-pub fn exhaustive_solve(network: PowerNetwork, out: &mut [u8]) -> SolveAnswer
-    ensures { record { answer = solve_answer_of result; out = out.new }
+pub fn exhaustive_solve(network: PowerNetwork, out: &mut [u8]) -> Result<ReconfigResult, Refusal>
+    ensures { record { answer = valued result_of (answer_of result); out = out.new }
         ≡ solved_by exhaustive_best (as_exhaustive (records_of network)) out.old }
 {
-    let algorithm = network.algorithm;
-    if let ReconfigAlgorithm::Exhaustive = algorithm {
+    if network.algorithm == ReconfigAlgorithm::Exhaustive {
         return solve_as_exhaustive(network, out);
     }
     solve_as_exhaustive(as_exhaustive(network), out)

@@ -1,13 +1,8 @@
 -- What the code of the supply's test finds decides as `check_supply_line` does: no bus with the id, or one, and then the base.
-use mathlib.Core.Path.{◌≡◌, sym, ap, ◌∙◌}
-use mathlib.Core.Bool.{Bool, true, false}
-use mathlib.Core.List.{map}
-use Prim.Native.Nat.{ℕ, ◌+◌}
-use native.Mathlib.Omega.{arith}
-use lib.ListN.{length, take}
+use Rattle.std.specs.Prelude.{◌≡◌, refl, Bool, true, false, map, ℕ, ◌+◌, Option, None, Some, length, take}
+use Rattle.std.specs.Option.{is_some}
+use Rattle.std.proofs.Common.{sym, ap, ◌∙◌, arith}
 use Rattle.numbers.specs.Choose.{among}
-use Rattle.network.specs.declared.topology.BusIndex.{BusIndex}
-use Rattle.network.specs.declared.topology.BusIndex.TheVariants.{At, NotFound}
 use Rattle.network.specs.declared.topology.PowerNetwork.{PowerNetwork}
 use Rattle.network.specs.Records.{Network, records_of}
 use Rattle.network.specs.Answers.{accepted, refused, judge}
@@ -17,38 +12,40 @@ use Rattle.network.specs.Lookups.{bus_index}
 use Rattle.network.specs.LookupLaws.{listed_buses}
 use Rattle.states.specs.Listed.{buses_listed, branches_listed, switches_listed, few_buses}
 use Rattle.states.specs.Live.{base_state}
-use Rattle.feeders.specs.BusFound.{is_found, index_among}
+use Rattle.feeders.specs.BusFound.{index_among}
 use Rattle.feeders.specs.Feeder.{radial_in}
 use Rattle.feeders.specs.Supply.{left_if, supply_faults, check_supply_line}
-use Rattle.feeders.specs.SupplyLaws.{base_alone, unsupplied, supply_judged, value_supplied, value_unsupplied}
+use Rattle.feeders.specs.SupplyLaws.{base_alone, unsupplied, supply_judged, value_supply}
 
-module _ (stored : Bool) (n : PowerNetwork) (sized : length n.buses ≡ 256) (ok : check_records (records_of n) ≡ accepted tt) (named : n.has_supply ≡ true) where
+module _ (stored : Bool) (n : PowerNetwork) (sized : length n.buses ≡ 256) (ok : check_records (records_of n) ≡ accepted tt) {id : ℕ} (named : n.supply ≡ Some id) where
   abbrev N : Network
   N = records_of n
 
-  found_among : {r : BusIndex} → r ≡ bus_index (take n.bus_count n.buses) n.supply → among n.supply (map bus_id N.buses) ≡ is_found r
-  found_among e = sym (ap is_found e ∙ ap (λ l. is_found (bus_index l n.supply)) (listed_buses n (omega (arith, few_buses n ok))) ∙ index_among N.buses n.supply)
+  abbrev line : ℕ
+  line = 2 + n.bus_count + n.branch_count + n.switch_count
 
-  judged_here : check_supply_line stored N ≡ judge (supply_faults stored N.buses N.branches N.switches n.supply) (2 + n.bus_count + n.branch_count + n.switch_count)
+  judged_here : check_supply_line stored N ≡ judge (supply_faults stored N.buses N.branches N.switches id) line
   judged_here =
-      let here : 2 + length N.buses + length N.branches + length N.switches ≡ 2 + n.bus_count + n.branch_count + n.switch_count
-      = omega (arith, buses_listed n, branches_listed n, switches_listed n) in
-      supply_judged stored N n.supply (value_supplied n named) ∙ ap (judge _) here
+      let here : 2 + length N.buses + length N.branches + length N.switches ≡ line = omega (arith, buses_listed n, branches_listed n, switches_listed n) in
+      supply_judged stored N id (value_supply n ∙ named) ∙ ap (judge _) here
 
-  pub bus_missing : {r : BusIndex} → r ≡ bus_index (take n.bus_count n.buses) n.supply → r ≡ NotFound
-      → refused 14 (2 + n.bus_count + n.branch_count + n.switch_count) ≡ check_supply_line stored N
-  unfolding supply_faults judge
-  bus_missing e f = sym (judged_here ∙ rw (found_among e ∙ ap is_found f))
+  module _ {found : Option ℕ} (e : found ≡ bus_index (take n.bus_count n.buses) id) where
+    found_among : among id (map bus_id N.buses) ≡ is_some found
+    found_among = sym (ap is_some e ∙ ap (λ l. is_some (bus_index l id)) (listed_buses n (omega (arith, few_buses n ok))) ∙ index_among N.buses id)
 
-  module _ {r : BusIndex} {i : ℕ} (e : r ≡ bus_index (take n.bus_count n.buses) n.supply) (f : r ≡ At i) where
-    pub base_passes : radial_in (left_if stored N) (base_state (left_if stored N)) ≡ true → accepted tt ≡ check_supply_line stored N
+    pub bus_missing : is_some found ≡ false → refused 14 line ≡ check_supply_line stored N
     unfolding supply_faults judge
-    base_passes t = sym (judged_here ∙ rw (found_among e ∙ ap is_found f, base_alone stored N ∙ t))
+    bus_missing f = sym (judged_here ∙ rw (found_among ∙ f) refl)
 
-    pub base_fails : radial_in (left_if stored N) (base_state (left_if stored N)) ≡ false → refused 15 (2 + n.bus_count + n.branch_count + n.switch_count) ≡ check_supply_line stored N
-    unfolding supply_faults judge
-    base_fails t = sym (judged_here ∙ rw (found_among e ∙ ap is_found f, base_alone stored N ∙ t))
+    module _ (f : is_some found ≡ true) where
+      pub base_passes : radial_in (left_if stored N) (base_state (left_if stored N)) ≡ true → accepted tt ≡ check_supply_line stored N
+      unfolding supply_faults judge
+      base_passes t = sym (judged_here ∙ rw (found_among ∙ f, base_alone stored N ∙ t) refl)
+
+      pub base_fails : radial_in (left_if stored N) (base_state (left_if stored N)) ≡ false → refused 15 line ≡ check_supply_line stored N
+      unfolding supply_faults judge
+      base_fails t = sym (judged_here ∙ rw (found_among ∙ f, base_alone stored N ∙ t) refl)
 
 -- without a supply the records decide
-pub records_decide : (stored : Bool) (n : PowerNetwork) → n.has_supply ≡ false → accepted tt ≡ check_supply_line stored (records_of n)
-records_decide stored n e = sym (unsupplied stored (records_of n) (value_unsupplied n e))
+pub records_decide : (stored : Bool) (n : PowerNetwork) → n.supply ≡ None → accepted tt ≡ check_supply_line stored (records_of n)
+records_decide stored n e = sym (unsupplied stored (records_of n) (value_supply n ∙ e))

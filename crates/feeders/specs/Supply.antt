@@ -1,6 +1,6 @@
 -- Document 02: the optional line that names the supply bus, its refusals 14 and 15, and with it the first test of every call; and the same of a stored text, Point 7.
 use Rattle.std.specs.Prelude.{Bool, true, false, cond, not, List, [], ◌∷◌, map, ℕ, ◌+◌}
-use Rattle.std.proofs.Math.Option.{Option, none, some}
+use Rattle.std.specs.Prelude.{Option, None, Some}
 use Rattle.numbers.specs.Choose.{among}
 use Rattle.numbers.specs.Constants.{zero64}
 use Rattle.network.specs.declared.bus.Bus.{Bus}
@@ -18,7 +18,7 @@ use Rattle.feeders.specs.Feeder.{radial_in}
 -- these buses, branches and switches alone: what a base is, and whether it is radial, is settled by them
 abbrev pub records_alone : List Bus → List Branch → List Switch → Network
 records_alone buses branches switches =
-    record { base = zero64; algorithm = BranchExchange; iterations = 0; buses = buses; branches = branches; switches = switches; supply = none }
+    record { base = zero64; algorithm = BranchExchange; iterations = 0; buses = buses; branches = branches; switches = switches; supply = None }
 
 -- the records whose base is judged: "judges 15 after the dropping", where the text is a stored one
 abbrev pub left_if : Bool → Network → Network
@@ -33,8 +33,8 @@ supply_faults stored buses branches switches id = (14 if not (among id (map bus_
 
 -- "One optional last line": the ids that it gives, one or none
 abbrev pub supplies : Option ℕ → List ℕ
-supplies none = []
-supplies (some id) = id ∷ []
+supplies None = []
+supplies (Some id) = id ∷ []
 
 -- "both at the 05 line", which stands behind those of the switches as they are listed: "its place the old line"
 unfoldable pub check_supply_line : Bool → Network → Judgement

@@ -4,7 +4,7 @@ use Rattle.std.specs.Prelude.{◌≡◌, ◌↔◌, Bool, map, ℕ, ◌+◌, len
 use Rattle.std.proofs.Math.Path.{refl, sym}
 use Rattle.std.proofs.Common.{ap, ◌∙◌, true≢false}
 use Rattle.std.proofs.Math.Bool.{true, false, not}
-use Rattle.std.proofs.Math.Option.{Option, none, some}
+use Rattle.std.specs.Prelude.{Option, None, Some}
 use borrow.Author.Tests.{not-false}
 use Rattle.numbers.specs.Choose.{among}
 use Rattle.numbers.specs.ChooseLaws.{among_mem, mem_among}
@@ -40,17 +40,17 @@ module _ (stored : Bool) (N : Network) where
       go false = refl
 
   -- ---- the supply's own line
-  pub unsupplied : N.supply ≡ none → check_supply_line stored N ≡ accepted tt
+  pub unsupplied : N.supply ≡ None → check_supply_line stored N ≡ accepted tt
   unfolding check_supply_line check_run
   unsupplied e = rw e
 
   -- 14 and 15 are judged where the line stands
-  pub supply_judged : (id : ℕ) → N.supply ≡ some id
+  pub supply_judged : (id : ℕ) → N.supply ≡ Some id
       → check_supply_line stored N ≡ judge (supply_faults stored N.buses N.branches N.switches id) (2 + length N.buses + length N.branches + length N.switches)
   unfolding check_supply_line check_run head_of
   supply_judged id e = rw e (then_nothing _)
 
-  supply_iff : (id : ℕ) → N.supply ≡ some id
+  supply_iff : (id : ℕ) → N.supply ≡ Some id
       → (check_supply_line stored N ≡ accepted tt) ↔ ((among id (map bus_id N.buses) ≡ true) × (radial_in (left_if stored N) (base_state (left_if stored N)) ≡ true))
   unfolding supply_faults
   supply_iff id e = (
@@ -94,8 +94,8 @@ module _ (stored : Bool) (N : Network) where
           )
 
       right : Inside N → Supplied (left_if stored N) → (z : Option ℕ) → N.supply ≡ z → check_supply_line stored N ≡ accepted tt
-      right i s none e = unsupplied e
-      right i s (some id) e =
+      right i s None e = unsupplied e
+      right i s (Some id) e =
           let h = s id (same_supply ∙ e) in
           (supply_iff id e).1 (mem_among id _ (rw same_buses at h.0), (inside_radial_tree (left_if stored N) (left_if_inside i) _).1 h.1)
 
@@ -128,15 +128,10 @@ module _ (N : Network) where
     unfolding check_network check_as check_supply
     network_supply = ((then_iff (check_lines false N) (check_supply_line false N)).0 ok).1
 
-    pub base_radial_lem : (id : ℕ) → N.supply ≡ some id → radial_in N (base_state N) ≡ true
+    pub base_radial_lem : (id : ℕ) → N.supply ≡ Some id → radial_in N (base_state N) ≡ true
     base_radial_lem id named = (inside_radial_tree N (network_inside.0 ok).0 (base_state N)).1 ((network_inside.0 ok).2 id named).1
 
 -- ---- a value's supply
-module _ (n : PowerNetwork) where
-  pub value_supplied : n.has_supply ≡ true → (records_of n).supply ≡ some n.supply
-  unfolding records_of
-  value_supplied e = rw e
-
-  pub value_unsupplied : n.has_supply ≡ false → (records_of n).supply ≡ none
-  unfolding records_of
-  value_unsupplied e = rw e
+pub value_supply : (n : PowerNetwork) → (records_of n).supply ≡ n.supply
+unfolding records_of
+value_supply n = refl

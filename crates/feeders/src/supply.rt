@@ -10,8 +10,8 @@ ghost use Rattle.feeders.specs.Supply.{left_if, check_as, check_network, check_s
 use crate::feeder::graph_of;
 use bfs::radial::is_radial;
 use checks::check::check;
-use network::error::Verdict;
-use network::topology::{BusIndex, PowerNetwork};
+use network::error::Refusal;
+use network::topology::PowerNetwork;
 use own_loops::dropping::without_own_loops;
 use states::configuration::{build_base_configuration, live_branches};
 
@@ -37,35 +37,35 @@ fn base_is_radial(network: PowerNetwork) -> bool
 
 // The test of a text's records, stored or not: the records; then, where a supply is named, refusals 14 and 15 at the line behind those of the records. The base is looked at only if the bus is listed. The network is
 // copied behind the test for a supply: handed on as it came, it would be copied at every call, with a supply or without.
-pub fn check_as(network: PowerNetwork, stored: bool) -> Verdict
+pub fn check_as(network: PowerNetwork, stored: bool) -> Result<(), Refusal>
     ensures { answer_of result ≡ check_as stored (records_of network) }
 {
-    if let Verdict::Refused { number, place } = check(network, stored) {
-        return Verdict::Refused { number, place };
-    }
-    if !network.has_supply {
-        return Verdict::Accepted;
-    }
-    let place = 2 + network.bus_count + network.branch_count + network.switch_count;
-    let fed = network;
-    let BusIndex::At(_) = fed.bus_index(network.supply) else {
-        return Verdict::Refused { number: 14, place };
+    check(network, stored)?;
+    let Some(supply) = network.supply else {
+        return Ok(());
     };
-    if base_is_radial(left_if(fed, stored)) {
-        return Verdict::Accepted;
+    let line = 2 + network.bus_count + network.branch_count + network.switch_count;
+    let fed = network;
+    if fed.bus_index(supply).is_none() {
+        return Err(Refusal::SupplyNotListed { line });
     }
-    Verdict::Refused { number: 15, place }
+    if !base_is_radial(left_if(fed, stored)) {
+        return Err(Refusal::SupplyNotRadial { line });
+    }
+    Ok(())
 }
 
 // What every call tests first.
-pub fn check_network(network: PowerNetwork) -> Verdict
+#[tactic(auto, unfolding(crate::specs::Supply::check_network))]
+pub fn check_network(network: PowerNetwork) -> Result<(), Refusal>
     ensures { answer_of result ≡ check_network (records_of network) }
 {
     check_as(network, false)
 }
 
 // The same of a stored text: branches from a bus to itself pass, and 15 is judged of what is left without them, at the place of the supply's line as it stands.
-pub fn check_stored(network: PowerNetwork) -> Verdict
+#[tactic(auto, unfolding(crate::specs::Supply::check_stored))]
+pub fn check_stored(network: PowerNetwork) -> Result<(), Refusal>
     ensures { answer_of result ≡ check_stored (records_of network) }
 {
     check_as(network, true)

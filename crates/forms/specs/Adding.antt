@@ -1,31 +1,18 @@
 -- What the labels and the counts hold once the first k branches are added.
-use Rattle.std.specs.Prelude.{◌≡◌, Bool, cond, List, ℕ, ltb}
-use Rattle.std.proofs.Math.Option.{Option, none, some}
+use Rattle.std.specs.Prelude.{◌≡◌, Bool, ℕ}
 use Rattle.numbers.specs.Choose.{least}
 use Rattle.numbers.specs.Counts.{count}
 use Rattle.numbers.specs.UpTo.{table}
 use Rattle.graph.specs.Graph.{Net}
 use Rattle.graph.specs.Form.{label, closes, links}
+use Rattle.forms.specs.declared.form.Added.{Added}
 
--- the position of no branch
-abbrev pub no_closing : ℕ
-no_closing = 512
-
--- a branch that closes, as a number
-abbrev pub closing_number : Option ℕ → ℕ
-closing_number none = no_closing
-closing_number (some k) = k
-
--- and back
-unfoldable pub closing_of : ℕ → Option ℕ
-closing_of k = cond (ltb k no_closing) (some k) none
-
-pub record Adding (N : Net) (E : ℕ → Bool) (k : ℕ) (labels : List ℕ) (closing links' : ℕ) : Type 0 where
-  pub labelled : labels ≡ table (label N E k) 256
-  pub first : closing ≡ closing_number (least (closes N E) k)
-  pub linked : links' ≡ count (links N E) k
+pub record Adding (N : Net) (E : ℕ → Bool) (k : ℕ) (added : Added) : Type 0 where
+  pub labelled : added.label ≡ table (label N E k) 256
+  pub first : added.closing ≡ least (closes N E) k
+  pub linked : added.links ≡ count (links N E) k
 
 -- once all are added
-pub record AllAdded (N : Net) (E : ℕ → Bool) (closing links' : ℕ) : Type 0 where
-  pub first : closing ≡ closing_number (least (closes N E) N.branches)
-  pub linked : links' ≡ count (links N E) N.branches
+pub record AllAdded (N : Net) (E : ℕ → Bool) (added : Added) : Type 0 where
+  pub first : added.closing ≡ least (closes N E) N.branches
+  pub linked : added.links ≡ count (links N E) N.branches

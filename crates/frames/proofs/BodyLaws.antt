@@ -1,94 +1,113 @@
 -- The lines behind the head line, kind after kind: a pass that stops ends it; where all stop nowhere, what follows the last line decides.
-use mathlib.Core.Path.{◌≡◌, sym, ap, ◌∙◌}
-use mathlib.Core.List.{List, []}
-use Prim.Native.Nat.{ℕ, ◌+◌}
-use lib.ListN.{drop}
+use mathlib.Core.Path.{◌≡◌, refl, ap, ◌∙◌}
+use mathlib.Core.List.{List, [], ◌++◌}
+use Prim.Native.Nat.{ℕ, ◌+◌, ◌≤◌}
+use native.Mathlib.Omega.{arith}
+use lib.ListN.{length, take, drop}
+use Rattle.std.proofs.Common.{Result, Ok, Err}
+use Rattle.network.specs.declared.bus.Bus.{Bus}
 use Rattle.network.specs.declared.branch.Branch.{Branch}
-use Rattle.network.specs.declared.error.Verdict.{Verdict}
-use Rattle.network.specs.declared.error.Verdict.TheVariants.{Accepted, Refused}
+use Rattle.network.specs.declared.switch.Switch.{Switch}
+use Rattle.network.specs.declared.error.Refusal.{Refusal}
 use Rattle.network.specs.declared.topology.PowerNetwork.{PowerNetwork}
-use Rattle.network.specs.Answers.{answer_of, ◌and_then◌}
-use Rattle.network.specs.Records.{network_of, empty_network}
+use Rattle.network.specs.Answers.{refused, answer_of, number_of, place_of, ◌and_then◌}
+use Rattle.network.specs.Records.{no_bus, no_branch, no_switch, network_of, empty_network}
 use Rattle.network.specs.Limits.{Head}
 use Rattle.frames.specs.declared.pass.Pass as Code
 use Rattle.lines.specs.Lines.{Line, cut}
-use Rattle.record_lines.specs.Kinds.{without}
-use Rattle.frames.specs.Text.{read_end, as_option, supply_place}
-use Rattle.frames.specs.ReaderLaws.{network}
-use Rattle.frames.specs.Passes.{Pass, halted, onward, after, pass_buses, pass_branches, pass_switches, pass_supply, branches_read, switches_read, collect}
-use Rattle.frames.specs.FrameReads.{with_buses, with_branches, with_switches, with_supply, IsPass, AreRecords, IsCollected}
+use Rattle.lines.specs.FirstLine.{judge_end}
+use Rattle.record_lines.specs.Kinds.{bus, branch, switch, bus_from, branch_from, switch_from, bus_bytes, branch_bytes, switch_bytes}
+use Rattle.frames.specs.Text.{as_option, supply_place}
+use Rattle.frames.specs.ReaderLaws.{end_judged}
+use Rattle.frames.specs.Passes.{Pass, pass_run, halted, onward, after, pass_buses, pass_branches, pass_switches, pass_supply, collect}
+use Rattle.frames.specs.FrameReads.{with_supply, IsNext, IsRead, AreRecords, IsCollected}
+use Rattle.frames.proofs.StoreLaws.{IsHeld, kind_held}
 
--- ---- no record of a kind is listed before its lines are read
-pub no_buses_lem : {n : PowerNetwork} (h : Head) → n ≡ empty_network h.base h.algorithm h.iterations → n ≡ with_buses n []
-unfolding with_buses network_of
-no_buses_lem h e = rw e
+-- ---- no record is listed before its lines are read, and then they stand first in their array
+module _ (n : PowerNetwork) (h : Head) (e : n ≡ empty_network h.base h.algorithm h.iterations) (text : List ℕ) (k at : ℕ) (r : Code.Pass) where
+  pub buses_held : k ≡ h.buses → h.buses ≤ 256 → (new : List Bus) → length new ≡ length (take k n.buses)
+      → IsRead text (pass_run bus bus_from bus_bytes (length (take k n.buses)) 2 (cut (drop at text))) (take k n.buses) new r
+      → IsHeld 256 no_bus text (pass_buses h (cut (drop at text))) (new ++ drop k n.buses) r
+  unfolding network_of
+  buses_held q few = kind_held 256 no_bus n.buses k (ap (λ (x : PowerNetwork). x.buses) e) (omega arith) bus bus_from bus_bytes h.buses 2 q text (cut (drop at text)) r
+
+  pub branches_held : k ≡ h.branches → h.branches ≤ 512 → (new : List Branch) → length new ≡ length (take k n.branches)
+      → IsRead text (pass_run branch branch_from branch_bytes (length (take k n.branches)) (2 + h.buses) (cut (drop at text))) (take k n.branches) new r
+      → IsHeld 512 no_branch text (pass_branches h (cut (drop at text))) (new ++ drop k n.branches) r
+  unfolding network_of
+  branches_held q few = kind_held 512 no_branch n.branches k (ap (λ (x : PowerNetwork). x.branches) e) (omega arith) branch branch_from branch_bytes h.branches (2 + h.buses) q text (cut (drop at text)) r
+
+  pub switches_held : k ≡ h.switches → h.switches ≤ 512 → (new : List Switch) → length new ≡ length (take k n.switches)
+      → IsRead text (pass_run switch switch_from switch_bytes (length (take k n.switches)) (2 + h.buses + h.branches) (cut (drop at text))) (take k n.switches) new r
+      → IsHeld 512 no_switch text (pass_switches h (cut (drop at text))) (new ++ drop k n.switches) r
+  unfolding network_of
+  switches_held q few = kind_held 512 no_switch n.switches k (ap (λ (x : PowerNetwork). x.switches) e) (omega arith) switch switch_from switch_bytes h.switches (2 + h.buses + h.branches) q text (cut (drop at text)) r
+
+-- ---- where a pass of lines leads
+module _ {A B C : Type 0} {store : List A → B} {text : List ℕ} {pass : Pass A} {stored : B} {r : Result ℕ Refusal} (i : IsNext store text pass stored r)
+    (more : List Line → Pass C) where
+  pub goes_on : {at : ℕ} → r ≡ Ok at → (at ≤ length text) × (after pass more ≡ more (cut (drop at text)))
+  unfolding onward
+  goes_on q = let o = rw q at i.next in (o.0, rw (o.2, ← o.1))
+
+  pub ends : {x : Refusal} → r ≡ Err x → after pass more ≡ halted [] pass.left (number_of x) (place_of x)
+  unfolding onward
+  ends q = let o = rw q at i.next in rw (← o)
 
 module _ (h : Head) (text : List ℕ) where
   abbrev lines : List Line
   lines = cut (drop 37 text)
 
   -- ---- the buses, branches and switches
-  module _ (empty : PowerNetwork) (new : empty ≡ empty_network h.base h.algorithm h.iterations)
-      (b : Code.Pass) (pb : IsPass (with_buses empty) text (pass_buses h lines) b) where
-    pub no_branches : b.network ≡ with_branches b.network []
-    unfolding with_buses with_branches network_of
-    no_branches = rw (pb.network, new)
+  module _ (n : PowerNetwork) (new : n ≡ empty_network h.base h.algorithm h.iterations) (buses : List Bus) (b : Code.Pass) (pb : IsHeld 256 no_bus text (pass_buses h lines) buses b) where
+    abbrev with_buses : PowerNetwork
+    with_buses = record n { buses = buses; bus_count = b.read }
 
-    pub buses_stop : {n p : ℕ} → b.stopped ≡ Refused n p → AreRecords h text b
-    unfolding onward with_buses network_of as_option
-    buses_stop {n} {p} e =
-        let s = sym pb.stopped ∙ ap answer_of e in
-        let none : branches_read h lines ≡ halted [] (pass_buses h lines).left n p = rw s in
-        let stored = ap (λ (r : Pass Branch). network_of (network h (pass_buses h lines).records r.records [] [])) none in
-        rw s (record { network = pb.network ∙ (rw new) ∙ sym stored; within = pb.within; left = pb.left; stopped = ap answer_of e })
+    pub buses_stop : {x : Refusal} → b.next ≡ Err x → AreRecords h text with_buses (Err x)
+    unfolding onward network_of as_option
+    buses_stop q =
+        let stops = ends pb.lines (pass_branches h) q in
+        rw stops (record { records = rw (stops, new, pb.lines.records, pb.count); next = refl })
 
-    module _ (on : b.stopped ≡ Accepted) (r : Code.Pass) (pr : IsPass (with_branches b.network) text (pass_branches h (cut (drop b.at text))) r) where
-      pub no_switches : r.network ≡ with_switches r.network []
-      unfolding with_buses with_branches with_switches network_of
-      no_switches = rw (pr.network, pb.network, new)
+    module _ {at : ℕ} (on : b.next ≡ Ok at) (branches : List Branch) (r : Code.Pass) (pr : IsHeld 512 no_branch text (pass_branches h (cut (drop at text))) branches r) where
+      abbrev with_branches : PowerNetwork
+      with_branches = record with_buses { branches = branches; branch_count = r.read }
 
-      branches_read_lem : IsPass (with_branches b.network) text (branches_read h lines) r
-      unfolding onward
-      branches_read_lem = rw (sym pb.stopped ∙ ap answer_of on, ← pb.left) pr
+      pub branches_stop : {x : Refusal} → r.next ≡ Err x → AreRecords h text with_branches (Err x)
+      unfolding onward network_of as_option
+      branches_stop q =
+          let on = (goes_on pb.lines (pass_branches h) on).1 in
+          rw (on, ends pr.lines (pass_switches h) q) (record { records = rw (on, new, pb.lines.records, pb.count, pr.lines.records, pr.count); next = refl })
 
-      pub branches_stop : {n p : ℕ} → r.stopped ≡ Refused n p → AreRecords h text r
-      unfolding onward with_buses with_branches network_of as_option
-      branches_stop e =
-          let q = branches_read_lem in
-          rw (sym q.stopped ∙ ap answer_of e) (record { network = q.network ∙ rw (pb.network, new); within = q.within; left = q.left; stopped = ap answer_of e })
-
-      module _ (on' : r.stopped ≡ Accepted) (s : Code.Pass) (ps : IsPass (with_switches r.network) text (pass_switches h (cut (drop r.at text))) s) where
-        pub switches_read_lem : AreRecords h text s
-        unfolding onward with_buses with_branches with_switches network_of as_option
-        switches_read_lem =
-            let q = branches_read_lem in
-            rw (sym q.stopped ∙ ap answer_of on', ← q.left)
-            (record { network = ps.network ∙ rw (q.network, pb.network, new); within = ps.within; left = ps.left; stopped = ps.stopped })
+      pub switches_read_lem : {at' : ℕ} → r.next ≡ Ok at' → (switches : List Switch) (s : Code.Pass) → IsHeld 512 no_switch text (pass_switches h (cut (drop at' text))) switches s
+          → AreRecords h text (record with_branches { switches = switches; switch_count = s.read }) s.next
+      unfolding onward network_of as_option
+      switches_read_lem on' switches s ps =
+          let on = (goes_on pb.lines (pass_branches h) on).1 in
+          rw (on, (goes_on pr.lines (pass_switches h) on').1)
+          (record { records = rw (on, new, pb.lines.records, pb.count, pr.lines.records, pr.count, ps.lines.records, ps.count); next = ps.lines.next })
 
   -- ---- behind the switches
-  module _ (s : Code.Pass) (ps : AreRecords h text s) where
-    pub no_supply : s.network ≡ with_supply s.network []
+  module _ (n : PowerNetwork) (r : Result ℕ Refusal) (pr : AreRecords h text n r) where
+    pub no_supply : n ≡ with_supply n []
     unfolding with_supply network_of as_option
-    no_supply = rw ps.network
+    no_supply = rw pr.records
 
-    pub records_stop : {n p : ℕ} → s.stopped ≡ Refused n p → IsCollected (collect h lines) s
+    pub records_stop : {x : Refusal} → r ≡ Err x → {v : Result (Unit {0}) Refusal} → answer_of v ≡ refused (number_of x) (place_of x) → IsCollected (collect h lines) n v
     unfolding collect onward ◌and_then◌
-    records_stop e = rw (sym ps.stopped ∙ ap answer_of e) (record { network = ps.network; stopped = ap answer_of e })
+    records_stop q e = rw (ends pr (pass_supply (supply_place h)) q) (record { network = pr.records; stopped = e })
 
-    module _ (on : s.stopped ≡ Accepted) (z : Code.Pass) (pz : IsPass (with_supply s.network) text (pass_supply (supply_place h) (cut (drop s.at text))) z) where
-      abbrev supply_behind : List ℕ → PowerNetwork
-      supply_behind ids = network_of (network h (pass_buses h lines).records (branches_read h lines).records (switches_read h lines).records ids)
+    module _ {at : ℕ} (on : r ≡ Ok at) (m : PowerNetwork) (z : Result ℕ Refusal) (pz : IsNext (with_supply n) text (pass_supply (supply_place h) (cut (drop at text))) m z) where
+      pub supply_stops : {x : Refusal} → z ≡ Err x → {v : Result (Unit {0}) Refusal} → answer_of v ≡ refused (number_of x) (place_of x) → IsCollected (collect h lines) m v
+      unfolding collect onward with_supply network_of ◌and_then◌
+      supply_stops q e =
+          let on = (goes_on pr (pass_supply (supply_place h)) on).1 in
+          let o = rw q at pz.next in
+          rw on (record { network = pz.records ∙ rw pr.records; stopped = rw (← o) e })
 
-      supply_read : IsPass supply_behind text (after (switches_read h lines) (pass_supply (supply_place h))) z
-      unfolding onward with_supply network_of
-      supply_read =
-          rw (sym ps.stopped ∙ ap answer_of on, ← ps.left) (record { network = pz.network ∙ rw ps.network; within = pz.within; left = pz.left; stopped = pz.stopped })
-
-      pub supply_stops : {n p : ℕ} → z.stopped ≡ Refused n p → IsCollected (collect h lines) z
-      unfolding collect ◌and_then◌
-      supply_stops e = let q = supply_read in rw (sym q.stopped ∙ ap answer_of e) (record { network = q.network; stopped = ap answer_of e })
-
-      pub all_read : {v : Verdict} → z.stopped ≡ Accepted → answer_of v ≡ without (read_end (supply_place h + 1) (cut (drop z.at text)))
-          → IsCollected (collect h lines) (record { network = z.network; at = z.at; stopped = v })
-      unfolding collect ◌and_then◌
-      all_read e f = let q = supply_read in rw (sym q.stopped ∙ ap answer_of e, ← q.left) (record { network = q.network; stopped = f })
+      pub all_read : {at' : ℕ} → z ≡ Ok at' → {v : Result (Unit {0}) Refusal} → answer_of v ≡ judge_end (supply_place h + 1) (cut (drop at' text)) → IsCollected (collect h lines) m v
+      unfolding collect onward with_supply network_of ◌and_then◌
+      all_read q e =
+          let on = (goes_on pr (pass_supply (supply_place h)) on).1 in
+          let o = rw q at pz.next in
+          rw on (record { network = pz.records ∙ rw pr.records; stopped = rw (o.2, ← o.1) (e ∙ end_judged _ _) })

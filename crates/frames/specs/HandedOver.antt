@@ -1,5 +1,5 @@
 -- Records handed over: what a value's fields say of the records that it lists. Beyond its arrays these are zeros.
-use Rattle.std.specs.Prelude.{Bool, true, false, List, [], ◌∷◌}
+use Rattle.std.specs.Prelude.{List, [], ◌∷◌}
 use Prim.Native.Nat.{ℕ, zero, suc}
 use Rattle.std.proofs.Common.{lit<}
 use Rattle.std.specs.Float.Ieee.{of_bits, fits}
@@ -7,7 +7,7 @@ use Rattle.std.proofs.Math.ListN.{get_or}
 use Rattle.numbers.specs.UpTo.{table}
 use Rattle.numbers.specs.TableLaws.{length_table}
 use Rattle.network.specs.declared.topology.PowerNetwork.{PowerNetwork}
-use Rattle.network.specs.Records.{no_bus, no_branch, no_switch, supply_of, records_of}
+use Rattle.network.specs.Records.{no_bus, no_branch, no_switch, records_of}
 use Rattle.network.specs.Check.{head_of}
 use Rattle.network.specs.Inside.{Each}
 use Rattle.network.specs.EachLaws.{each_anywhere, each_append}
@@ -22,7 +22,7 @@ pub record Typed (n : PowerNetwork) : Type 0 where
   pub buses : Each BusRoom n.buses
   pub branches : Each BranchRoom n.branches
   pub switches : Each SwitchRoom n.switches
-  pub supply : Short n.supply
+  pub supply : Each Short (supplies n.supply)
 
 -- where nothing is listed stand zeros
 no_bus_room : BusRoom no_bus
@@ -42,10 +42,6 @@ module _ {A : Type 0} (P : A → Type 0) (none : A) (p : P none) where
   each_listed l h zero = tt
   each_listed l h (suc n) = each_append P (table (λ i. get_or l i none) n) (get_or l n none ∷ []) (each_listed l h n) (each_anywhere P l none h p n, tt)
 
-supply_named : (b : Bool) (id : ℕ) → Short id → Each Short (supplies (supply_of b id))
-supply_named true id h = (h, tt)
-supply_named false id h = tt
-
 pub typed_writable : (n : PowerNetwork) → Typed n → Writable (records_of n)
 unfolding records_of head_of
 typed_writable n t = record {
@@ -53,5 +49,5 @@ typed_writable n t = record {
   bus_room = each_listed BusRoom no_bus no_bus_room n.buses t.buses n.bus_count;
   branch_room = each_listed BranchRoom no_branch no_branch_room n.branches t.branches n.branch_count;
   switch_room = each_listed SwitchRoom no_switch no_switch_room n.switches t.switches n.switch_count;
-  supply_room = supply_named n.has_supply n.supply t.supply;
+  supply_room = t.supply;
 }

@@ -20,6 +20,5 @@ pub mod Claim
 pub mod Proof
 pub mod StoredClaim
 pub mod StoredProof
-pub mod Reading
 pub mod ReadingLaws
 pub mod FrameReads

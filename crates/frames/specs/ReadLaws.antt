@@ -5,7 +5,7 @@ use Rattle.std.proofs.Math.Path.{refl, ap, subst}
 use Rattle.std.proofs.Common.{sym, ap₂, ◌∙◌, le_of_eq, arith}
 use Rattle.std.proofs.lemmas.Bool.{false≢true, not-false}
 use mathlib.Core.List.{List, [], ◌∷◌, ◌++◌, map, flat_map, append-nil, append_assoc}
-use Rattle.std.proofs.Math.Option.{Option, none, some}
+use Rattle.std.specs.Prelude.{Option, None, Some}
 use Prim.Native.Nat.{ℕ, zero, suc, ◌+◌, ◌≤◌}
 use Rattle.network.specs.declared.bus.Bus.{Bus}
 use Rattle.network.specs.declared.branch.Branch.{Branch}
@@ -142,13 +142,13 @@ one_supply (l ∷ ls) (id ∷ id' ∷ ids) h = absurd (omega arith)
 
 first_supply : (z : Option ℕ) → as_option (supplies z) ≡ z
 unfolding as_option
-first_supply none = refl
-first_supply (some id) = refl
+first_supply None = refl
+first_supply (Some id) = refl
 
 lines_left : (z : Option ℕ) → at_most_one (map (record_line supply_kind) (supplies z)) ≡ length (supplies z)
 unfolding at_most_one
-lines_left none = refl
-lines_left (some id) = refl
+lines_left None = refl
+lines_left (Some id) = refl
 
 -- ---- the lines of a network
 lines_of : Network → List Line

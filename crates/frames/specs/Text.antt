@@ -1,6 +1,6 @@
 -- Document 01's frame text, with document 02's last line: the reader takes its lines, kind after kind, and what a text means, a new one or a stored one (document 02, Point 7).
 use Rattle.std.specs.Prelude.{Bool, true, false, List, [], ◌∷◌, ◌++◌, ℕ, zero, suc, ◌+◌}
-use Rattle.std.proofs.Math.Option.{Option, none, some}
+use Rattle.std.specs.Prelude.{Option, None, Some}
 use Rattle.network.specs.declared.bus.Bus.{Bus}
 use Rattle.network.specs.declared.branch.Branch.{Branch}
 use Rattle.network.specs.declared.switch.Switch.{Switch}
@@ -47,8 +47,8 @@ at_most_one (l ∷ ls) = 1
 
 -- the supply that a run of at most one line gives
 unfoldable pub as_option : List ℕ → Option ℕ
-as_option [] = none
-as_option (id ∷ ids) = some id
+as_option [] = None
+as_option (id ∷ ids) = Some id
 
 -- refusals of the line behind 1 and 2: "14, bus not listed; 15, base not radial"
 abbrev pub supply_line_faults : Bool → List Bus → List Branch → List Switch → Fields supply.widths → List Fault

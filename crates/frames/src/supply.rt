@@ -2,40 +2,27 @@
 ghost use Rattle.std.specs.Prelude.{◌≡◌, [], ◌≤◌, length, drop};
 ghost use Rattle.lines.specs.Lines.{cut};
 ghost use Rattle.frames.specs.Passes.{pass_supply};
-ghost use Rattle.frames.specs.FrameReads.{with_supply, IsPass};
+ghost use Rattle.frames.specs.FrameReads.{with_supply, IsNext};
 
-use crate::pass::Pass;
-use network::error::Verdict;
+use network::error::Refusal;
 use network::topology::PowerNetwork;
-use record_lines::supply::{SIZE, SupplyRead, supply_line};
+use record_lines::record::{Record, read_line};
+use record_lines::supply::Supply;
 
-// The line at `start` and `place`, if a line is left there.
-pub(crate) fn read_supply(text: &[u8], listed: PowerNetwork, start: usize, place: u16) -> Pass
-    requires { (start ≤ length text.now) × (listed ≡ with_supply listed []) }
-    ensures { IsPass (with_supply listed) text.now (pass_supply place (cut (drop start text.now))) result }
+// The line at `at` and `place`, if a line is left there. Where the next one begins.
+pub(crate) fn read_supply(
+    text: &[u8],
+    at: usize,
+    place: u16,
+    network: &mut PowerNetwork,
+) -> Result<usize, Refusal>
+    requires { (at ≤ length text.now) × (network.old ≡ with_supply network.old []) }
+    ensures { IsNext (with_supply network.old) text.now (pass_supply place (cut (drop at text.now))) network.new result }
 {
-    let mut network = listed;
-    if start == text.len() {
-        return Pass {
-            network,
-            at: start,
-            stopped: Verdict::Accepted,
-        };
+    if at == text.len() {
+        return Ok(at);
     }
-    match supply_line(text, start, place) {
-        SupplyRead::Made(id) => {
-            network.has_supply = true;
-            network.supply = id;
-            Pass {
-                network,
-                at: start + (SIZE + 1),
-                stopped: Verdict::Accepted,
-            }
-        }
-        SupplyRead::Refused { number, place } => Pass {
-            network,
-            at: start,
-            stopped: Verdict::Refused { number, place },
-        },
-    }
+    let Supply(id) = read_line(text, at, place)?;
+    network.supply = Some(id);
+    Ok(at + (Supply::SIZE + 1))
 }

@@ -1,3 +1,2 @@
 pub mod ArrayLengths
 pub mod Building
-pub mod FormCases

@@ -1,7 +1,7 @@
 -- What the live branches of a feeder are: radial, or what instead (document 02, point 5). Live branches are added by rising position: one whose ends the ones
 -- before it have joined closes a loop, any other makes one piece of two.
 use Rattle.std.specs.Prelude.{Bool, true, false, cond, not, ◌&&◌, List, ℕ, zero, suc, ◌+◌, ◌-◌, ◌*◌, eqb}
-use Rattle.std.proofs.Math.Option.{Option, none, some}
+use Rattle.std.specs.Prelude.{Option, None, Some}
 use Rattle.numbers.specs.Choose.{least}
 use Rattle.numbers.specs.Counts.{count}
 use Rattle.graph.specs.declared.form.Form.{Form}
@@ -35,8 +35,8 @@ islands N E = (N.buses - 1) - count (links N E) N.branches
 
 -- "A loop goes before islands, and then the count comes with it"
 abbrev pub instead : Option ℕ → ℕ → Form
-instead (some k) i = forms.Loop k i
-instead none i = forms.Islands i
+instead (Some k) i = forms.Loop k i
+instead None i = forms.Islands i
 
 -- what branches are that are no tree: "the first branch that closes one", if any does
 abbrev pub other_form : Net → (ℕ → Bool) → Form

@@ -5,7 +5,7 @@ use Rattle.std.proofs.Common.{◌∙◌, inl, inr, arith}
 use Rattle.std.proofs.Math.Bool.{true, false, true≢false}
 use mathlib.Core.List.Memᴰ
 use mathlib.Core.List.{List, [], ◌∷◌, Memᴰ}
-use Rattle.std.proofs.Math.Option.{Option, none, some}
+use Rattle.std.specs.Prelude.{Option, None, Some}
 use Prim.Native.Nat.{ℕ, suc, ◌-◌, ◌≤◌, ◌<◌}
 use Rattle.std.proofs.Math.Decide.{ℕ_discrete}
 use borrow.Author.Tests.{eq-eqb, eqb-true}
@@ -32,8 +32,8 @@ use Rattle.graph.specs.RadialLaws.{no_buses_lem, radial_tree}
 
 -- ---- the reading
 no_tree : (first : Option ℕ) (i : ℕ) → is_tree (instead first i) ≡ false
-no_tree none i = refl
-no_tree (some k) i = refl
+no_tree None i = refl
+no_tree (Some k) i = refl
 
 tree_or_not : (N : Net) (E : ℕ → Bool) (b : Bool) → is_tree (cond b forms.Tree (other_form N E)) ≡ b
 tree_or_not N E true = refl
@@ -52,8 +52,8 @@ row_tree_reading g live = tree_or_not (row_net g) (flag live) (row_radial g live
 -- ---- the fields of the frame 84 have four digits
 instead_small : (first : Option ℕ) {n : ℕ} → IfSome (λ k. k < n) first → n ≤ 512 → (i : ℕ) → i < 0x10000
     → (islands_field (instead first i) < 0x10000) × (branch_field (instead first i) < 0x10000)
-instead_small none h l i small = (small, omega arith)
-instead_small (some k) h l i small = (small, omega arith)
+instead_small None h l i small = (small, omega arith)
+instead_small (Some k) h l i small = (small, omega arith)
 
 pub fields_small : (N : Net) (E : ℕ → Bool) → N.buses ≤ 256 → N.branches ≤ 512 → (islands_field (form N E) < 0x10000) × (branch_field (form N E) < 0x10000)
 unfolding form islands
@@ -161,11 +161,11 @@ module _ (N : Net) (E : ℕ → Bool) (sound : Sound N) where
 
         go : (b : Bool) → radial N E ≡ b → Means (cond b forms.Tree (other_form N E))
         go true e = (radial_tree N E sound small).0 e
-        go false e = rest e (some (ℕ_discrete N.buses 0)) (least_cases (closes N E) m)
+        go false e = rest e (Some (ℕ_discrete N.buses 0)) (least_cases (closes N E) m)
           where
-            some : Dec (N.buses ≡ 0) → 0 < N.buses
-            some (no n) = omega arith
-            some (yes z) = absurd (true≢false (sym ((radial_tree N E sound small).1 (no_buses_lem N E sound small z)) ∙ e))
+            Some : Dec (N.buses ≡ 0) → 0 < N.buses
+            Some (no n) = omega arith
+            Some (yes z) = absurd (true≢false (sym ((radial_tree N E sound small).1 (no_buses_lem N E sound small z)) ∙ e))
 
     -- a loop is answered where there is one
     loop_answered : Loop N (Live N E) → (f : Form) → Means f → (k : ℕ) × (i : ℕ) × (f ≡ forms.Loop k i)

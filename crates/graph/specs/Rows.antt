@@ -48,6 +48,10 @@ pub record Rows : Type 0 where
 abbrev pub rows : List ℕ → List ℕ → Rows
 rows first next = record { first = first; next = next }
 
+-- the graph with these rows in place of its own
+abbrev pub with_rows : Graph → Rows → Graph
+with_rows g r = record g { first = r.first; next = r.next }
+
 -- half-branch h is put in front of bus u's row
 unfoldable pub put_half : ℕ → ℕ → Rows → Rows
 put_half u h r = rows (set r.first u h) (set r.next h (get_or r.first u 0))

@@ -5,7 +5,7 @@ use Rattle.std.proofs.Math.Path.{refl, ap, fun_ext}
 use Rattle.std.proofs.Common.{◌∙◌, arith}
 use Rattle.std.proofs.Math.Bool.{true, false, cond}
 use mathlib.Core.List.{[], reverse}
-use Rattle.std.proofs.Math.Option.{none, some}
+use Rattle.std.specs.Prelude.{None, Some}
 use Prim.Native.Nat.{ℕ, zero, suc, ◌≤◌, ◌<◌}
 use Rattle.numbers.specs.Choose.{least, ◌or_else◌}
 use Rattle.numbers.specs.UpTo.{up_to_cong}
@@ -49,7 +49,7 @@ module _ (N M : Net) (E F : ℕ → Bool) (buses : N.buses ≡ M.buses) (branche
   unfolding least
   first_same =
       ap (least (closes N E)) branches
-      ∙ up_to_cong (λ found k. found or_else cond (closes N E k) (some k) none) (λ found k. found or_else cond (closes M F k) (some k) none) none M.branches
+      ∙ up_to_cong (λ found k. found or_else cond (closes N E k) (Some k) None) (λ found k. found or_else cond (closes M F k) (Some k) None) None M.branches
       (λ o k h. rw (closes_same k (rw branches h)))
 
   pub islands_same : islands N E ≡ islands M F

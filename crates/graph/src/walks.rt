@@ -2,7 +2,7 @@
 use crate::rows::Graph;
 
 // The buses that a walk reached, in order, and the branch by which each was reached: the first count entries, then 0. No branch leads
-// to the first bus, and 0 stands there.
+// to the first bus, and 0 stands there. Arrays with their count, and no slices: the answer holds what it found, in fixed memory.
 #[derive(Clone, Copy)]
 pub struct Walk {
     pub count: u16,
@@ -10,7 +10,7 @@ pub struct Walk {
     pub by: [u16; Graph::MAX_BUSES],
 }
 
-// The branches of a path, in order: the first count entries, then 0.
+// The branches of a path, in order: the first count entries, then 0. An array with its count for the same reason.
 #[derive(Clone, Copy)]
 pub struct PathBranches {
     pub count: u16,

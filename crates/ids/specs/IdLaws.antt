@@ -1,24 +1,23 @@
 -- An id in rows is found at its first position. The rows are made from the last position to the first: with the positions from p on in them, an id is
 -- found at its first position from p on, for a row rises, and a position that is put in stands below all others.
-use Rattle.std.specs.Prelude.{◌≡◌, Bool, true, false, ◌≢◌, List, map, ltb, take, drop, set, replicate}
+use Rattle.std.specs.Prelude.{◌≡◌, Bool, true, false, cond, ◌≢◌, List, map, ltb, take, drop, set, replicate}
 use Rattle.std.proofs.Math.Path.{refl, sym}
-use Rattle.std.proofs.Common.{ap, ◌∙◌, zero-add, length-take, get_or-set_other}
+use Rattle.std.proofs.Common.{ap, ◌∙◌, zero-add, length-take, get_or-set_other, get_or-take}
 use Prim.Native.Nat.{ℕ, zero, suc, ◌+◌, ◌-◌, ◌≤◌, ◌<◌, min}
 use Rattle.std.proofs.Math.Decide.{ℕ_discrete}
 use Rattle.std.proofs.Math.Nat.{add-zero}
 use native.Mathlib.Omega.{arith}
-use Rattle.std.proofs.Math.ListN.{length, get_or, drop_of_length-le, length-set, length-replicate, get_or-eq_default}
+use Rattle.std.proofs.Math.ListN.{length, get_or, get_or-map, drop_of_length-le, length-set, length-replicate, get_or-eq_default}
 use Rattle.std.proofs.lemmas.List.{length-map, get_or-replicate}
 use Rattle.std.proofs.Math.Seq.{get_or-set_same}
-use borrow.Author.Tests.{lt-ltb, le-ltb, eq-eqb, ne_eqb, ltb-true}
+use borrow.Author.Tests.{lt-ltb, le-ltb, eq-eqb, ne_eqb, ltb-true, ltb-false}
 use Rattle.numbers.specs.UpTo.{up_to, up_to_more, table}
-use Rattle.numbers.specs.TableLaws.{get_or_table, replicate_table, filled, filled_none, filled_more, filled_all}
+use Rattle.numbers.specs.TableLaws.{get_or_table, replicate_table, table_cong, table_set}
 use Rattle.numbers.specs.Choose.{index_of}
 use Rattle.numbers.specs.ChooseLaws.{index_here, index_behind}
 use Rattle.numbers.specs.Parts.{take_within}
 use Rattle.ids.specs.declared.rows.IdRows.{IdRows}
-use Rattle.network.specs.LookupLaws.{key_at}
-use Rattle.ids.specs.Ids.{bucket_of, id_array, rows, put_id, rows_from, rows_of, id_rows, seek, position_of}
+use Rattle.ids.specs.Ids.{bucket_of, id_array, rows, no_rows, put_at, put_id, rows_from, id_rows, seek, position_of}
 
 pub bucket_small : (id : ℕ) → bucket_of id < 256
 unfolding bucket_of
@@ -189,45 +188,70 @@ position_found l short ids first next e count x c =
     let h = rw (z, ← e) at (rows_held l short (length l) (omega arith)) in
     rw c (h.finds x (length l) (omega arith) ∙ zero-add (index_of x l))
 
--- ---- the rows of the last i of n positions, in the arrays of the code
-module _ (ids : List ℕ) (n : ℕ) where
-  pub none_put : rows ids (replicate 256 512) (replicate 512 512) ≡ rows_from ids n 0
+-- the key at a position of the first n records
+key_at : {A : Type 0} (key : A → ℕ) (n : ℕ) (l : List A) (i : ℕ) (d : A) → i < n → get_or (map key (take n l)) i (key d) ≡ key (get_or l i d)
+key_at key n l i d h = get_or-map key (take n l) i d ∙ ap key (get_or-take n l i d h)
+
+-- ---- the rows of the listed ones of an array of records, put in from the last position to the first
+module _ {A : Type 0} (key : A → ℕ) (none : A) (plain : key none ≡ 0) (l : List A) (n : ℕ) where
+  abbrev keys : List ℕ
+  keys = map key (take n l)
+
+  short : length keys ≤ n
+  short = simp (length-map, length-take) (omega arith)
+
+  -- the ids of the positions from p on
+  abbrev from_on : ℕ → List ℕ
+  from_on p = table (λ i. cond (ltb i p) 0 (get_or keys i 0)) 512
+
+  pub record Listed (p : ℕ) (r : IdRows) : Type 0 where
+    within : p ≤ n
+    ids_are : r.ids ≡ from_on p
+    rows_are : rows (id_array keys) r.first r.next ≡ rows_from (id_array keys) n (n - p)
+
+  pub none_listed : Listed n no_rows
   unfolding rows_from up_to
-  none_put = refl
+  none_listed =
+      let z : n - n ≡ 0 = omega arith in
+      record {
+        within = omega arith;
+        ids_are = replicate_table 0 512 ∙ table_cong _ _ 512 (λ i h. unlisted i (ltb i n) refl);
+        rows_are = rw z;
+      }
+    where
+      unlisted : (i : ℕ) (b : Bool) → ltb i n ≡ b → 0 ≡ cond b 0 (get_or keys i 0)
+      unlisted i true e = refl
+      unlisted i false e = let h = ltb-false i n e in sym (get_or-eq_default keys 0 {n = i} (omega (arith, short)))
 
-  module _ {first next : List ℕ} (i : ℕ) (e : rows ids first next ≡ rows_from ids n i) where
-    pub one_put : (row : ℕ) → row ≡ bucket_of (get_or ids (n - 1 - i) 0)
-        → rows ids (set first row (n - 1 - i)) (set next (n - 1 - i) (get_or first row 0)) ≡ rows_from ids n (i + 1)
-    unfolding rows_from put_id
-    one_put row b = rw b (ap (put_id (n - 1 - i)) e ∙ sym (up_to_more _ _ i))
+  -- one position more
+  pub one_listed : (p : ℕ) (r : IdRows) → Listed p r → 0 < p → n ≤ 512 → Listed (p - 1) (put_at (p - 1) (key (get_or l (p - 1) none)) r)
+  unfolding rows_from put_id
+  one_listed p r d some room =
+      let h : p - 1 < n = omega (arith, d.within) in
+      let own : key (get_or l (p - 1) none) ≡ get_or keys (p - 1) 0 = sym (rw plain at (key_at key n l (p - 1) none h)) in
+      let held : get_or (id_array keys) (p - 1) 0 ≡ get_or keys (p - 1) 0 = get_or_table _ 512 (p - 1) 0 (omega arith) in
+      let i : n - (p - 1) ≡ n - p + 1 = omega arith in
+      let back : n - 1 - (n - p) ≡ p - 1 = omega arith in
+      record {
+        within = omega arith;
+        ids_are =
+            rw (own, d.ids_are)
+            (table_set _ _ 512 (p - 1) _ (omega arith) (rw (le-ltb (p - 1) (p - 1) (omega arith))) (λ j k m. ap (λ b. cond b 0 (get_or keys j 0)) (same j m)));
+        rows_are = rw (i, up_to_more, ← d.rows_are, back, held, own);
+      }
+    where
+      same : (j : ℕ) → j ≢ p - 1 → ltb j p ≡ ltb j (p - 1)
+      same j m = go (ltb j p) refl
+        where
+          go : (b : Bool) → ltb j p ≡ b → ltb j p ≡ ltb j (p - 1)
+          go true e = let h = ltb-true j p e in e ∙ sym (lt-ltb j (p - 1) (omega arith))
+          go false e = let h = ltb-false j p e in e ∙ sym (le-ltb j (p - 1) (omega arith))
 
-    pub all_put : i ≤ n → n ≤ i → rows ids first next ≡ rows_from ids n n
-    all_put a b = let f : i ≡ n = omega arith in rw f at e
-
--- ---- the ids of the first n of a list of records, in an array of the code; a record that is none has id 0
-module _ {A : Type 0} (key : A → ℕ) (none : A) (l : List A) (n : ℕ) where
-  -- of the first i
-  pub ids_filled : ℕ → List ℕ
-  ids_filled i = filled (λ j. get_or (map key (take n l)) j (key none)) (key none) 512 i
-
-  pub no_ids_lem : replicate 512 (key none) ≡ ids_filled 0
-  unfolding ids_filled
-  no_ids_lem = replicate_table (key none) 512 ∙ filled_none _ (key none) 512
-
-  module _ {ids : List ℕ} (i : ℕ) (e : ids ≡ ids_filled i) where
-    pub one_id : i < n → n ≤ 512 → set ids i (key (get_or l i none)) ≡ ids_filled (i + 1)
-    unfolding ids_filled
-    one_id h k = rw (e, ← key_at key n l i none h) (filled_more _ (key none) 512 i (omega arith))
-
-    pub all_ids : n ≤ i → ids ≡ table (λ j. get_or (map key (take n l)) j (key none)) 512
-    unfolding ids_filled
-    all_ids h = e ∙ filled_all _ (key none) 512 i (λ j a b. get_or-eq_default (map key (take n l)) (key none) {n = j} (simp (length-map, length-take) (omega arith)))
-
--- the rows of the listed records of an array
-pub rows_listed : {A : Type 0} (key : A → ℕ) (l : List A) (count n size : ℕ) (ids : List ℕ) → length l ≡ size → n ≡ min count size → ids ≡ id_array (map key (take n l))
-    → rows_of ids n ≡ id_rows (map key (take count l))
-unfolding id_rows
-rows_listed key l count n size ids e m i =
-    let long : length (map key (take count l)) ≡ n = simp (length-map, length-take) (omega arith) in
-    let listed : take n l ≡ take count l = rw (m, ← e) (take_within count l) in
-    rw (i, listed, long)
+  pub all_listed : (r : IdRows) (count size : ℕ) → length l ≡ size → n ≡ min count size → Listed 0 r → r ≡ id_rows (map key (take count l))
+  unfolding id_rows
+  all_listed r count size e m d =
+      let listed : take n l ≡ take count l = rw (m, ← e) (take_within count l) in
+      let long : length (map key (take count l)) ≡ n = simp (length-map, length-take) (omega arith) in
+      let whole : r.ids ≡ id_array keys = d.ids_are ∙ table_cong _ _ 512 (λ i h. ap (λ b. cond b 0 (get_or keys i 0)) (le-ltb i 0 (omega arith))) in
+      let z : n - 0 ≡ n = omega arith in
+      ap (λ (ids : List ℕ). rows ids r.first r.next) whole ∙ (rw z at d.rows_are) ∙ rw (long, listed)

@@ -21,6 +21,14 @@ put_id at r =
     let row = bucket_of (get_or r.ids at 0) in
     rows r.ids (set r.first row at) (set r.next at (get_or r.first row 0))
 
+-- no ids yet
+abbrev pub no_rows : IdRows
+no_rows = rows (replicate 512 0) (replicate 256 512) (replicate 512 512)
+
+-- an id at a position, put in front of its bucket's row
+abbrev pub put_at : ℕ → ℕ → IdRows → IdRows
+put_at at id r = rows (set r.ids at id) (set r.first (bucket_of id) at) (set r.next at (get_or r.first (bucket_of id) 0))
+
 -- the rows with the last i of n positions, put in from the last on
 unfoldable pub rows_from : List ℕ → ℕ → ℕ → IdRows
 rows_from ids n i = up_to (λ r j. put_id (n - 1 - j) r) (rows ids (replicate 256 512) (replicate 512 512)) i

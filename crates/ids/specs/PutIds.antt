@@ -6,7 +6,8 @@ use Rattle.std.proofs.Math.Decide.{ℕ_discrete}
 use Rattle.std.proofs.lemmas.List.{length-replicate, get_or-replicate}
 use Rattle.numbers.specs.Choose.{among}
 use Rattle.numbers.specs.ChooseLaws.{among_more}
-use Rattle.ids.specs.Ids.{bucket_of, seek, position_of}
+use Rattle.ids.specs.declared.rows.IdRows.{IdRows}
+use Rattle.ids.specs.Ids.{bucket_of, put_at, seek, position_of}
 use Rattle.ids.specs.IdLaws.{bucket_small, seek_end, seek_here, seek_on}
 
 -- what a row leads to: one of the first i positions, or none
@@ -133,6 +134,11 @@ module _ {i : ℕ} {l ids first next : List ℕ} (held : Holding i l ids first n
       nexts_more q h (no d) k =
           let e = get_or-set_other next i q (get_or first (bucket_of y) 0) 0 d in
           rw e (omega (arith, held.nexts q (omega arith) (rw e at k)))
+
+-- the same of rows into which an id was put
+pub put_held : {i : ℕ} {l : List ℕ} {r : IdRows} → Holding i l r.ids r.first r.next → i < 512 → (y : ℕ) (more : IdRows) → more ≡ put_at i y r
+    → Holding (i + 1) (l ++ (y ∷ [])) more.ids more.first more.next
+put_held held room y more e = rw e (one_held held room y)
 
 -- an id that is looked up among so many, no fewer than were put in
 pub put_before : {i : ℕ} {l ids first next : List ℕ} → Holding i l ids first next → (count x p : ℕ) → i ≤ count → p ≡ position_of ids first next count x → ltb p i ≡ among x l

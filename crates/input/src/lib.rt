@@ -1,50 +1,40 @@
 // Standard input, read by the programs, or what another reader has.
 #![tactic(auto)]
 
+ghost use Rattle.std.specs.Prelude.{IfOk, IfErr};
 ghost use Rattle.input.specs.Counts.{IsPrefixLen};
 
 use std::io::Read;
 
-// How many bytes of the input were read, and whether a read failed.
-#[derive(Clone, Copy)]
-pub struct Input {
+// A read failed, behind so many bytes.
+#[derive(Clone, Copy, Debug, PartialEq, Eq)]
+pub struct ReadFailed {
     pub count: usize,
-    pub failed: bool,
 }
 
-// One read: a count of 0 where the input ends, and where the read failed.
-fn read_some<R: Read>(reader: &mut R, room: &mut [u8]) -> Input
-    ensures { IsPrefixLen result.count room.new }
+// Reads to the input's end, or until the room is full. How much there is to read, and what, is left to the reader: a count is promised that the room has. No `for`, since
+// each read brings as many bytes as it does, and the library's `read_exact` does not say how many came before a failure.
+pub fn read_input<R: Read>(reader: &mut R, room: &mut [u8]) -> Result<usize, ReadFailed>
+    ensures read { IfOk result (λ count. IsPrefixLen count room.new) }
+    ensures failed { IfErr result (λ e. IsPrefixLen e.count room.new) }
 {
-    match reader.read(room) {
-        Ok(count) => Input {
-            count,
-            failed: false,
-        },
-        Err(_) => Input {
-            count: 0,
-            failed: true,
-        },
-    }
-}
-
-// Reads to the input's end, or until the room is full. How much there is to read, and what, is left to the reader: a count is promised that the room has.
-pub fn read_input<R: Read>(reader: &mut R, room: &mut [u8]) -> Input
-    ensures { IsPrefixLen result.count room.new }
-{
-    let mut count = 0usize;
+    let mut count = 0;
     while count < room.len() {
-        let more = read_some(reader, &mut room[count..]);
-        if more.count == 0 {
-            return Input {
-                count,
-                failed: more.failed,
-            };
+        match reader.read(&mut room[count..]) {
+            Ok(0) => break,
+            Ok(more) => count += more,
+            Err(_) => return Err(ReadFailed { count }),
         }
-        count += more.count;
     }
-    Input {
-        count,
-        failed: false,
+    Ok(count)
+}
+
+// The same for a program that goes on with what came before a failure.
+pub fn read_available<R: Read>(reader: &mut R, room: &mut [u8]) -> usize
+    ensures { IsPrefixLen result room.new }
+{
+    match read_input(reader, room) {
+        Ok(count) => count,
+        Err(failed) => failed.count,
     }
 }

@@ -3,14 +3,15 @@ use mathlib.Core.Path.{◌≡◌, refl, sym, subst}
 use mathlib.Core.Bool.{Bool, true, false, cond}
 use mathlib.Core.List.{List, [], ◌∷◌}
 use mathlib.Core.Logic.{◌⊎◌, inl, inr}
-use Prim.Native.Nat.{ℕ, zero, suc, ◌-◌, ◌≤◌, min}
+use Prim.Native.Nat.{ℕ, zero, suc, ◌≤◌, min}
 use native.Mathlib.Omega.{arith}
+use Rattle.std.proofs.Math.Nat.{min_comm}
 use lib.Dec.{eqb}
-use lib.ListN.{length, take, drop, get_or}
+use lib.ListN.{length, take, get_or}
 use borrow.Author.Tests.{eq-eqb, ne_eqb, eqb-true, eqb-false}
 use Rattle.numbers.specs.Choose.{index_of}
 use Rattle.numbers.specs.Every.{every}
-use Rattle.numbers.specs.Parts.{part_rest, take_within}
+use Rattle.numbers.specs.Parts.{take_within}
 use Rattle.lines.specs.CutLaws.{no_feed}
 use Rattle.lines.specs.FirstLine.{LineEnd}
 
@@ -33,10 +34,9 @@ first_feed (suc k) (c ∷ t) = go (eqb c 10) refl (first_feed k t)
     go true e f = rw (eq-eqb 10 c (sym (eqb-true c 10 e))) (omega arith, refl, inr (inr (eqb-true c 10 e)))
     go false e f = rw (ne_eqb 10 c (λ q. eqb-false c 10 e (sym q))) (omega arith, rw (e, f.1), ends f.2)
 
--- the line that begins at `at`: among its first 37 characters
-pub line_ends : (t : List ℕ) (at size n : ℕ) → let rest = take (length t - at) (drop at t) in
-    size ≡ min 37 (length rest) → n ≡ index_of 10 (take size rest) → LineEnd (drop at t) n
-line_ends t at size n s e =
-    let found : n ≡ index_of 10 (take 37 (drop at t)) = rw (e, s, take_within, part_rest) refl in
-    let f = subst (Ended 37 (drop at t)) (sym found) (first_feed 37 (drop at t)) in
+-- the first line: its end is among the first 37 characters
+pub line_ends : (t : List ℕ) (size n : ℕ) → size ≡ min (length t) 37 → n ≡ index_of 10 (take size t) → LineEnd t n
+line_ends t size n s e =
+    let found : n ≡ index_of 10 (take 37 t) = rw (e, s, min_comm, take_within) refl in
+    let f = subst (Ended 37 t) (sym found) (first_feed 37 t) in
     record { within = f.0; no_feed_lem = f.1; ends = f.2 }

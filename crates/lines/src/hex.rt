@@ -3,32 +3,19 @@ ghost use Rattle.std.specs.Prelude.{◌≡◌, ◌≤◌, length};
 ghost use Rattle.numbers.specs.Every.{every};
 ghost use Rattle.lines.specs.Hex.{is_digit, value, number, number_at};
 
-use numbers::at_most;
-
 // Is this '0' to '9' or 'A' to 'F'?
 #[tactic(auto, unfolding(crate::specs::Hex::is_digit))]
 fn is_digit(c: u8) -> bool
     ensures { result ≡ is_digit c }
 {
-    match c {
-        48..=57 => true,
-        65..=70 => true,
-        _ => false,
-    }
+    matches!(c, b'0'..=b'9' | b'A'..=b'F')
 }
 
 // Are all characters digits?
 pub(crate) fn all_digits(s: &[u8]) -> bool
     ensures { result ≡ every is_digit s.now }
 {
-    let mut i = 0usize;
-    while i < s.len() {
-        if !is_digit(s[i]) {
-            return false;
-        }
-        i += 1;
-    }
-    true
+    s.iter().all(|c| is_digit(*c))
 }
 
 // What a digit stands for; another byte stands for 0.
@@ -37,8 +24,8 @@ fn value(c: u8) -> u64
     ensures { result ≡ value c }
 {
     match c {
-        48..=57 => (c - 48) as u64,
-        65..=70 => (c - 55) as u64,
+        b'0'..=b'9' => u64::from(c - b'0'),
+        b'A'..=b'F' => u64::from(c - b'A' + 10),
         _ => 0,
     }
 }
@@ -49,21 +36,19 @@ fn number(s: &[u8]) -> u64
     ensures { result ≡ number s.now }
 {
     let mut n = 0u64;
-    let mut i = 0usize;
-    while i < s.len() {
-        n = n * 16 + value(s[i]);
-        i += 1;
+    for c in s {
+        n = n * 16 + value(*c);
     }
     n
 }
 
 // The number that the characters from `at` on write, `width` of them, at most sixteen and no more than there are.
+#[tactic(auto, using(crate::proofs::DigitLaws::nothing_at))]
 pub fn number_at(s: &[u8], at: usize, width: usize) -> u64
     ensures { result ≡ number_at at width s.now }
 {
-    if at > s.len() {
+    let Some(rest) = s.get(at..) else {
         return 0;
-    }
-    let n = at_most(at_most(width, 16), s.len() - at);
-    number(&s[at..at + n])
+    };
+    number(&rest[..width.min(16).min(rest.len())])
 }

@@ -1,80 +1,63 @@
 // Lines of a text: where one ends, and refusals 1 and 2.
-ghost use Rattle.std.specs.Prelude.{◌≡◌, ◌≤◌, ◌<◌, length, drop};
+ghost use Rattle.std.specs.Prelude.{◌≡◌, ◌<◌, length, drop};
 ghost use Rattle.network.specs.Answers.{answer_of};
 ghost use Rattle.lines.specs.Lines.{cut, character_faults};
 ghost use Rattle.lines.specs.FirstLine.{LineEnd, judge_first, judge_frame, judge_end};
 
 use crate::hex;
-use network::error::Verdict;
-use numbers::at_most;
+use network::error::Refusal;
 use scan::find;
 
 // "a line over 36 characters is 2 whatever they are"
 const LONGEST: usize = 36;
 
-// How many characters stand from `at` on before the next line feed or the text's end. 37 stands for any number over 36, so that a long line costs no more.
-fn line_length(text: &[u8], at: usize) -> usize
-    requires { at ≤ length text.now }
-    ensures { LineEnd (drop at text.now) result }
+// How many characters stand before the next line feed or the end. 37 stands for any number over 36, so that a long line costs no more.
+fn line_length(rest: &[u8]) -> usize
+    ensures { LineEnd rest.now result }
 {
-    let rest = &text[at..];
-    let size = at_most(LONGEST + 1, rest.len());
-    find(&rest[..size], 10)
+    let size = rest.len().min(LONGEST + 1);
+    find(&rest[..size], b'\n')
 }
 
 // What the characters of a line are refused for whatever is wanted: 2 where there are over 36, 1 where the line is unended or odd or has another character.
-fn judge_characters(text: &[u8], at: usize, n: usize, place: u16) -> Verdict
-    requires { (at < length text.now) × LineEnd (drop at text.now) n }
-    ensures { answer_of result ≡ judge_first character_faults place (cut (drop at text.now)) }
+fn judge_characters(rest: &[u8], n: usize, place: u16) -> Result<(), Refusal>
+    requires { (0 < length rest.now) × LineEnd rest.now n }
+    ensures { answer_of result ≡ judge_first character_faults place (cut rest.now) }
 {
     if n > LONGEST {
-        return Verdict::Refused { number: 2, place };
+        return Err(Refusal::Shape { line: place });
     }
-    let end = at + n;
-    if end == text.len() {
-        return Verdict::Refused { number: 1, place };
+    if n == rest.len() || n % 2 == 1 || !hex::all_digits(&rest[..n]) {
+        return Err(Refusal::Characters { line: place });
     }
-    if n % 2 == 1 {
-        return Verdict::Refused { number: 1, place };
-    }
-    if hex::all_digits(&text[at..end]) {
-        return Verdict::Accepted;
-    }
-    Verdict::Refused { number: 1, place }
+    Ok(())
 }
 
 // Refusals 1 and 2 of the line that begins at `at`, where a frame of this kind and of this many characters is wanted. A missing line is 2.
-pub fn judge_line(text: &[u8], at: usize, place: u16, kind: u8, size: usize) -> Verdict
+pub fn judge_line(text: &[u8], at: usize, place: u16, kind: u8, size: usize) -> Result<(), Refusal>
     ensures { answer_of result ≡ judge_frame kind size place (cut (drop at text.now)) }
 {
     if at >= text.len() {
-        return Verdict::Refused { number: 2, place };
+        return Err(Refusal::Shape { line: place });
     }
-    let n = line_length(text, at);
-    let v = judge_characters(text, at, n, place);
-    let Verdict::Accepted = v else {
-        return v;
-    };
-    if n != size {
-        return Verdict::Refused { number: 2, place };
+    let rest = &text[at..];
+    let n = line_length(rest);
+    judge_characters(rest, n, place)?;
+    if n != size || hex::number_at(&rest[..n], 0, 2) != u64::from(kind) {
+        return Err(Refusal::Shape { line: place });
     }
-    if hex::number_at(&text[at..at + n], 0, 2) != kind as u64 {
-        return Verdict::Refused { number: 2, place };
-    }
-    Verdict::Accepted
+    Ok(())
 }
 
 // A line behind the last frame is one too many, and so 2 where its characters are not refused.
-pub fn judge_end(text: &[u8], at: usize, place: u16) -> Verdict
+pub fn judge_end(text: &[u8], at: usize, place: u16) -> Result<(), Refusal>
     ensures { answer_of result ≡ judge_end place (cut (drop at text.now)) }
 {
     if at >= text.len() {
-        return Verdict::Accepted;
+        return Ok(());
     }
-    let n = line_length(text, at);
-    let verdict = judge_characters(text, at, n, place);
-    let Verdict::Accepted = verdict else {
-        return verdict;
-    };
-    Verdict::Refused { number: 2, place }
+    let rest = &text[at..];
+    let judged = judge_characters(rest, line_length(rest), place);
+    judged?;
+    Err(Refusal::Shape { line: place })
 }

@@ -17,32 +17,35 @@ use Rattle.graph.specs.Rows.{row_from, leads, row_leads}
 use Rattle.bfs.proofs.Along.{along, Along, one_along}
 use Rattle.bfs.proofs.Along as Along
 use Rattle.lists.specs.declared.lists.LiveLists.{LiveLists}
-use Rattle.lists.specs.Lists.{lists_to, list_start, lists_of, live_lists, list_from, listed, list_live, Listing, Reaching}
+use Rattle.lists.specs.declared.lists.Entries.{Entries}
+use Rattle.lists.specs.declared.lists.Reached.{Reached}
+use Rattle.lists.specs.Lists.{lists_to, list_start, lists_of, live_lists, list_from, listed, list_live}
+use Rattle.lists.specs.Held.{Listed, Reaches}
 use Rattle.lists.specs.ListLaws.{lists_more}
 
 -- ---- one bus
-module _ (live : Bool) (x : ℕ) {near : List ℕ} {end : ℕ} where
-  pub dead_stays : live ≡ false → (l : List ℕ) → Listing l near end → Listing (list_live live l x) near end
+module _ (live : Bool) (x : ℕ) {e : Entries} where
+  pub dead_stays : live ≡ false → (l : List ℕ) → Listed l e → Listed (list_live live l x) e
   unfolding list_live
-  dead_stays e l w = rw e w
+  dead_stays f l w = rw f w
 
   -- there is no room
-  pub full_stays : live ≡ true → 1024 ≤ end → (l : List ℕ) → Listing l near end → Listing (list_live live l x) near end
+  pub full_stays : live ≡ true → 1024 ≤ e.end → (l : List ℕ) → Listed l e → Listed (list_live live l x) e
   unfolding list_live
-  full_stays e h l w =
-      rw e
+  full_stays t h l w =
+      rw t
       record {
         ends = rw length-append (omega (arith, w.ends));
         entries = w.entries ∙ table_cong _ _ 1024 (λ i k. beside 0 l x i (omega (arith, w.ends)));
       }
 
-  pub one_listed : (at : ℕ) → at ≡ end → live ≡ true → end < 1024 → (l : List ℕ) → Listing l near end → Listing (list_live live l x) (set near at x) (end + 1)
+  pub one_listed : (at : ℕ) → at ≡ e.end → live ≡ true → at < 1024 → (l : List ℕ) → Listed l e → Listed (list_live live l x) (record { near = set e.near at x; end = e.end + 1 })
   unfolding list_live
-  one_listed at a e h l w =
-      rw (e, a)
+  one_listed at a t h l w =
+      rw t
       record {
         ends = rw length-append (omega (arith, w.ends));
-        entries = rw w.entries (array_more 1024 0 l x end (omega (arith, w.ends)) h);
+        entries = rw w.entries (array_more 1024 0 l x at (omega (arith, w.ends)) h);
       }
 
 -- ---- a row
@@ -61,24 +64,24 @@ module _ (far : List ℕ) (live : List Bool) where
       go true = append_assoc l (get_or far h 0 ∷ []) (buses_of (leads far live row))
       go false = refl
 
-  module _ (next : List ℕ) (first : ℕ) (near₀ : List ℕ) (end₀ : ℕ) where
-    pub record RowListing (near : List ℕ) (end h i : ℕ) : Type 0 where
-      pub loop : Along list_half next first (λ l. Listing l near₀ end₀) (λ l. Listing l near end) h i
+  module _ (next : List ℕ) (first : ℕ) (before : Entries) where
+    pub record RowListing (e : Entries) (h i : ℕ) : Type 0 where
+      pub loop : Along list_half next first (λ l. Listed l before) (λ l. Listed l e) h i
 
-    pub none_listed : RowListing near₀ end₀ first 0
-    none_listed = record { loop = Along.none_along list_half next first (λ l. Listing l near₀ end₀) }
+    pub none_listed : RowListing before first 0
+    none_listed = record { loop = Along.none_along list_half next first (λ l. Listed l before) }
 
-    module _ {near : List ℕ} {end h i : ℕ} (e : RowListing near end h i) where
-      pub half_listed : {near' : List ℕ} {end' : ℕ} (half at : ℕ) → i < 1024 → h < 1024 → half ≡ h → at ≡ h / 2
-          → ((l : List ℕ) → Listing l near end → Listing (list_live (get_or live at false) l (get_or far half 0)) near' end')
-          → RowListing near' end' (get_or next half 0) (i + 1)
-      half_listed {near'} {end'} half at li lh p q step = record { loop = rw p (one_along list_half next first _ e.loop (λ l. Listing l near' end') li lh (rw (p, q) at step)) }
+    module _ {e : Entries} {h i : ℕ} (r : RowListing e h i) where
+      pub half_listed : {e' : Entries} (half : ℕ) → i < 1024 → h < 1024 → half ≡ h
+          → ((l : List ℕ) → Listed l e → Listed (list_live (get_or live (half / 2) false) l (get_or far half 0)) e')
+          → RowListing e' (get_or next half 0) (i + 1)
+      half_listed {e'} half li lh p step = record { loop = rw p (one_along list_half next first _ r.loop (λ l. Listed l e') li lh (rw p at step)) }
 
-      pub row_ended : 1024 ≤ h → (l : List ℕ) → Listing l near₀ end₀ → Listing (l ++ buses_of (leads far live (row_from next 1024 first))) near end
-      row_ended k l w = rw (← all_listed (row_from next 1024 first) l) (Along.row_ended list_half next first _ e.loop k l w)
+      pub row_ended : 1024 ≤ h → (l : List ℕ) → Listed l before → Listed (l ++ buses_of (leads far live (row_from next 1024 first))) e
+      row_ended k l w = rw (← all_listed (row_from next 1024 first) l) (Along.row_ended list_half next first _ r.loop k l w)
 
-      pub row_cut : 1024 ≤ i → (l : List ℕ) → Listing l near₀ end₀ → Listing (l ++ buses_of (leads far live (row_from next 1024 first))) near end
-      row_cut k l w = rw (← all_listed (row_from next 1024 first) l) (Along.row_cut list_half next first _ e.loop k l w)
+      pub row_cut : 1024 ≤ i → (l : List ℕ) → Listed l before → Listed (l ++ buses_of (leads far live (row_from next 1024 first))) e
+      row_cut k l w = rw (← all_listed (row_from next 1024 first) l) (Along.row_cut list_half next first _ r.loop k l w)
 
 -- ---- all rows
 none_begins : (start : ℕ → ℕ) → start 0 ≡ 0 → (j : ℕ) → 0 ≡ cond (ltb j 1) (start j) 0
@@ -90,11 +93,11 @@ module _ (far first next : List ℕ) (live : List Bool) where
   row u = buses_of (row_leads far first next live u)
 
   -- the lists of the first u buses
-  pub record Rowing (at near : List ℕ) (end u : ℕ) : Type 0 where
-    pub listing : Listing (lists_to row u) near end
+  pub record Rowing (at : List ℕ) (e : Entries) (u : ℕ) : Type 0 where
+    pub listing : Listed (lists_to row u) e
     pub begins : at ≡ filled (list_start row) 0 257 (u + 1)
 
-  pub none_rowed : Rowing (replicate 257 0) (replicate 1024 0) 0 0
+  pub none_rowed : Rowing (replicate 257 0) (record { near = replicate 1024 0; end = 0 }) 0
   unfolding lists_to up_to filled list_start
   none_rowed =
       record {
@@ -102,20 +105,20 @@ module _ (far first next : List ℕ) (live : List Bool) where
         begins = replicate_table 0 257 ∙ table_cong _ _ 257 (λ j l. none_begins (list_start row) refl j);
       }
 
-  module _ {at near : List ℕ} {end u : ℕ} (r : Rowing at near end u) where
-    pub one_rowed : {near' : List ℕ} {end' : ℕ} → u < 256
-        → ((l : List ℕ) → Listing l near end → Listing (l ++ buses_of (leads far live (row_from next 1024 (get_or first u 0)))) near' end')
-        → Rowing (set at (u + 1) end') near' end' (u + 1)
+  module _ {at : List ℕ} {e : Entries} {u : ℕ} (r : Rowing at e u) where
+    pub one_rowed : {e' : Entries} → u < 256
+        → ((l : List ℕ) → Listed l e → Listed (l ++ buses_of (leads far live (row_from next 1024 (get_or first u 0)))) e')
+        → Rowing (set at (u + 1) e'.end) e' (u + 1)
     unfolding row_leads list_start
-    one_rowed {near'} {end'} l step =
+    one_rowed {e'} l step =
         let more : lists_to row (u + 1) ≡ lists_to row u ++ row u = lists_more row u in
-        let w : Listing (lists_to row (u + 1)) near' end' = rw more (step (lists_to row u) r.listing) in
+        let w : Listed (lists_to row (u + 1)) e' = rw more (step (lists_to row u) r.listing) in
         record { listing = w; begins = rw (r.begins, w.ends) (filled_more (list_start row) 0 257 (u + 1) (omega arith)) }
 
-pub all_rowed : (g : Graph) (live : List Bool) {at near : List ℕ} {end u : ℕ} → Rowing g.far g.first g.next live at near end u → u ≡ min g.bus_count 256
-    → ◌≡◌ {A = LiveLists} (record { at = at; near = near }) (live_lists g live)
+pub all_rowed : (g : Graph) (live : List Bool) {at : List ℕ} {e : Entries} {u : ℕ} → Rowing g.far g.first g.next live at e u → u ≡ min g.bus_count 256
+    → ◌≡◌ {A = LiveLists} (record { at = at; near = e.near }) (live_lists g live)
 unfolding live_lists lists_of
-all_rowed g live r e = rw (r.begins, r.listing.entries, e)
+all_rowed g live r q = rw (r.begins, r.listing.entries, q)
 
 -- ---- a list entered
 enter_last : (barred : ℕ) (l o : List Visit) (v : Visit) → enter_all barred o (l ++ (v ∷ [])) ≡ enter barred (enter_all barred o l) v
@@ -123,40 +126,33 @@ unfolding enter_all
 enter_last barred [] o v = refl
 enter_last barred (w ∷ l) o v = enter_last barred l (enter barred o w) v
 
-module _ (near : List ℕ) (first last barred : ℕ) (seen₀ : List Bool) (bus₀ : List ℕ) (n₀ : ℕ) where
+module _ (near : List ℕ) (first last barred : ℕ) (before : Reached) where
   -- the buses from position first to before position i are entered
-  pub record ListEntering (seen : List Bool) (bus : List ℕ) (n i : ℕ) : Type 0 where
-    pub from : first ≤ i
+  pub record ListEntering (r : Reached) (i : ℕ) : Type 0 where
     pub within : i - first ≤ last - first
-    pub done : (o : List Visit) → Reaching barred o seen₀ bus₀ n₀ → Reaching barred (enter_all barred o (table (λ j. visit (get_or near (first + j) 0) 0) (i - first))) seen bus n
+    pub done : (o : List Visit) → Reaches barred o before → Reaches barred (enter_all barred o (table (λ j. visit (get_or near (first + j) 0) 0) (i - first))) r
 
-  pub none_entered : ListEntering seen₀ bus₀ n₀ first
+  pub none_entered : ListEntering before first
   unfolding enter_all table
   none_entered =
       let none : first - first ≡ 0 = omega arith in
-      record { from = omega arith; within = omega arith; done = λ o w. rw none w }
+      record { within = omega arith; done = λ o w. rw none w }
 
-  module _ {seen : List Bool} {bus : List ℕ} {n i : ℕ} (e : ListEntering seen bus n i) where
-    pub one_entered : {seen' : List Bool} {bus' : List ℕ} {n' : ℕ} → i < last
-        → ((o : List Visit) → Reaching barred o seen bus n → Reaching barred (enter barred o (visit (get_or near i 0) 0)) seen' bus' n')
-        → ListEntering seen' bus' n' (i + 1)
+  module _ {r : Reached} {i : ℕ} (e : ListEntering r i) (from : first ≤ i) where
+    pub one_entered : {r' : Reached} → i < last
+        → ((o : List Visit) → Reaches barred o r → Reaches barred (enter barred o (visit (get_or near i 0) 0)) r')
+        → ListEntering r' (i + 1)
     one_entered l step =
-        let f = e.from in
         let w = e.within in
         let more : i + 1 - first ≡ i - first + 1 = omega arith in
         let here : first + (i - first) ≡ i = omega arith in
-        record {
-          from = omega arith;
-          within = omega arith;
-          done = λ o w. rw (more, table_more _ (i - first), enter_last, here) (step _ (e.done o w));
-        }
+        record { within = omega arith; done = λ o w. rw (more, table_more _ (i - first), enter_last, here) (step _ (e.done o w)) }
 
     -- all of bus u's list
-    pub all_entered : (at : List ℕ) (u x : ℕ) → x ≡ u → first ≡ get_or at x 0 → (end : ℕ) → end ≡ get_or at (x + 1) 0 → last ≡ min end 1024 → last ≤ i
-        → (o : List Visit) → Reaching barred o seen₀ bus₀ n₀ → Reaching barred (enter_all barred o (listed at near u)) seen bus n
+    pub all_entered : (at : List ℕ) (u x next : ℕ) → x ≡ u → first ≡ get_or at x 0 → next ≡ get_or at (x + 1) 0 → last ≡ min next 1024 → last ≤ i
+        → (o : List Visit) → Reaches barred o before → Reaches barred (enter_all barred o (listed at near u)) r
     unfolding listed list_from
-    all_entered at u x s a end b c h o w =
-        let f = e.from in
+    all_entered at u x next p q s t h o w =
         let l = e.within in
-        let end : min (get_or at (x + 1) 0) 1024 - get_or at x 0 ≡ i - first = omega arith in
-        rw (← s, end, ← a) (e.done o w)
+        let end : min next 1024 - first ≡ i - first = omega arith in
+        rw (← p, ← s, ← q, end) (e.done o w)

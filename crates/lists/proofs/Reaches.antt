@@ -17,7 +17,9 @@ use Rattle.graph.specs.Walking.{Walking, enter_live}
 use Rattle.bfs.proofs.Entering.{filled_read, marked_stays, enters}
 use Rattle.bfs.proofs.Turning.{Turning, visits, none_turned, one_turned, all_turned}
 use Rattle.bfs.proofs.Turning as Turning
-use Rattle.lists.specs.Lists.{Reaching, bus_load}
+use Rattle.lists.specs.declared.lists.Reached.{Reached}
+use Rattle.lists.specs.Lists.{bus_load}
+use Rattle.lists.specs.Held.{Reaches}
 
 -- the loads at the first n buses of an array, added in its order
 unfoldable pub array_load : List Float → List ℕ → ℕ → Float
@@ -28,50 +30,50 @@ unfolding array_load up_to
 load_none mw bus = refl
 
 -- whatever array had the branches
-keep : {barred : ℕ} {o : List Visit} {seen : List Bool} {bus by : List ℕ} {n : ℕ} → Walking barred o seen bus by n → Reaching barred o seen bus n
+keep : {barred : ℕ} {o : List Visit} {r : Reached} {by : List ℕ} → Walking barred o r.seen r.bus by r.count → Reaches barred o r
 keep w = record { walking = record { counted = w.counted; buses = w.buses; branches = refl; flags = w.flags; marks = w.marks; room = w.room } }
 
-module _ (x : ℕ) {seen : List Bool} {bus : List ℕ} {n : ℕ} (at : ℕ) (same : at ≡ x) (small : at < 256) where
-  pub marked_left : get_or seen at false ≡ true → (barred : ℕ) (o : List Visit) → Reaching barred o seen bus n → Reaching barred (enter barred o (visit x 0)) seen bus n
+module _ (x : ℕ) {r : Reached} (at : ℕ) (same : at ≡ x) (small : at < 256) where
+  pub marked_left : get_or r.seen at false ≡ true → (barred : ℕ) (o : List Visit) → Reaches barred o r → Reaches barred (enter barred o (visit x 0)) r
   unfolding enter_live
   marked_left t barred o w = keep (marked_stays true x 0 at same small t barred o w.walking)
 
-  pub entered : (end : ℕ) → end ≡ n → get_or seen at false ≡ false
-      → (barred : ℕ) (o : List Visit) → Reaching barred o seen bus n → Reaching barred (enter barred o (visit x 0)) (set seen at true) (set bus end x) (n + 1)
+  pub entered : (end : ℕ) → end ≡ r.count → get_or r.seen at false ≡ false
+      → (barred : ℕ) (o : List Visit) → Reaches barred o r → Reaches barred (enter barred o (visit x 0)) (record { seen = set r.seen at true; bus = set r.bus end x; count = r.count + 1 })
   unfolding enter_live
   entered end e f barred o w = keep (enters true x 0 at same small end e refl f barred o w.walking)
 
 module _ (next : ℕ → List Visit) (start barred : ℕ) where
   -- the visits after h turns, in the arrays
-  pub record Turned (seen : List Bool) (bus : List ℕ) (n h : ℕ) : Type 0 where
-    pub turning : Turning next start barred seen bus (filled (map (λ (v : Visit). v.by) (visits next start barred h))) n h
+  pub record Turned (r : Reached) (h : ℕ) : Type 0 where
+    pub turning : Turning next start barred r.seen r.bus (filled (map (λ (v : Visit). v.by) (visits next start barred h))) r.count h
 
-  kept : {seen : List Bool} {bus by : List ℕ} {n h : ℕ} → Turning next start barred seen bus by n h → Turned seen bus n h
+  kept : {r : Reached} {by : List ℕ} {h : ℕ} → Turning next start barred r.seen r.bus by r.count h → Turned r h
   kept t = record { turning = record { walking = (keep t.walking).walking; within = t.within } }
 
   pub none_turned_yet : (bar at : ℕ) → bar ≡ barred → bar < 256 → at ≡ start → at < 256
-      → Turned (set (set (replicate 256 false) bar true) at true) (set (replicate 256 0) 0 start) 1 0
+      → Turned (record { seen = set (set (replicate 256 false) bar true) at true; bus = set (replicate 256 0) 0 start; count = 1 }) 0
   none_turned_yet bar at p k e l = kept (none_turned next start barred bar at p k e l)
 
-  module _ {seen : List Bool} {bus : List ℕ} {n h : ℕ} (t : Turned seen bus n h) where
-    pub reaching : Reaching barred (visits next start barred h) seen bus n
+  module _ {r : Reached} {h : ℕ} (t : Turned r h) where
+    pub reaching : Reaches barred (visits next start barred h) r
     reaching = record { walking = t.turning.walking }
 
-    pub few_reached : n ≤ 256
+    pub few_reached : r.count ≤ 256
     few_reached = Turning.turned_few next start barred t.turning
 
-    pub turned : {seen' : List Bool} {bus' : List ℕ} {n' : ℕ} (at u : ℕ) → at ≡ h → u ≡ get_or bus at 0 → h < n
-        → ((b : ℕ) (o : List Visit) → Reaching b o seen bus n → Reaching b (enter_all b o (next u)) seen' bus' n')
-        → Turned seen' bus' n' (h + 1)
+    pub turned : {r' : Reached} (at u : ℕ) → at ≡ h → u ≡ get_or r.bus at 0 → h < r.count
+        → ((b : ℕ) (o : List Visit) → Reaches b o r → Reaches b (enter_all b o (next u)) r')
+        → Turned r' (h + 1)
     turned at u p q l step = kept (one_turned next start barred t.turning at u p q l (λ w. (step barred (visits next start barred h) (keep w)).walking))
 
-    all_reached : n ≤ h → (n ≡ length (walk_by next start barred)) × (bus ≡ filled (buses_of (walk_by next start barred)))
+    all_reached : r.count ≤ h → (r.count ≡ length (walk_by next start barred)) × (r.bus ≡ filled (buses_of (walk_by next start barred)))
     unfolding walked
     all_reached l =
         let e = all_turned next start barred t.turning l in
         (ap (λ (w : Walk). w.count) e, ap (λ (w : Walk). w.bus) e)
 
-    pub same_load : (mw : List Float) (total : Float) → h ≤ n → n ≤ h → total ≡ array_load mw bus h → total ≡ bus_load mw (walk_by next start barred)
+    pub same_load : (mw : List Float) (total : Float) → h ≤ r.count → r.count ≤ h → total ≡ array_load mw r.bus h → total ≡ bus_load mw (walk_by next start barred)
     unfolding bus_load array_load
     same_load mw total a b e =
         let o = walk_by next start barred in
@@ -99,8 +101,8 @@ module _ (barred : ℕ) where
       (omega (arith, r.0), λ i l. r.1 i (omega arith) ∙ e.1 i l)
 
   -- in the arrays
-  pub buses_stay : (o vs : List Visit) {seen seen' : List Bool} {bus bus' : List ℕ} {n n' : ℕ} → Reaching barred o seen bus n → Reaching barred (enter_all barred o vs) seen' bus' n'
-      → (n ≤ n') × ((i : ℕ) → i < n → get_or bus' i 0 ≡ get_or bus i 0)
+  pub buses_stay : (o vs : List Visit) {r r' : Reached} → Reaches barred o r → Reaches barred (enter_all barred o vs) r'
+      → (r.count ≤ r'.count) × ((i : ℕ) → i < r.count → get_or r'.bus i 0 ≡ get_or r.bus i 0)
   buses_stay o vs w w' =
       let e = all_extends o vs in
       let a = w.walking.counted in

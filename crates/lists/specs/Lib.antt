@@ -1,3 +1,4 @@
 pub mod Lists
+pub mod Held
 pub mod ListLaws
 pub mod GraphLists

@@ -4,10 +4,10 @@ ghost use Rattle.std.specs.Prelude.{◌≡◌, List, ◌++◌, ℕ};
 ghost use Rattle.graph.specs.Walk.{Visit, walk_by, enter, enter_all};
 ghost use Rattle.graph.specs.Rows.{row_from, leads};
 ghost use Rattle.graph.specs.Visits.{visit, buses_of};
-ghost use Rattle.lists.specs.Lists.{Listing, Reaching, list_live, live_lists, listed, bus_load};
+ghost use Rattle.lists.specs.Lists.{list_live, live_lists, listed, bus_load};
+ghost use Rattle.lists.specs.Held.{Listed, Reaches};
 
 use graph::rows::Graph;
-use numbers::{at_most, wide8, wide16};
 
 // The list of bus u is near from at[u] to at[u + 1].
 #[derive(Clone, Copy)]
@@ -16,47 +16,40 @@ pub struct LiveLists {
     pub near: [u8; Graph::MAX_HALVES],
 }
 
-// Bus x is put behind those listed, by a live branch and where there is room.
-fn put_behind(near: &mut [u8; Graph::MAX_HALVES], end: u16, live: bool, x: u8) -> u16
-    ensures { (l : List ℕ) → Listing l near.old end → Listing (list_live live l x) near.new result }
-{
-    if !live {
-        return end;
-    }
-    let at = wide16(end);
-    if Graph::MAX_HALVES <= at {
-        return end;
-    }
-    near[at] = x;
-    end + 1
+// The entries of the lists so far: those of near in front of end.
+#[derive(Drop)]
+struct Entries {
+    near: [u8; Graph::MAX_HALVES],
+    end: u16,
 }
 
-// The far ends of the row that begins with half-branch first are listed: MAX_HALVES at most, so that any row ends.
-fn list_row(
-    far: &[u8; Graph::MAX_HALVES],
-    next: &[u16; Graph::MAX_HALVES],
-    live: &[bool; Graph::MAX_BRANCHES],
-    first: u16,
-    near: &mut [u8; Graph::MAX_HALVES],
-    count: u16,
-) -> u16
-    ensures { (l : List ℕ) → Listing l near.old count
-        → Listing (l ++ buses_of (leads far.now live.now (row_from next.now 1024 first))) near.new result }
-{
-    let mut end = count;
-    let mut h = first;
-    let mut i = 0usize;
-    while i < Graph::MAX_HALVES {
-        if Graph::NO_HALF <= h {
-            return end;
+impl Entries {
+    // Bus x is put behind those listed, by a live branch and where there is room.
+    fn put_behind(&mut self, live: bool, x: u8)
+        ensures { (l : List ℕ) → Listed l self.old → Listed (list_live live l x) self.new }
+    {
+        let at = usize::from(self.end);
+        if live && at < Graph::MAX_HALVES {
+            self.near[at] = x;
+            self.end += 1;
         }
-        let half = wide16(h);
-        let k = wide16(h / 2);
-        end = put_behind(near, end, live[k], far[half]);
-        h = next[half];
-        i += 1;
     }
-    end
+
+    // The far ends of the row that begins with half-branch first are listed: MAX_HALVES at most, so that any row ends.
+    fn list_row(&mut self, graph: &Graph, live: &[bool; Graph::MAX_BRANCHES], first: u16)
+        ensures { (l : List ℕ) → Listed l self.old
+            → Listed (l ++ buses_of (leads graph.now.far live.now (row_from graph.now.next 1024 first))) self.new }
+    {
+        let mut h = first;
+        for _ in 0..Graph::MAX_HALVES {
+            if Graph::NO_HALF <= h {
+                return;
+            }
+            let half = usize::from(h);
+            self.put_behind(live[half / 2], graph.far[half]);
+            h = graph.next[half];
+        }
+    }
 }
 
 // The lists of a graph's buses, read off their rows, MAX_HALVES entries at most: room for every list of a graph of at most MAX_BUSES buses
@@ -64,65 +57,62 @@ fn list_row(
 pub fn live_lists(graph: Graph, live: &[bool; Graph::MAX_BRANCHES]) -> LiveLists
     ensures { result ≡ live_lists graph live.now }
 {
-    let n = at_most(wide16(graph.bus_count), Graph::MAX_BUSES);
-    let far = graph.far;
-    let first = graph.first;
-    let next = graph.next;
+    let n = usize::from(graph.bus_count).min(Graph::MAX_BUSES);
     let mut at = [0u16; Graph::MAX_BUSES + 1];
-    let mut near = [0u8; Graph::MAX_HALVES];
-    let mut end = 0u16;
-    let mut u = 0usize;
-    while u < n {
-        end = list_row(&far, &next, live, first[u], &mut near, end);
-        u += 1;
-        at[u] = end;
+    let mut entries = Entries {
+        near: [0; Graph::MAX_HALVES],
+        end: 0,
+    };
+    for (u, first) in graph.first[..n].iter().enumerate() {
+        entries.list_row(&graph, live, *first);
+        at[u + 1] = entries.end;
     }
-    LiveLists { at, near }
+    LiveLists {
+        at,
+        near: entries.near,
+    }
 }
 
-// Bus x is put behind those reached, unless it is marked: barred, or reached already.
-fn enter(
-    seen: &mut [bool; Graph::MAX_BUSES],
-    bus: &mut [u8; Graph::MAX_BUSES],
+// The buses that a walk has reached: the first count entries of bus, which are its queue. Those that are not to be entered are marked: barred, or reached.
+#[derive(Drop)]
+struct Reached {
+    seen: [bool; Graph::MAX_BUSES],
+    // Eight bits an entry. What counts entries goes up to 256 and is wider: from a branch with equal ends the walk bars nothing but its own start, so all 256
+    // buses of a connected feeder come to stand in the queue. From any other branch one bus is barred, and at most 255 do.
+    bus: [u8; Graph::MAX_BUSES],
     count: u16,
-    x: u8,
-) -> u16
-    requires { (barred : ℕ) × (o : List Visit) × Reaching barred o seen.old bus.old count }
-    ensures { (barred : ℕ) (o : List Visit) → Reaching barred o seen.old bus.old count
-        → Reaching barred (enter barred o (visit x 0)) seen.new bus.new result }
-{
-    let at = wide8(x);
-    if seen[at] {
-        return count;
-    }
-    seen[at] = true;
-    let end = wide16(count);
-    bus[end] = x;
-    count + 1
 }
 
-// The buses of bus u's list are entered.
-fn expand(
-    at: &[u16; Graph::MAX_BUSES + 1],
-    near: &[u8; Graph::MAX_HALVES],
-    u: u8,
-    seen: &mut [bool; Graph::MAX_BUSES],
-    bus: &mut [u8; Graph::MAX_BUSES],
-    count: u16,
-) -> u16
-    requires { (barred : ℕ) × (o : List Visit) × Reaching barred o seen.old bus.old count }
-    ensures { (barred : ℕ) (o : List Visit) → Reaching barred o seen.old bus.old count
-        → Reaching barred (enter_all barred o (listed at.now near.now u)) seen.new bus.new result }
-{
-    let x = wide8(u);
-    let last = at_most(wide16(at[x + 1]), Graph::MAX_HALVES);
-    let mut end = count;
-    let mut i = wide16(at[x]);
-    while i < last {
-        end = enter(seen, bus, end, near[i]);
-        i += 1;
+impl Reached {
+    // Bus x is put behind those reached, unless it is marked.
+    fn enter(&mut self, x: u8)
+        requires { (barred : ℕ) × (o : List Visit) × Reaches barred o self.old }
+        ensures { (barred : ℕ) (o : List Visit) → Reaches barred o self.old → Reaches barred (enter barred o (visit x 0)) self.new }
+    {
+        let at = usize::from(x);
+        if self.seen[at] {
+            return;
+        }
+        self.seen[at] = true;
+        let end = usize::from(self.count);
+        self.bus[end] = x;
+        self.count += 1;
     }
-    end
+
+    // The buses of bus u's list are entered.
+    fn expand(&mut self, at: &[u16; Graph::MAX_BUSES + 1], near: &[u8; Graph::MAX_HALVES], u: u8)
+        requires { (barred : ℕ) × (o : List Visit) × Reaches barred o self.old }
+        ensures { (barred : ℕ) (o : List Visit) → Reaches barred o self.old
+            → Reaches barred (enter_all barred o (listed at.now near.now u)) self.new }
+    {
+        let row = usize::from(u);
+        let from = usize::from(at[row]);
+        let to = usize::from(at[row + 1]).min(Graph::MAX_HALVES);
+        // By positions: a slice of near wants a from that is not past to, and with it a walk through a chain took a third longer.
+        for i in from..to {
+            self.enter(near[i]);
+        }
+    }
 }
 
 // The load of the buses that a walk by the lists reaches from start without entering the barred bus, added in the walk's order: each as its neighbours are entered.
@@ -135,24 +125,21 @@ pub fn walk_load(
 ) -> f64
     ensures { result ≡ bus_load mw.now (walk_by (listed at.now near.now) start barred) }
 {
-    let mut seen = [false; Graph::MAX_BUSES];
-    // The queue: bus positions, eight bits an entry. What counts entries goes up to 256 and is wider: from a branch with equal ends the walk bars nothing but its
-    // own start, so all 256 buses of a connected feeder come to stand in the queue. From any other branch one bus is barred, and at most 255 do.
-    let mut bus = [0u8; Graph::MAX_BUSES];
-    let bar = wide8(barred);
-    seen[bar] = true;
-    let here = wide8(start);
-    seen[here] = true;
-    bus[0] = start;
+    let mut reached = Reached {
+        seen: [false; Graph::MAX_BUSES],
+        bus: [0; Graph::MAX_BUSES],
+        count: 1,
+    };
+    reached.seen[usize::from(barred)] = true;
+    reached.seen[usize::from(start)] = true;
+    reached.bus[0] = start;
     let mut total = 0.0;
-    let mut count = 1u16;
     let mut head = 0u16;
-    while head < count {
-        let turn = wide16(head);
-        let u = bus[turn];
-        let x = wide8(u);
-        total = total + mw[x];
-        count = expand(at, near, u, &mut seen, &mut bus, count);
+    // The queue grows while it is worked off, so that no range gives its positions.
+    while head < reached.count {
+        let u = reached.bus[usize::from(head)];
+        total += mw[usize::from(u)];
+        reached.expand(at, near, u);
         head += 1;
     }
     total

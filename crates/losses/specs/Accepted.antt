@@ -1,6 +1,6 @@
 -- Every loss of an accepted network is finite and not below zero: a network inside document 01's limits meets `Limits`.
 use Rattle.std.specs.Prelude.{◌≡◌, refl, Bool, not, List, ℕ, ◌^◌, T, length, get_or}
-use Rattle.std.proofs.Math.Option.{Option, none, some}
+use Rattle.std.specs.Prelude.{Option, None, Some}
 use Rattle.std.proofs.Common.{arith}
 use Rattle.std.specs.Float.Ieee.{le, is_nan}
 use Rattle.std.specs.Float.Ieee.Scale.{finite}
@@ -24,13 +24,13 @@ use Rattle.losses.specs.LossLaws.{Limits, loss_within, loss_above_zero}
 module _ (N : Network) (inside : Inside N) where
   module _ (E : ℕ → Bool) where
     drawn_for_sound : (z : Option ℕ) → Sound (drawn_for N z E)
-    drawn_for_sound none = feeder_sound N inside
-    drawn_for_sound (some id) = away_sound (feeder N) E (position N id) (feeder_sound N inside)
+    drawn_for_sound None = feeder_sound N inside
+    drawn_for_sound (Some id) = away_sound (feeder N) E (position N id) (feeder_sound N inside)
 
     drawn_for_size : (z : Option ℕ) → ((drawn_for N z E).buses ≡ length N.buses) × ((drawn_for N z E).branches ≡ length N.branches)
     unfolding feeder away
-    drawn_for_size none = (refl, refl)
-    drawn_for_size (some id) = (refl, refl)
+    drawn_for_size None = (refl, refl)
+    drawn_for_size (Some id) = (refl, refl)
 
     -- however the branches are drawn
     limits : Limits (drawn N E) (λ i. (get_or N.buses i no_bus).pd.0) (λ k. (get_or N.branches k no_branch).r) N.base

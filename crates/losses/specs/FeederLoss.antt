@@ -1,9 +1,10 @@
 -- The loss by the lists of a feeder that is accepted is the feeder's loss, for the live branches of a state: as they were drawn, and drawn away from the supply where one
 -- is named and the state is radial.
-use Rattle.std.specs.Prelude.{◌≡◌, Bool, cond, ℕ, ◌<◌, ◌≤◌, Float, length}
+use Rattle.std.specs.Option.{option_map}
+use Rattle.std.specs.Prelude.{◌≡◌, Bool, Option, Some, None, ℕ, ◌<◌, ◌≤◌, Float, length}
 use Rattle.std.proofs.Math.Path.{refl, sym, ap}
 use Rattle.std.proofs.Common.{◌∙◌, arith}
-use Rattle.std.proofs.Math.Bool.{true, false}
+use Rattle.std.proofs.Math.Bool.{true}
 use mathlib.Core.List.{List}
 use Rattle.std.specs.Float.Ieee.{nan}
 use Rattle.std.proofs.Math.ListN.{get_or}
@@ -32,7 +33,7 @@ use Rattle.feeders.specs.FeederLaws.{feeder_sound, feeder_small, feeder_few, rad
 use Rattle.feeders.specs.FeederRowLaws.{flags_live, same_buses, same_branches, end_position, feeder_ends}
 use Rattle.feeders.specs.FeederRows.{listed_ids, end_at, feeder_graph, live_flags, from_ends, to_ends, ends_net}
 use Rattle.feeders.specs.Supply.{check_supply}
-use Rattle.feeders.specs.SupplyLaws.{records_supplied, value_supplied, value_unsupplied}
+use Rattle.feeders.specs.SupplyLaws.{records_supplied, value_supply}
 use Rattle.losses.specs.declared.loads.Loads.{Loads}
 use Rattle.losses.specs.Loss.{load_at, resistance_at, loss, loss_in}
 use Rattle.losses.specs.LossSame.{loss_same}
@@ -143,29 +144,28 @@ module _ (n : PowerNetwork) (sized : length n.buses ≡ 256) (ok : check_records
       → loss (net (flag flags)) (flag flags) (load_at M) (resistance_at M) M.base ≡ loss (net (live M s)) (live M s) (load_at M) (resistance_at M) M.base
   by_flags net = ap (λ (E : ℕ → Bool). loss (net E) E (load_at M) (resistance_at M) M.base) live_so
 
-  unfed : n.has_supply ≡ false → list_loss (feeder_graph n) (loads_at n.buses) n.branches n.base_mva flags ≡ loss_in M s
-  unfed e = plain_loss n sized ok flags short ∙ by_flags (λ E. feeder M) ∙ sym (unsupplied_loss M s (value_unsupplied n e))
+  unfed : n.supply ≡ None → list_loss (feeder_graph n) (loads_at n.buses) n.branches n.base_mva flags ≡ loss_in M s
+  unfed e = plain_loss n sized ok flags short ∙ by_flags (λ E. feeder M) ∙ sym (unsupplied_loss M s (value_supply n ∙ e))
 
-  from_supply : n.has_supply ≡ true
-      → list_loss (drawn_graph (feeder_graph n) flags (end_at (listed_ids n) n.supply)) (loads_at n.buses) n.branches n.base_mva flags ≡ loss_in M s
-  from_supply e =
-      let named = value_supplied n e in
-      let listed = (records_supplied M ok fed-so n.supply named).0 in
-      let z = end_position n sized ok n.supply listed in
-      let tree = ap (radial (feeder M)) live_so ∙ sym (radial_in_lem M s) ∙ fed n.supply named in
-      rw z (drawn_loss n sized ok flags short (position M n.supply) (position_listed M n.supply listed) tree)
-      ∙ by_flags (λ E. away (feeder M) E (position M n.supply))
-      ∙ sym (supplied_loss M s n.supply named)
+  from_supply : (id : ℕ) → n.supply ≡ Some id
+      → list_loss (drawn_graph (feeder_graph n) flags (end_at (listed_ids n) id)) (loads_at n.buses) n.branches n.base_mva flags ≡ loss_in M s
+  from_supply id e =
+      let named = value_supply n ∙ e in
+      let listed = (records_supplied M ok fed-so id named).0 in
+      let z = end_position n sized ok id listed in
+      let tree = ap (radial (feeder M)) live_so ∙ sym (radial_in_lem M s) ∙ fed id named in
+      rw z (drawn_loss n sized ok flags short (position M id) (position_listed M id listed) tree)
+      ∙ by_flags (λ E. away (feeder M) E (position M id))
+      ∙ sym (supplied_loss M s id named)
 
   live_feeder_loss : live_loss (feeder_graph n) (loads_of n) n.branches n.base_mva flags ≡ loss_in M s
   unfolding live_loss drawn_graph_for loads_of
-  live_feeder_loss = go n.has_supply refl
+  live_feeder_loss = go n.supply refl
     where
-      go : (b : Bool) → n.has_supply ≡ b
-          → list_loss (cond b (drawn_graph (feeder_graph n) flags (cond b (end_at (listed_ids n) n.supply) 0)) (feeder_graph n))
-          (loads_at n.buses) n.branches n.base_mva flags ≡ loss_in M s
-      go true e = from_supply e
-      go false e = unfed e
+      go : (z : Option ℕ) → n.supply ≡ z
+          → list_loss (drawn_graph_for (feeder_graph n) flags (option_map (end_at (listed_ids n)) z)) (loads_at n.buses) n.branches n.base_mva flags ≡ loss_in M s
+      go (Some id) e = from_supply id e
+      go None e = unfed e
 
   -- with what the code has for the graph, the loads and the flags
   pub feeder_loss : (graph : Graph) (loads : Loads) (live : List Bool) → graph ≡ feeder_graph n → loads ≡ loads_of n → live ≡ flags

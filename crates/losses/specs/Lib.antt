@@ -1,6 +1,5 @@
 pub mod Loss
 pub mod LossCall
-pub mod Answers
 pub mod InRange
 pub mod TermLaws
 pub mod LossLaws

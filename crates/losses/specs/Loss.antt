@@ -1,7 +1,7 @@
 -- The loss, each operation rounded once. It is taken of a net, the flags of its live branches, the loads by bus position in megawatts,
 -- the resistances by branch position in per unit, and base_mva.
 use Rattle.std.specs.Prelude.{Bool, cond, List, ℕ, eqb, Float, length, get_or}
-use Rattle.std.proofs.Math.Option.{Option, none, some}
+use Rattle.std.specs.Prelude.{Option, None, Some}
 use Rattle.std.specs.Float.{binary64}
 use Rattle.std.specs.Float.Ieee.{add, mul, div}
 use Rattle.numbers.specs.Constants.{zero64}
@@ -36,8 +36,8 @@ loss N E pd r base = cond (eqb N.buses 0) zero64 (total_of E r (λ k. walk_load 
 -- the feeder as the loss takes it: as its cables were drawn; document 02: "With" a supply's line "downstream is the side of a live branch that does not hold the supply
 -- bus", so that each live branch is drawn away from it
 abbrev pub drawn_for : Network → Option ℕ → (ℕ → Bool) → Net
-drawn_for N none E = feeder N
-drawn_for N (some id) E = away (feeder N) E (position N id)
+drawn_for N None E = feeder N
+drawn_for N (Some id) E = away (feeder N) E (position N id)
 
 unfoldable pub drawn : Network → (ℕ → Bool) → Net
 drawn N E = drawn_for N N.supply E

@@ -2,7 +2,7 @@
 use Rattle.std.specs.Prelude.{◌≡◌, true, ℕ}
 use Rattle.std.proofs.Common.{sym}
 use Rattle.std.proofs.Math.Path.{subst}
-use Rattle.std.proofs.Math.Option.{none, some}
+use Rattle.std.specs.Prelude.{None, Some}
 use Rattle.network.specs.Check.{check_records}
 use Rattle.network.specs.Records.{Network}
 use Rattle.network.specs.Answers.{accepted}
@@ -19,15 +19,15 @@ use Rattle.losses.specs.Loss.{load_at, resistance_at, loss, drawn_for, drawn, lo
 
 -- with a supply, the state is radial: what the loss by one walk from the supply wants
 abbrev pub Fed : Network → State → Type 0
-Fed N s = (id : ℕ) → N.supply ≡ some id → radial_in N s ≡ true
+Fed N s = (id : ℕ) → N.supply ≡ Some id → radial_in N s ≡ true
 
 module _ (N : Network) (s : State) where
   -- in every state
-  pub unsupplied_loss : N.supply ≡ none → loss_in N s ≡ loss (feeder N) (live N s) (load_at N) (resistance_at N) N.base
+  pub unsupplied_loss : N.supply ≡ None → loss_in N s ≡ loss (feeder N) (live N s) (load_at N) (resistance_at N) N.base
   unfolding loss_in drawn
   unsupplied_loss e = rw e
 
-  module _ (id : ℕ) (named : N.supply ≡ some id) where
+  module _ (id : ℕ) (named : N.supply ≡ Some id) where
     pub supplied_loss : loss_in N s ≡ loss (away (feeder N) (live N s) (position N id)) (live N s) (load_at N) (resistance_at N) N.base
     unfolding loss_in drawn
     supplied_loss = rw named

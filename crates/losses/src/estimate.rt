@@ -18,10 +18,8 @@ fn megawatts(loads: [Power; PowerNetwork::MAX_BUSES]) -> [f64; PowerNetwork::MAX
     ensures { result ≡ megawatts_of loads }
 {
     let mut mw = [0.0; PowerNetwork::MAX_BUSES];
-    let mut i = 0usize;
-    while i < PowerNetwork::MAX_BUSES {
+    for i in 0..PowerNetwork::MAX_BUSES {
         mw[i] = loads[i].0;
-        i += 1;
     }
     mw
 }
@@ -61,15 +59,13 @@ fn total_loss(
     ensures { result ≡ list_total lists far.now mw.now live.now branches base_mva n }
 {
     let mut total = 0.0;
-    let mut k = 0usize;
-    while k < n {
+    for k in 0..n {
         if live[k] {
             let to = far[2 * k];
             let from = far[2 * k + 1];
             let load = downstream_load_mw(&lists.at, &lists.near, mw, to, from);
-            total = total + branch_term(branches[k], load, base_mva);
+            total += branch_term(branches[k], load, base_mva);
         }
-        k += 1;
     }
     total
 }

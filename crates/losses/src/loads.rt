@@ -8,70 +8,54 @@ use drawing::drawing::drawn_from;
 use graph::rows::Graph;
 use network::branch::Branch;
 use network::bus::{Bus, Power};
-use network::topology::{BusIndex, PowerNetwork};
+use network::topology::PowerNetwork;
 
-// The loads by bus position; and the supply's position, 0 where there is none.
+// The loads by bus position; and the supply's position, where one is named.
 #[derive(Clone, Copy)]
 pub struct Loads {
     pub pd: [Power; PowerNetwork::MAX_BUSES],
-    pub has_supply: bool,
-    pub supply_at: u8,
+    pub supply_at: Option<u8>,
 }
 
 // The loads of buses, in their order. An array of buses is handed over, so that the network is not copied for its loads.
 fn loads_at(buses: [Bus; PowerNetwork::MAX_BUSES]) -> [Power; PowerNetwork::MAX_BUSES]
     ensures { result ≡ loads_at buses }
 {
-    let mut loads = [Power(0.0); PowerNetwork::MAX_BUSES];
-    let mut i: usize = 0;
-    while i < PowerNetwork::MAX_BUSES {
-        let bus = buses[i];
-        let pd = bus.pd;
-        loads[i] = pd;
-        i += 1;
-    }
-    loads
+    buses.map(|bus| bus.pd)
 }
 
-// The position of the supply bus; 0 where there is none. The network is copied behind the test for a supply: without one it is not copied.
-fn supply_at(network: PowerNetwork) -> u8
+// The position of the supply bus, where one is named; 0 where none is listed with its id. The network is copied behind the test for a supply: without one it is not copied.
+fn supply_at(network: PowerNetwork) -> Option<u8>
     ensures { result ≡ supply_at network }
 {
-    if network.has_supply {
-        let fed = network;
-        if let BusIndex::At(at) = fed.bus_index(network.supply) {
-            return at as u8;
-        }
+    let Some(id) = network.supply else {
+        return None;
+    };
+    let fed = network;
+    match fed.bus_index(id) {
+        Some(at) => Some(at as u8),
+        None => Some(0),
     }
-    0
 }
 
 // The loads by bus position, and the supply's: its id is resolved once for all losses of a call.
 pub fn loads_of(network: PowerNetwork) -> Loads
     ensures { result ≡ loads_of network }
 {
-    let buses = network.buses;
-    let pd = loads_at(buses);
     Loads {
-        pd,
-        has_supply: network.has_supply,
+        pd: loads_at(network.buses),
         supply_at: supply_at(network),
     }
 }
 
 // The graph as a loss takes it: where there is a supply, drawn by the order of a walk from there; in a tree that is away from it.
-fn drawn_for(
-    graph: Graph,
-    live: [bool; Graph::MAX_BRANCHES],
-    has_supply: bool,
-    supply_at: u8,
-) -> Graph
-    ensures { result ≡ drawn_graph_for graph live has_supply supply_at }
+fn drawn_for(graph: Graph, live: [bool; Graph::MAX_BRANCHES], supply_at: Option<u8>) -> Graph
+    ensures { result ≡ drawn_graph_for graph live supply_at }
 {
-    if has_supply {
-        return drawn_from(graph, live, supply_at);
+    match supply_at {
+        Some(supply) => drawn_from(graph, live, supply),
+        None => graph,
     }
-    graph
 }
 
 // The loss with these branches live, in megawatts; with a supply they must be radial for it to be document 02's. Every loss of a feeder is taken here, by the call and by the searches. The branches are copied behind the drawing:
@@ -85,7 +69,7 @@ pub fn live_loss(
 ) -> f64
     ensures { result ≡ live_loss graph loads branches base_mva live }
 {
-    let drawn = drawn_for(graph, live, loads.has_supply, loads.supply_at);
+    let drawn = drawn_for(graph, live, loads.supply_at);
     let pd = loads.pd;
     let resistances = branches;
     compute_losses_estimate(drawn, pd, resistances, base_mva, live)

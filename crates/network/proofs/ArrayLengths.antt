@@ -18,3 +18,6 @@ module _ (n : PowerNetwork) (owned : Owned n) where
 
   pub branches_512 : length n.branches ≡ 512
   branches_512 = search rules
+
+  pub switches_512 : length n.switches ≡ 512
+  switches_512 = search rules

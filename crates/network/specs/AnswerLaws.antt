@@ -1,10 +1,11 @@
 -- Answers taken apart: what an accepted answer says of its parts.
-use Rattle.std.specs.Prelude.{◌≡◌, refl, ◌↔◌, Bool, true, false, not, List, [], ◌∷◌, ℕ}
+use Rattle.std.specs.Prelude.{◌≡◌, refl, ◌↔◌, Bool, true, false, not, List, [], ◌∷◌, ℕ, Result, Ok, Err}
 use Rattle.std.proofs.Common.{sym, ap, subst, ◌∙◌, true≢false}
+use Rattle.std.specs.Result.{IsErrAnd}
 use Rattle.std.proofs.lemmas.Bool.{not-false}
-use Rattle.network.specs.declared.error.Verdict.{Verdict}
-use Rattle.network.specs.declared.error.Verdict.TheVariants.{Accepted, Refused}
-use Rattle.network.specs.Answers.{Answer, accepted, refused, answer_of, ◌and_then◌, Fault, ◌if◌, judge, Judgement}
+use Rattle.std.proofs.lemmas.Result.{err_from_is_err_and}
+use Rattle.network.specs.declared.error.Refusal.{Refusal}
+use Rattle.network.specs.Answers.{Answer, accepted, refused, answer_of, number_of, place_of, ◌and_then◌, Fault, ◌if◌, judge, Judgement}
 
 abbrev IsAccepted : {A : Type 0} → Answer A → Type 0
 IsAccepted (accepted a) = Unit {0}
@@ -61,20 +62,26 @@ module _ {A : Type 0} {a : Judgement} (b : Answer A) where
   unfolding ◌and_then◌
   gives_way e = rw e
 
--- ---- a verdict in the place of an answer
-pub accepted_so : {v : Verdict} {a : Judgement} → v ≡ Accepted → answer_of v ≡ a → a ≡ accepted tt
+-- ---- what the code answers in the place of an answer
+pub accepted_so : {A : Type 0} {v : Result A Refusal} {a : Answer A} {x : A} → v ≡ Ok x → answer_of v ≡ a → a ≡ accepted x
 accepted_so r e = sym e ∙ ap answer_of r
 
-refused_so : {v : Verdict} {a : Judgement} {n p : ℕ} → v ≡ Refused n p → answer_of v ≡ a → a ≡ refused n p
-refused_so r e = sym e ∙ ap answer_of r
+pub refused_so : {A : Type 0} {v : Result A Refusal} {a : Answer A} {r : Refusal} → v ≡ Err r → answer_of v ≡ a → a ≡ refused (number_of r) (place_of r)
+refused_so q e = sym e ∙ ap answer_of q
 
--- in the place of the first answer
-pub refused_then : (v : Verdict) (a b : Judgement) (n p : ℕ) → v ≡ Refused n p → answer_of v ≡ a → answer_of v ≡ (a and_then b)
-refused_then v a b n p r e = ap answer_of r ∙ decides b (refused_so r e)
-
-pub accepted_then : {A : Type 0} (v : Verdict) (a : Judgement) (b : Answer A) → v ≡ Accepted → answer_of v ≡ a → b ≡ (a and_then b)
-accepted_then v a b r e = gives_way b (accepted_so r e)
+-- in the place of the first answer: accepted, it gives way
+pub accepted_then : {A : Type 0} {v : Result (Unit {0}) Refusal} {a : Judgement} (b : Answer A) {u : Unit {0}} → v ≡ Ok u → answer_of v ≡ a → b ≡ (a and_then b)
+accepted_then b r e = gives_way b (accepted_so r e)
 
 -- a refusal goes on, whatever the answer would have been
-pub refused_first : {A : Type 0} (v : Verdict) (a : Judgement) (b : Answer A) (n p : ℕ) → v ≡ Refused n p → answer_of v ≡ a → refused n p ≡ (a and_then b)
-refused_first v a b n p r e = decides b (refused_so r e)
+pub refused_first : {A : Type 0} {v : Result (Unit {0}) Refusal} {a : Judgement} (b : Answer A) {r : Refusal} → v ≡ Err r → answer_of v ≡ a → refused (number_of r) (place_of r) ≡ (a and_then b)
+refused_first b q e = decides b (refused_so q e)
+
+-- what a `?` returns: the refusal itself
+pub handed_on : {A : Type 0} (w : Result A Refusal) (r : Refusal) → IsErrAnd w (λ e. e ≡ r) → answer_of w ≡ refused (number_of r) (place_of r)
+handed_on w r h = let p = err_from_is_err_and w h in rw (p.1, p.2)
+
+-- and where it stands in the place of the first answer
+pub refused_on : {A : Type 0} (b : Answer A) (w : Result A Refusal) {v : Result (Unit {0}) Refusal} {a : Judgement} {r : Refusal}
+    → IsErrAnd w (λ e. e ≡ r) → v ≡ Err r → answer_of v ≡ a → answer_of w ≡ (a and_then b)
+refused_on b w h q e = handed_on w _ h ∙ refused_first b q e

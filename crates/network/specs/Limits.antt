@@ -1,11 +1,12 @@
 -- The words of document 01's limits: the method byte, what a head says, the ranges of floats, ids, own loops (document 02), and ties. No refusal number occurs here.
-use Rattle.std.specs.Prelude.{Bool, cond, ◌&&◌, List, [], ◌∷◌, ℕ, suc, eqb, Float}
+use Rattle.std.specs.Prelude.{◌≡◌, ◌<◌, Result, MatchResult, Bool, cond, ◌&&◌, List, [], ◌∷◌, ℕ, suc, eqb, Float}
 use Rattle.std.specs.Float.Ieee.{le}
 use Rattle.numbers.specs.Constants.{zero64, thousandth, thousand, million, minus_million}
 use Rattle.network.specs.declared.bus.Bus.{Bus}
 use Rattle.network.specs.declared.branch.Branch.{Branch}
 use Rattle.network.specs.declared.switch.Switch.{Switch}
 use Rattle.network.specs.declared.switch.ReconfigAlgorithm.{ReconfigAlgorithm}
+use Rattle.network.specs.declared.switch.NoMethod.{NoMethod}
 use Rattle.network.specs.declared.switch.ReconfigAlgorithm.TheVariants.{BranchExchange, TabuSearch, Exhaustive}
 
 -- document 01's method byte for each method: "00 exchange, 01 tabu, 02 exhaustive"
@@ -13,6 +14,10 @@ abbrev pub method_byte : ReconfigAlgorithm → ℕ
 method_byte BranchExchange = 0
 method_byte TabuSearch = 1
 method_byte Exhaustive = 2
+
+-- the search that a method byte stands for, where there is one
+abbrev pub IsMethod : ℕ → Result ReconfigAlgorithm NoMethod → Type 0
+IsMethod byte r = MatchResult r (λ algorithm. method_byte algorithm ≡ byte) (λ e. 2 < byte)
 
 -- what the head line says
 pub record Head : Type 0 where

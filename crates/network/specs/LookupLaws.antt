@@ -1,51 +1,37 @@
 -- Lookups by rising position: what is left to look at from position i on, where `bus_index` stops, and that the first records of an array are the listed ones.
-use Rattle.std.specs.Prelude.{◌≡◌, List, map, ℕ, ◌+◌, ◌≤◌, ◌<◌, length, get_or, take, drop}
-use Rattle.std.proofs.Math.Path.{sym}
-use Rattle.std.proofs.Common.{ap, ◌∙◌, add-zero, zero-add, arith, length-take, drop_of_length-le, get_or-take, lt-ltb, le-ltb}
-use Rattle.std.proofs.Math.ListN.{get_or-map}
+use Rattle.std.specs.Prelude.{◌≡◌, refl, Bool, true, false, not, cond, eqb, ◌==◌, List, [], ◌∷◌, map, ℕ, suc, ◌+◌, ◌≤◌, length, take}
+use Rattle.std.specs.List.{position, position_or_len}
+use Rattle.std.proofs.Common.{sym, ◌∙◌, arith, length-take, get_or-take}
+use Rattle.std.proofs.Math.Decide.{ℕ_discrete}
+use borrow.Author.Tests.{ne_eqb}
 use Rattle.numbers.specs.Choose.{index_of}
-use Rattle.numbers.specs.ChooseLaws.{index_here, index_behind}
 use Rattle.numbers.specs.TableLaws.{as_table}
 use Rattle.network.specs.declared.bus.Bus.{Bus}
-use Rattle.network.specs.declared.topology.BusIndex.TheVariants.{At, NotFound}
 use Rattle.network.specs.declared.topology.PowerNetwork.{PowerNetwork}
 use Rattle.network.specs.Limits.{bus_id}
 use Rattle.network.specs.Lookups.{bus_index}
 use Rattle.network.specs.Records.{no_bus, listed, records_of}
 
-module _ (x : ℕ) (l : List ℕ) where
-  -- x stands at none of the first i positions
-  unfoldable pub Unseen : ℕ → Type 0
-  Unseen i = index_of x l ≡ i + index_of x (drop i l)
+eqb_swapped : (a b : ℕ) → eqb a b ≡ eqb b a
+eqb_swapped a b = go (ℕ_discrete a b)
+  where
+    go : Dec (a ≡ b) → eqb a b ≡ eqb b a
+    go (yes e) = rw e
+    go (no d) = ne_eqb a b d ∙ sym (ne_eqb b a (λ e. d (sym e)))
 
-  pub unseen_none : Unseen 0
-  unfolding Unseen
-  unseen_none = sym (zero-add (index_of x l))
+-- the library's search finds the same position
+id_behind : (id : ℕ) (buses : List Bus) → position_or_len (λ (b : Bus). b.id == id) buses ≡ index_of id (map bus_id buses)
+unfolding index_of
+id_behind id [] = refl
+id_behind id (b ∷ buses) = rw (eqb_swapped b.id id) (go (eqb id b.id) (id_behind id buses))
+  where
+    go : (same : Bool) → {m n : ℕ} → m ≡ n → cond (not same) (1 + m) 0 ≡ cond same 0 (suc n)
+    go true e = refl
+    go false e = omega (arith, e)
 
-  module _ (i : ℕ) (u : Unseen i) where
-    pub unseen_more : i < length l → (get_or l i 0 ≡ x → ⊥) → Unseen (i + 1)
-    unfolding Unseen
-    unseen_more h n = u ∙ index_behind x l i h n
-
-    pub seen_here : i < length l → get_or l i 0 ≡ x → index_of x l ≡ i
-    unfolding Unseen
-    seen_here h q = u ∙ index_here x l i h q
-
-    pub seen_nowhere : length l ≤ i → index_of x l ≡ i
-    unfolding Unseen index_of
-    seen_nowhere h = u ∙ rw (drop_of_length-le l {i = i} h) (add-zero i)
-
-pub found_at : (buses : List Bus) (id i : ℕ) → i < length buses → index_of id (map bus_id buses) ≡ i → At i ≡ bus_index buses id
+pub id_found : (buses : List Bus) (id : ℕ) → position (λ (b : Bus). b.id == id) buses ≡ bus_index buses id
 unfolding bus_index
-found_at buses id i h e = rw (e, lt-ltb i (length buses) h)
-
-pub not_found : (buses : List Bus) (id i : ℕ) → length buses ≤ i → index_of id (map bus_id buses) ≡ i → NotFound ≡ bus_index buses id
-unfolding bus_index
-not_found buses id i h e = rw (e, le-ltb i (length buses) h)
-
--- the key at a position of the first n records
-pub key_at : {A : Type 0} (key : A → ℕ) (n : ℕ) (l : List A) (i : ℕ) (d : A) → i < n → get_or (map key (take n l)) i (key d) ≡ key (get_or l i d)
-key_at key n l i d h = get_or-map key (take n l) i d ∙ ap key (get_or-take n l i d h)
+id_found buses id = rw (id_behind id buses)
 
 -- inside the limit these are the listed records
 pub listed_first : {A : Type 0} (d : A) (l : List A) (n : ℕ) → n ≤ length l → take n l ≡ listed d l n

@@ -1,9 +1,7 @@
 -- The lookups of a feeder's records.
-use Rattle.std.specs.Prelude.{cond, List, map, ℕ, ltb, length}
+use Rattle.std.specs.Prelude.{cond, List, map, ℕ, ltb, length, Option, Some, None}
 use Rattle.numbers.specs.Choose.{index_of}
 use Rattle.network.specs.declared.bus.Bus.{Bus}
-use Rattle.network.specs.declared.topology.BusIndex.{BusIndex}
-use Rattle.network.specs.declared.topology.BusIndex.TheVariants.{At, NotFound}
 use Rattle.network.specs.Limits.{bus_id}
 use Rattle.network.specs.Records.{Network}
 
@@ -16,5 +14,5 @@ unfoldable pub branch_count : Network → ℕ
 branch_count N = length N.branches
 
 -- the first position of a bus with this id
-unfoldable pub bus_index : List Bus → ℕ → BusIndex
-bus_index buses id = let i = index_of id (map bus_id buses) in cond (ltb i (length buses)) (At i) NotFound
+unfoldable pub bus_index : List Bus → ℕ → Option ℕ
+bus_index buses id = let i = index_of id (map bus_id buses) in cond (ltb i (length buses)) (Some i) None

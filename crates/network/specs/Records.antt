@@ -1,6 +1,6 @@
 -- The records as lists, as long as their counts say.
-use Rattle.std.specs.Prelude.{Bool, true, false, List, [], ℕ, length, get_or, Float}
-use Rattle.std.proofs.Math.Option.{Option, none, some}
+use Rattle.std.specs.Prelude.{false, List, [], ℕ, length, get_or, Float}
+use Rattle.std.specs.Prelude.{Option, None}
 use Rattle.std.specs.Float.{binary64}
 use Rattle.std.specs.Float.Ieee.{of_bits}
 use Rattle.numbers.specs.Arrays.{padded}
@@ -33,19 +33,6 @@ pub record Network : Type 0 where
   -- document 02: the id of the supply bus, where one is named
   pub supply : Option ℕ
 
--- a supply as the code holds it: whether one is named, and its id
-abbrev pub supply_of : Bool → ℕ → Option ℕ
-supply_of false id = none
-supply_of true id = some id
-
-abbrev pub has_supply : Option ℕ → Bool
-has_supply none = false
-has_supply (some id) = true
-
-abbrev pub supply_id : Option ℕ → ℕ
-supply_id none = 0
-supply_id (some id) = id
-
 -- the first n of an array, also where it has fewer
 abbrev pub listed : {A : Type 0} → A → List A → ℕ → List A
 listed empty l n = table (λ i. get_or l i empty) n
@@ -60,7 +47,7 @@ records_of n =
       buses = listed no_bus n.buses n.bus_count;
       branches = listed no_branch n.branches n.branch_count;
       switches = listed no_switch n.switches n.switch_count;
-      supply = supply_of n.has_supply n.supply;
+      supply = n.supply;
     }
 
 -- the value that holds a feeder inside the limits: the first entries of each array are listed, the others empty
@@ -76,9 +63,8 @@ network_of N =
       base_mva = N.base;
       algorithm = N.algorithm;
       max_iterations = N.iterations;
-      has_supply = has_supply N.supply;
-      supply = supply_id N.supply;
+      supply = N.supply;
     }
 
 abbrev pub empty_network : Float → ReconfigAlgorithm → ℕ → PowerNetwork
-empty_network base algorithm iterations = network_of (record { base = base; algorithm = algorithm; iterations = iterations; buses = []; branches = []; switches = []; supply = none })
+empty_network base algorithm iterations = network_of (record { base = base; algorithm = algorithm; iterations = iterations; buses = []; branches = []; switches = []; supply = None })

@@ -1,6 +1,7 @@
 // Translated and changed from src/network/topology.rs of oxigrid. Copyright 2024-2026 COOLJAPAN OU (Team Kitasan), Apache License 2.0.
 // The feeder's records as one value, its limits, and its lookups.
-ghost use Rattle.std.specs.Prelude.{◌≡◌, take};
+ghost use Rattle.std.specs.Prelude.{◌≡◌, ◌==◌, take};
+ghost use Rattle.std.specs.List.{position};
 ghost use Rattle.network.specs.Lookups.{bus_count, branch_count, bus_index};
 ghost use Rattle.network.specs.Records.{records_of, empty_network};
 
@@ -9,15 +10,7 @@ use crate::bus::{Bus, Power};
 use crate::switch::{ReconfigAlgorithm, Switch};
 use numbers::at_most;
 
-// Where a bus stands in the list.
-#[derive(Clone, Copy)]
-pub enum BusIndex {
-    At(usize),
-    NotFound,
-}
-
-// A feeder and what is asked of it. Only the first `bus_count` buses are listed, and so for branches and switches. The bus with the id `supply` feeds it where
-// `has_supply` says so; else the number decides nothing.
+// A feeder and what is asked of it. Only the first `bus_count` buses are listed, and so for branches and switches. The bus with the id `supply` feeds it, where one is named.
 #[derive(Clone, Copy)]
 pub struct PowerNetwork {
     pub buses: [Bus; PowerNetwork::MAX_BUSES],
@@ -29,8 +22,14 @@ pub struct PowerNetwork {
     pub base_mva: f64,
     pub algorithm: ReconfigAlgorithm,
     pub max_iterations: u16,
-    pub has_supply: bool,
-    pub supply: u16,
+    pub supply: Option<u16>,
+}
+
+// The first position of a bus with this id.
+fn position_of_bus(buses: &[Bus], bus_id: u16) -> Option<usize>
+    ensures { result ≡ position (λ (b : Bus). b.id == bus_id) buses.now }
+{
+    buses.iter().position(|bus| bus.id == bus_id)
 }
 
 impl PowerNetwork {
@@ -81,8 +80,7 @@ impl PowerNetwork {
             base_mva,
             algorithm,
             max_iterations,
-            has_supply: false,
-            supply: 0,
+            supply: None,
         }
     }
 
@@ -101,17 +99,10 @@ impl PowerNetwork {
     }
 
     // The first position of a listed bus with this id.
-    pub fn bus_index(self, bus_id: u16) -> BusIndex
+    pub fn bus_index(self, bus_id: u16) -> Option<usize>
         ensures { result ≡ bus_index (take self.bus_count self.buses) bus_id }
     {
         let count = at_most(self.bus_count as usize, PowerNetwork::MAX_BUSES);
-        let mut i: usize = 0;
-        while i < count {
-            if self.buses[i].id == bus_id {
-                return BusIndex::At(i);
-            }
-            i += 1;
-        }
-        BusIndex::NotFound
+        position_of_bus(&self.buses[..count], bus_id)
     }
 }

@@ -1,6 +1,6 @@
 -- Choosing among numbers and in lists, by rising position.
 use Rattle.std.specs.Prelude.{Bool, false, cond, ◌||◌, List, [], ◌∷◌, ◌++◌, ℕ, zero, suc, eqb}
-use Rattle.std.proofs.Math.Option.{Option, none, some}
+use Rattle.std.specs.Prelude.{Option, None, Some}
 use Rattle.numbers.specs.UpTo.{up_to}
 
 -- the numbers below n that pass the test, rising
@@ -25,18 +25,18 @@ among x (y ∷ ys) = eqb x y || among x ys
 -- the first answer, where there is one, and else the second
 infixr 4 ◌or_else◌
 unfoldable pub ◌or_else◌ : {A : Type 0} → Option A → Option A → Option A
-some a or_else b = some a
-none or_else b = b
+Some a or_else b = Some a
+None or_else b = b
 
 -- the first answer along a list
 unfoldable pub first_some : {A : Type 0} → (ℕ → Option A) → List ℕ → Option A
-first_some f [] = none
+first_some f [] = None
 first_some f (x ∷ l) = f x or_else first_some f l
 
 -- the least number below n that passes the test
 unfoldable pub least : (ℕ → Bool) → ℕ → Option ℕ
-least p n = up_to (λ found i. found or_else cond (p i) (some i) none) none n
+least p n = up_to (λ found i. found or_else cond (p i) (Some i) None) None n
 
 -- the last answer, by rising numbers below n
 unfoldable pub last_some : {A : Type 0} → (ℕ → Option A) → ℕ → Option A
-last_some f n = up_to (λ found i. f i or_else found) none n
+last_some f n = up_to (λ found i. f i or_else found) None n

@@ -1,28 +1,20 @@
 // The branch that a pair opens, found on the path that its closing makes a loop of.
-ghost use Rattle.std.specs.Prelude.{◌≡◌, List, ℕ, ◌≤◌};
-ghost use Rattle.graph.specs.Rows.{flag, path_of};
+ghost use Rattle.std.specs.Prelude.{◌≡◌};
+ghost use Rattle.graph.specs.Rows.{flag};
 ghost use Rattle.openings.specs.Opening.{first_unwanted, row_opening};
 
 use graph::flags::flagged;
 use graph::rows::Graph;
-use graph::walks::PathBranches;
-use numbers::wide16;
 use paths::path::path_of_ends;
 
 // The first branch of a path that is not wanted; 0 where all are.
-fn first_unwanted(path: PathBranches, wanted: &[bool]) -> u16
-    requires { path.count ≤ 256 }
-    ensures { (l : List ℕ) → path ≡ path_of l → result ≡ first_unwanted (flag wanted.now) l }
+fn first_unwanted(path: &[u16], wanted: &[bool]) -> u16
+    ensures { result ≡ first_unwanted (flag wanted.now) path.now }
 {
-    let n = path.count;
-    let mut i = 0u16;
-    while i < n {
-        let at = wide16(i);
-        let k = path.branch[at];
-        if !flagged(wanted, k) {
-            return k;
+    for k in path {
+        if !flagged(wanted, *k) {
+            return *k;
         }
-        i += 1;
     }
     0
 }
@@ -37,5 +29,5 @@ pub fn opening(
     ensures { result ≡ row_opening graph live wanted k }
 {
     let path = path_of_ends(graph, live, k);
-    first_unwanted(path, &wanted)
+    first_unwanted(&path.branch[..usize::from(path.count)], &wanted)
 }

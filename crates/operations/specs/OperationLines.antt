@@ -1,5 +1,6 @@
 -- The operations and their lines as a loop over the switches makes them.
-use Rattle.std.specs.Prelude.{◌≡◌, Bool, not, eqb, take, drop}
+use Rattle.std.specs.Prelude.{◌≡◌, Bool, not, eqb, take, drop, count_by}
+use Rattle.std.specs.List.{zip}
 use Rattle.std.proofs.Math.Path.{refl, sym, ap}
 use Rattle.std.proofs.Common.{◌∙◌, add-one, add-zero, add-suc, zero-add, length-append, eq-eqb, ne_eqb}
 use Rattle.std.proofs.Math.Bool.{true, false, cond}
@@ -8,6 +9,7 @@ use Prim.Native.Nat.{ℕ, zero, suc, ◌+◌, ◌*◌, ◌-◌, ◌≤◌, ◌<�
 use native.Mathlib.Omega.{arith}
 use Rattle.std.proofs.Math.ListN.{length}
 use Rattle.std.proofs.lemmas.List.{length-map}
+use Rattle.std.proofs.lemmas.List.Sums.{sum_by-cons}
 use Rattle.std.proofs.lemmas.List.Edits.{sets}
 use Rattle.std.proofs.Math.Seq.{length-sets}
 use borrow.Rule.Slice.PartMut.{put_mid}
@@ -15,7 +17,8 @@ use Rattle.numbers.specs.UpTo.{up_to, up_to_more}
 use Rattle.numbers.specs.Choose.{those}
 use Rattle.numbers.specs.ChooseLaws.{those_long}
 use Rattle.numbers.specs.TableLaws.{map_snoc}
-use Rattle.numbers.specs.Counts.{count, count_yes, count_no}
+use Rattle.numbers.specs.Counts.{count}
+use Rattle.numbers.specs.CountLaws.{count_front}
 use Rattle.network.specs.declared.switch.Switch.{Switch}
 use Rattle.network.specs.Records.{Network}
 use Rattle.states.specs.Switches.{State, byte, size, switch}
@@ -63,12 +66,13 @@ module _ (w : Switch) (from to : ℕ) where
         (written_part (line_of w from to) out at room (e ∙ rw (a, changes d)), omega arith)
 
 -- ---- how many switches stand otherwise
-module _ (from to : State) (i : ℕ) where
-  pub one_same : byte from i ≡ byte to i → count (differs from to) (i + 1) ≡ count (differs from to) i
-  one_same e = rw add-one (count_no (differs from to) i (rw (eq-eqb _ _ e)))
-
-  pub one_other : (byte from i ≡ byte to i → ⊥) → count (differs from to) (i + 1) ≡ count (differs from to) i + 1
-  one_other d = rw (add-one i, add-one) (count_yes (differs from to) i (rw (ne_eqb (byte from i) (byte to i) d)))
+pub differing : (from to : State) → length to ≡ length from → count_by (λ (p : ℕ × ℕ). not (eqb p.0 p.1)) (zip from to) ≡ count (differs from to) (length from)
+differing [] [] e = unfold count in refl
+differing [] (b ∷ to) e = absurd (omega arith)
+differing (a ∷ from) [] e = absurd (omega arith)
+differing (a ∷ from) (b ∷ to) e =
+    sum_by-cons (λ (p : ℕ × ℕ). cond (not (eqb p.0 p.1)) 1 0) (a, b) (zip from to)
+    ∙ rw (count_front (differs (a ∷ from) (b ∷ to)) (length from)) (ap (λ (n : ℕ). cond (not (eqb a b)) 1 0 + n) (differing from to (omega arith)))
 
 -- ---- by rising position
 module _ (N : Network) (from to : State) where

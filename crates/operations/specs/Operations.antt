@@ -3,7 +3,7 @@ use Rattle.std.specs.Prelude.{cond, ℕ, eqb, length}
 use mathlib.Core.List.{List, [], ◌∷◌, ◌++◌, flat_map}
 use Rattle.numbers.specs.UpTo.{up_to}
 use Rattle.network.specs.Records.{Network}
-use Rattle.network.specs.Answers.{Answer, accepted, refused, ◌and_then◌}
+use Rattle.network.specs.Answers.{◌and_then◌}
 use Rattle.feeders.specs.Supply.{check_network}
 use Rattle.states.specs.Live.{check_state}
 use Rattle.network.specs.declared.switch.Switch.{Switch}
@@ -12,8 +12,6 @@ use Rattle.printing.specs.declared.writer.SwitchOperation.{SwitchOperation}
 use Rattle.printing.specs.declared.writer.SwitchAction.TheVariants.{Open, Close}
 use Rattle.printing.specs.Printed.{operation_text}
 use Rattle.printing.specs.Calls.{Call, called}
-use Rattle.operations.specs.declared.operations.OperationsAnswer.{OperationsAnswer}
-use Rattle.operations.specs.declared.operations.OperationsAnswer.TheVariants.{Operations, Refused}
 
 -- what is done to a switch so that it stands as its byte in a state says
 unfoldable pub operation_to : Switch → ℕ → SwitchOperation
@@ -35,8 +33,3 @@ unfoldable pub operations_call : Network → State → State → List ℕ → Ca
 operations_call N from to out =
     let l = operations N from to in
     called (check_network N and_then check_state N from 0 and_then check_state N to 1) (length l) (operations_text l) out
-
--- document 01's number and place for each case of the code's answer
-abbrev pub operations_answer_of : OperationsAnswer → Answer ℕ
-operations_answer_of (Operations count) = accepted count
-operations_answer_of (Refused number place) = refused number place

@@ -104,6 +104,5 @@ value_without n =
       base_mva = n.base_mva;
       algorithm = n.algorithm;
       max_iterations = n.max_iterations;
-      has_supply = n.has_supply;
       supply = n.supply;
     }

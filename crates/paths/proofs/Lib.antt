@@ -1,3 +1,2 @@
-pub mod Leading
 pub mod Noting
-pub mod Ends
+pub mod Leading

@@ -1,5 +1,3 @@
-pub mod ArrayLengths
-pub mod PairLists
 pub mod OpenIds
 pub mod Pairing
 pub mod Lines

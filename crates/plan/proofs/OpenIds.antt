@@ -1,14 +1,9 @@
 -- The ids of the open switches of each branch, as a loop over the switches notes them: those of the first i switches, in list order. There are at most two.
-use mathlib.Core.Path.{◌≡◌, refl, sym, ap, ◌∙◌}
-use mathlib.Core.Logic.{◌≢◌}
-use mathlib.Core.Bool.{true, false, cond, and-false}
-use mathlib.Core.List.{List, [], ◌∷◌, ◌++◌, map}
-use Prim.Native.Nat.{ℕ, ◌+◌, ◌≤◌, ◌<◌}
-use native.Mathlib.Decide.{ℕ_discrete}
-use native.Mathlib.Numerals.{add-one}
-use native.Mathlib.Omega.{arith}
-use lib.ListN.{length, get_or, set, replicate, length-set, length-map, length-append, length-replicate, get_or-replicate}
-use lib.Seq.{get_or-set_same, get_or-set_other}
+use Rattle.std.specs.Prelude.{◌≡◌, ◌≢◌, refl, true, false, cond, List, [], ◌∷◌, ◌++◌, map, ℕ, ◌+◌, ◌≤◌, ◌<◌, length, get_or, set, take, replicate}
+use Rattle.std.proofs.Common.{sym, ap, ◌∙◌, arith, add-one, length-set, length-append, length-take, get_or-take, get_or-set_same, get_or-set_other}
+use Rattle.std.proofs.Math.Bool.{and-false}
+use Rattle.std.proofs.Math.Decide.{ℕ_discrete}
+use Rattle.std.proofs.lemmas.List.{length-map, length-replicate, get_or-replicate}
 use borrow.Author.Tests.{eq-eqb, ne_eqb}
 use Rattle.numbers.specs.Counts.{count}
 use Rattle.numbers.specs.CountLaws.{counted_before}
@@ -22,12 +17,18 @@ use Rattle.network.specs.Records.{Network, no_switch, records_of}
 use Rattle.network.specs.Answers.{accepted}
 use Rattle.network.specs.Check.{check_records}
 use Rattle.network.specs.InsideLaws.{check_inside}
-use Rattle.states.specs.Switches.{State, byte, branch_of}
+use Rattle.states.specs.Switches.{State, byte, branch_of, switch}
 use Rattle.states.specs.Listed.{switches_listed, switch_at_lem, switch_small}
 use Rattle.states.specs.OpenCounts.{open_at, open_count, two_open}
 use Rattle.printing.specs.declared.writer.SwitchIds.{SwitchIds}
 use Rattle.printing.specs.Stored.{ids_in, no_ids, no_entry}
 use Rattle.plan.specs.Plan.{open_switches, id_of}
+
+-- the switch that a loop reads is the listed one
+pub read : (n : PowerNetwork) (m i : ℕ) → m ≡ n.switch_count → i < length (take m n.switches) → switch (records_of n) i ≡ get_or (take m n.switches) i no_switch
+read n m i e h =
+    let l : i < m = omega (arith, length-take m n.switches) in
+    switch_at_lem n i (omega arith) ∙ sym (get_or-take m n.switches i no_switch l)
 
 -- these are the ids, with their number
 pub record HasIds (w : SwitchIds) (ids : List ℕ) : Type 0 where
@@ -70,21 +71,15 @@ module _ (n : PowerNetwork) (s : State) where
     taken k e = rw (more k, e) (map_snoc (id_of N) (those (open_at N s k) i) i)
 
     -- the switch is closed
-    pub closed_noted : {b : ℕ} → b ≡ byte s i → b ≢ 1 → Noted ids (i + 1)
-    closed_noted e d = record {
+    pub closed_noted : byte s i ≢ 1 → Noted ids (i + 1)
+    closed_noted d = record {
       within = omega arith;
       sized = t.sized;
-      each = λ k l. rw (passed_by k (rw (ne_eqb (byte s i) 1 (λ z. d (e ∙ z)), and-false))) (t.each k l);
+      each = λ k l. rw (passed_by k (rw (ne_eqb (byte s i) 1 d, and-false))) (t.each k l);
     }
 
     -- the switch is open
-    module _ {at : ℕ} (here : at ≡ i) (stands : byte s i ≡ 1) where
-      abbrev w : Switch
-      w = get_or n.switches at no_switch
-
-      same : get_or N.switches i no_switch ≡ w
-      same = switch_at_lem n i h ∙ ap (λ (j : ℕ). get_or n.switches j no_switch) (sym here)
-
+    module _ (w : Switch) (same : switch N i ≡ w) (stands : byte s i ≡ 1) where
       branch : branch_of N i ≡ w.branch_idx
       branch = ap (λ (x : Switch). x.branch_idx) same
 
@@ -99,7 +94,7 @@ module _ (n : PowerNetwork) (s : State) where
 
       module _ (ok : check_records N ≡ accepted tt) {on : ℕ} (there : on ≡ w.branch_idx) where
         pub small : on < 512
-        small = rw there (switch_small n ok at (omega arith))
+        small = rw (there, ← branch, ap (λ (x : Switch). x.branch_idx) (switch_at_lem n i h)) (switch_small n ok i h)
 
         -- there is room for its id: of two on a branch at most one stands before it
         pub room : (get_or ids on no_entry).count < 2

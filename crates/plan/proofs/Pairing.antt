@@ -1,25 +1,24 @@
 -- The pairs as a loop over the switches makes them: the first i switches are done with, the pairs of the others are still to come, and lead from
 -- the branches flagged now to the wanted ones.
-use mathlib.Core.Path.{◌≡◌, refl, sym, ap, ◌∙◌, fun_ext}
-use mathlib.Core.Bool.{Bool, true, false, ◌&&◌}
+use Rattle.std.specs.Prelude.{◌≡◌, refl, Bool, true, false, ◌&&◌, ℕ, ◌+◌, ◌≤◌, ◌<◌, eqb, length, get_or, set}
+use Rattle.std.proofs.Common.{sym, ap, ◌∙◌, arith, append_assoc, length-set, length-append, get_or-set_same, get_or-set_other}
+use mathlib.Core.Path.{fun_ext}
 use mathlib.Core.List.Memᴰ
-use mathlib.Core.List.{List, [], ◌∷◌, ◌++◌, map, append_assoc, append-nil}
-use Prim.Native.Nat.{ℕ, ◌+◌, ◌≤◌, ◌<◌}
-use native.Mathlib.Decide.{ℕ_discrete}
-use native.Mathlib.Omega.{arith}
-use lib.Dec.{eqb}
-use lib.ListN.{length, get_or, set, length-set, length-append, length-map, get_or-map}
-use lib.Seq.{get_or-set_same, get_or-set_other}
+use mathlib.Core.List.{List, [], ◌∷◌, ◌++◌, map, append-nil}
+use Rattle.std.proofs.Math.Decide.{ℕ_discrete}
+use Rattle.std.proofs.Math.ListN.{get_or-map}
+use Rattle.std.proofs.lemmas.List.{length-map}
 use borrow.Author.Tests.{eq-eqb, ne_eqb, eqb-true}
 use Rattle.numbers.specs.Choose.{index_of}
 use Rattle.numbers.specs.ChooseLaws.{index_early}
-use Rattle.numbers.specs.TableLaws.{length_table}
+use Rattle.numbers.specs.TableLaws.{length_table, map_snoc}
 use Rattle.numbers.specs.Tests.{both, same_test}
 use Rattle.network.specs.declared.switch.Switch.{Switch}
 use Rattle.network.specs.declared.topology.PowerNetwork.{PowerNetwork}
-use Rattle.network.specs.Records.{Network, no_switch, records_of}
+use Rattle.network.specs.Records.{Network, records_of}
 use Rattle.network.specs.Answers.{accepted}
 use Rattle.network.specs.Limits as limits
+use Rattle.network.specs.Records.{no_switch}
 use Rattle.network.specs.Check.{check_records}
 use Rattle.states.specs.Live.{live}
 use Rattle.graph.specs.declared.rows.Graph.{Graph}
@@ -29,9 +28,9 @@ use Rattle.feeders.specs.FeederLaws.{feeder_few}
 use Rattle.graph.specs.Rows.{flag}
 use Rattle.feeders.specs.FeederRows.{feeder_graph, live_flags}
 use Rattle.feeders.specs.FeederRowLaws.{flags_live}
-use Rattle.plan.specs.declared.pairs.PairList.{PairList}
-use Rattle.states.specs.Switches.{State, branch_of}
-use Rattle.states.specs.Listed.{switches_listed, few_switches, switch_at_lem}
+use Rattle.plan.specs.declared.pairs.Pair as code
+use Rattle.states.specs.Switches.{State, branch_of, switch}
+use Rattle.states.specs.Listed.{switches_listed, few_switches}
 use Rattle.changes.specs.declared.change.Change.{Change}
 use Rattle.changes.specs.Change.{only_in}
 use Rattle.openings.specs.Opening.{row_opening}
@@ -39,9 +38,8 @@ use Rattle.printing.specs.declared.writer.SwitchIds.{SwitchIds}
 use Rattle.printing.specs.Stored.{ids_in, no_entry}
 use Rattle.plan.specs.Plan.{Pair, ranks, closings, opening, exchanged, pairs_from, pairs, open_switches, id_of, moves_of, plan}
 use Rattle.plan.specs.RowOpening.{row_opening_lem}
-use Rattle.plan.specs.Stored.{moves_in}
+use Rattle.plan.specs.Stored.{switches_in, moves_in}
 use Rattle.changes.specs.Onward.{onward, of_onward, onward_all, onward_none, onward_yes, onward_no}
-use Rattle.plan.specs.Length.{length_moves}
 use Rattle.plan.specs.Exchanges.{opened_live}
 use Rattle.plan.specs.Missing.{only_so}
 use Rattle.plan.specs.Plannable.{Regular}
@@ -95,9 +93,9 @@ module _ (n : PowerNetwork) (present wanted : State) where
   left : List Bool → ℕ → List Pair
   left flags i = pairs_from N wanted (flag flags) (map (branch_of N) (onward closes n.switch_count i))
 
-  pub record Made (flags : List Bool) (made : PairList) (i : ℕ) : Type 0 where
+  pub record Made (flags : List Bool) (made : List code.Pair) (i : ℕ) : Type 0 where
     pub within : i ≤ n.switch_count
-    pub few : made.count ≤ i
+    pub few : length made ≤ i
     pub sized : length flags ≡ 512
     leads : Leads N (live N present) (live N wanted) (flag flags) (left flags i)
     whole : plan N present wanted ≡ moves_in made ++ map (moves_of N present wanted) (left flags i)
@@ -125,28 +123,28 @@ module _ (n : PowerNetwork) (present wanted : State) where
     abbrev after : List Bool
     after = change.wanted_live
 
-    pub none_made : {made : PairList} → moves_in made ≡ [] → Made before made 0
+    pub none_made : Made before [] 0
     unfolding plan
-    none_made {made} e = record {
+    none_made = record {
       within = omega arith;
-      few = omega (arith, sym (length_moves made) ∙ ap length e);
+      few = omega arith;
       sized = ap length given.present_live ∙ length_table _ 512;
       leads = rw (given.present_live, flags_live N present (inside n passed).counts.1, ← all_left) (pairs_lead N present wanted (accepted_plannable N present wanted given.ok).joined);
-      whole = rw (e, given.present_live, ← all_left);
+      whole = rw (given.present_live, ← all_left);
     }
 
-    module _ {flags : List Bool} {made : PairList} (i : ℕ) (m : Made flags made i) where
+    module _ {flags : List Bool} {made : List code.Pair} (i : ℕ) (m : Made flags made i) where
       pub all_made : n.switch_count ≤ i → moves_in made ≡ plan N present wanted
       unfolding left pairs_from
       all_made h = sym (m.whole ∙ rw (onward_none closes n.switch_count i h, append-nil))
 
-      module _ (h : i < n.switch_count) {at : ℕ} (here : at ≡ i) where
-        -- the branch of the switch, as the code reads it
+      -- the switch as the code reads it, on branch k
+      module _ (h : i < n.switch_count) {w : Switch} (same : switch N i ≡ w) where
         abbrev k : ℕ
-        k = (get_or n.switches at no_switch).branch_idx
+        k = w.branch_idx
 
         on_k : branch_of N i ≡ k
-        on_k = ap (λ (s : Switch). s.branch_idx) (switch_at_lem n i h ∙ ap (λ (j : ℕ). get_or n.switches j no_switch) (sym here))
+        on_k = ap (λ (s : Switch). s.branch_idx) same
 
         wanted_live : live N wanted (branch_of N i) ≡ flag after k
         wanted_live = rw (on_k, given.wanted_live) (sym (flag_live n passed wanted k))
@@ -243,23 +241,22 @@ module _ (n : PowerNetwork) (present wanted : State) where
             gone_small = rw (y ∙ opens) f_small
 
             -- what making a pair asks for
-            pub pair_room : (k < 512) × (gone < 512) × (made.count < 512)
+            pub pair_room : (k < 512) × (gone < 512) × (length made < 512)
             pair_room = (k_small, gone_small, omega (arith, m.few, few_switches n passed))
 
-            pub one_made : (closing opening : List SwitchIds) → Ids present closing → Ids wanted opening → {a b : ℕ} → a ≡ k → b ≡ gone → {flags' : List Bool} {made' : PairList}
-                → flags' ≡ set (set flags k true) gone false
-                → moves_in made' ≡ moves_in made ++ (record { closes = ids_in (get_or closing a no_entry); opens = ids_in (get_or opening b no_entry) } ∷ [])
-                → Made flags' made' (i + 1)
+            pub one_made : (closing opening : List SwitchIds) → Ids present closing → Ids wanted opening → {flags' : List Bool} → flags' ≡ set (set flags k true) gone false
+                → Made flags' (made ++ (record { closes = get_or closing k no_entry; opens = get_or opening gone no_entry } ∷ [])) (i + 1)
             unfolding left
-            one_made closing opening c o at-k at-gone {flags'} {made'} z r =
+            one_made closing opening c o {flags'} z =
+                let pair : code.Pair = record { closes = get_or closing k no_entry; opens = get_or opening gone no_entry } in
                 let s : flags' ≡ set (set flags k true) f false = z ∙ ap (λ (j : ℕ). set (set flags k true) j false) (y ∙ opens) in
                 let u : k < length flags = omega (arith, m.sized, k_small) in
                 let v : f < length flags = omega (arith, m.sized, f_small) in
                 let same : flag flags' ≡ exchanged (flag flags) q = ap (λ (l : List Bool). flag l) s ∙ flags_exchanged flags q u v in
-                let moved : moves_in made' ≡ moves_in made ++ (moves_of N present wanted q ∷ []) = r ∙ rw (at-k, at-gone ∙ y ∙ opens, c k k_small, o f f_small) in
+                let moved : moves_in (made ++ (pair ∷ [])) ≡ moves_in made ++ (moves_of N present wanted q ∷ []) = map_snoc switches_in made pair ∙ rw (y ∙ opens, c k k_small, o f f_small) refl in
                 record {
                   within = omega arith;
-                  few = omega (arith, length_moves made, length_moves made', simp length-append at (ap length moved), m.few);
+                  few = omega (arith, length-append made (pair ∷ []), m.few);
                   sized = ap length s ∙ simp length-set m.sized;
                   leads = rw same on.2;
                   whole = m.whole ∙ (rw (first_left, same, moved) (sym (append_assoc (moves_in made) (moves_of N present wanted q ∷ []) (map (moves_of N present wanted) (rest (exchanged (flag flags) q))))));

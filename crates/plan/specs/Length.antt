@@ -1,11 +1,10 @@
--- How long a plan is: as many pairs as branches live in the wanted state are missing, so at most the buses less one, and at most as many moves as switches; how long a list of
--- pairs is, and a plan's text.
+-- How long a plan is: as many pairs as branches live in the wanted state are missing, so at most the buses less one, and at most as many moves as switches; how long a
+-- plan's text is.
 use Rattle.std.specs.Prelude.{◌≡◌, refl, ◌+◌, ◌-◌, ◌*◌, ◌≤◌, length}
 use mathlib.Core.List.{List, [], ◌∷◌, flat_map}
 use Rattle.std.proofs.Common.{arith, length-append}
 use Rattle.std.proofs.lemmas.List.{length-map}
 use Rattle.numbers.specs.CountLaws.{count_mono}
-use Rattle.numbers.specs.TableLaws.{length_table}
 use Rattle.network.specs.Records.{Network}
 use Rattle.network.specs.Answers.{accepted}
 use Rattle.network.specs.InsideLaws.{check_inside}
@@ -17,9 +16,7 @@ use Rattle.feeders.specs.SupplyLaws.{network_records}
 use Rattle.printing.specs.Lengths.{pair_head_length, id_length, plan_length}
 use Rattle.printing.specs.LineTexts.{length_pair}
 use Rattle.changes.specs.Change.{only_in, check_plan}
-use Rattle.plan.specs.declared.pairs.PairList.{PairList}
 use Rattle.plan.specs.Plan.{Moves, plan, pairs, moves_of, plan_text}
-use Rattle.plan.specs.Stored.{moves_in}
 use Rattle.plan.specs.Missing.{missing, only_so}
 use Rattle.plan.specs.Stages.{leads_missing}
 use Rattle.plan.specs.Planner.{pairs_lead}
@@ -40,10 +37,6 @@ plan_short N present wanted ok =
 pub plan_few : (N : Network) (present wanted : State) → check_plan N present wanted ≡ accepted tt → length (plan N present wanted) ≤ 255
 unfolding feeder
 plan_few N present wanted ok = omega (arith, plan_short N present wanted ok, (accepted_plannable N present wanted ok).joined.regular.few)
-
-pub length_moves : (l : PairList) → length (moves_in l) ≡ l.count
-unfolding moves_in
-length_moves l = length_table _ l.count
 
 -- "7 bytes a pair and 4 a moved switch"
 pub length_text : (N : Network) (l : List Moves) → length (plan_text l) ≡ pair_head_length * length l + id_length * length (switches_moved N l)

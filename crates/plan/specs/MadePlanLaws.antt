@@ -1,35 +1,34 @@
 -- What is known of what the planner hands on: the answer of its tests, and beside no refusal the plan's pairs.
-use Rattle.std.specs.Prelude.{◌≡◌, List, [], ℕ, ◌≤◌, length}
+use Rattle.std.specs.Prelude.{◌≡◌, Result, Ok, Err, List}
+use Rattle.std.specs.Result.{IsErrAnd}
 use Rattle.std.proofs.Math.Path.{refl, ap}
-use Rattle.std.proofs.Common.{◌∙◌, arith}
-use Rattle.network.specs.declared.error.Verdict.{Verdict}
-use Rattle.network.specs.declared.error.Verdict.TheVariants.{Accepted, Refused}
+use Rattle.std.proofs.Common.{sym, ◌∙◌}
+use Rattle.std.proofs.lemmas.Result.{err_from_is_err_and}
+use Rattle.network.specs.declared.error.Refusal.{Refusal}
 use Rattle.network.specs.Records.{Network}
-use Rattle.network.specs.Answers.{accepted, refused, answer_of, Judgement}
-use Rattle.network.specs.AnswerLaws.{accepted_so}
+use Rattle.network.specs.Answers.{accepted, refused, answer_of, number_of, place_of, Judgement}
 use Rattle.states.specs.Switches.{State}
 use Rattle.changes.specs.Change.{check_plan}
-use Rattle.plan.specs.declared.planner.MadePlan.{MadePlan}
-use Rattle.plan.specs.Plan.{Moves, plan}
+use Rattle.plan.specs.declared.pairs.Pair.{Pair}
+use Rattle.plan.specs.Plan.{plan}
 use Rattle.plan.specs.MadePlans.{Made, made_with, made_plan}
 use Rattle.plan.specs.Stored.{moves_in, made_in}
-use Rattle.plan.specs.Length.{plan_few, length_moves}
 
 module _ (N : Network) (present wanted : State) where
   -- as the code makes it
-  pub none_made : {v : Verdict} {number place : ℕ} → v ≡ Refused number place → answer_of v ≡ check_plan N present wanted → {moves : List Moves} → moves ≡ []
-      → record { answer = answer_of v; pairs = moves } ≡ made_plan N present wanted
+  pub none_made : (w : Result (List Pair) Refusal) {v : Result (Unit {0}) Refusal} {r : Refusal} → IsErrAnd w (λ e. e ≡ r) → v ≡ Err r → answer_of v ≡ check_plan N present wanted
+      → made_in w ≡ made_plan N present wanted
   unfolding made_plan
-  none_made r e p = rw (← e, r, p)
+  none_made w h q e = let p = err_from_is_err_and w h in rw (p.1, p.2, ← e, q)
 
-  pub plan_made : {v : Verdict} → v ≡ Accepted → answer_of v ≡ check_plan N present wanted → {moves : List Moves} → moves ≡ plan N present wanted
-      → record { answer = answer_of v; pairs = moves } ≡ made_plan N present wanted
+  pub plan_made : {v : Result (Unit {0}) Refusal} {u : Unit {0}} → v ≡ Ok u → answer_of v ≡ check_plan N present wanted → (pairs : List Pair) → moves_in pairs ≡ plan N present wanted
+      → made_in (Ok pairs) ≡ made_plan N present wanted
   unfolding made_plan
-  plan_made r e p = rw (← e, r, p)
+  plan_made q e pairs p = rw (← e, q, p)
 
   -- as its callers use it
-  module _ (m : MadePlan) (made : made_in m ≡ made_plan N present wanted) where
-    pub made_answer : answer_of m.verdict ≡ check_plan N present wanted
+  module _ (m : Result (List Pair) Refusal) (made : made_in m ≡ made_plan N present wanted) where
+    made_answer : (made_in m).answer ≡ check_plan N present wanted
     unfolding made_plan
     made_answer = ap (λ (x : Made). x.answer) made ∙ same (check_plan N present wanted)
       where
@@ -37,13 +36,13 @@ module _ (N : Network) (present wanted : State) where
         same (accepted u) = refl
         same (refused number place) = refl
 
-    module _ (v : m.verdict ≡ Accepted) where
+    pub made_refused : {r : Refusal} → m ≡ Err r → refused (number_of r) (place_of r) ≡ check_plan N present wanted
+    made_refused e = sym (ap (λ x. (made_in x).answer) e) ∙ made_answer
+
+    module _ {pairs : List Pair} (e : m ≡ Ok pairs) where
       pub made_accepted : check_plan N present wanted ≡ accepted tt
-      made_accepted = accepted_so v made_answer
+      made_accepted = sym made_answer ∙ ap (λ x. (made_in x).answer) e
 
-      pub made_pairs : moves_in m.pairs ≡ plan N present wanted
+      pub made_pairs : moves_in pairs ≡ plan N present wanted
       unfolding made_plan
-      made_pairs = ap (λ (x : Made). x.pairs) made ∙ rw made_accepted refl
-
-      pub made_few : m.pairs.count ≤ 512
-      made_few = omega (arith, length_moves m.pairs, ap length made_pairs, plan_few N present wanted made_accepted)
+      made_pairs = sym (ap (λ x. (made_in x).pairs) e) ∙ ap (λ (x : Made). x.pairs) made ∙ rw made_accepted refl

@@ -13,8 +13,6 @@ use Rattle.printing.specs.Calls.{Call, called}
 use Rattle.feeders.specs.Feeder.{ends_path}
 use Rattle.changes.specs.Change.{only_in, check_plan}
 use Rattle.openings.specs.Opening.{first_unwanted}
-use Rattle.plan.specs.declared.planner.PlanAnswer.{PlanAnswer}
-use Rattle.plan.specs.declared.planner.PlanAnswer.TheVariants.{Pairs, Refused}
 
 -- ---- pairs of branches
 -- document 01's pair: a branch that is closed, then a branch that is opened
@@ -93,8 +91,3 @@ length_beside (refused number place) moves = 0
 
 unfoldable pub planned_length : Network → State → State → List ℕ → ℕ
 planned_length N present wanted out = length_beside (planned N present wanted out).answer (plan N present wanted)
-
--- document 01's number and place for each case of the code's answer
-abbrev pub plan_answer_of : PlanAnswer → Answer ℕ
-plan_answer_of (Pairs count) = accepted count
-plan_answer_of (Refused number place) = refused number place

@@ -10,54 +10,42 @@ ghost use Rattle.changes.specs.Passing.{Passed};
 ghost use Rattle.plan.specs.Plan.{open_switches, id_of, plan};
 ghost use Rattle.plan.specs.Stored.{moves_in};
 
+use crate::list::SwitchList;
 use changes::change::Change;
 use graph::flags::flagged;
-use graph::rows::Graph;
 use network::topology::PowerNetwork;
-use numbers::{wide8, wide16};
 use openings::opening::opening;
 use printing::writer::SwitchIds;
+use states::configuration::NetworkConfiguration;
 
-// The pairs of a plan in order: for each the ids of the switches that it closes and the ids of those that it opens. Each closes another branch by
-// a switch of its own: there are no more of them than switches (`specs/Length.plan_few`: 255 at the most).
+// A pair: the ids of the switches that it closes, and of those that it opens.
 #[derive(Clone, Copy)]
-pub struct PairList {
-    pub count: u16,
-    pub closes: [SwitchIds; PowerNetwork::MAX_SWITCHES],
-    pub opens: [SwitchIds; PowerNetwork::MAX_SWITCHES],
+pub struct Pair {
+    pub closes: SwitchIds,
+    pub opens: SwitchIds,
 }
 
-impl PairList {
-    // No pairs.
-    pub(crate) fn new() -> PairList
-        ensures { moves_in result ≡ [] }
-    {
-        let none = SwitchIds::new();
-        PairList {
-            count: 0,
-            closes: [none; PowerNetwork::MAX_SWITCHES],
-            opens: [none; PowerNetwork::MAX_SWITCHES],
-        }
-    }
-
-    // One pair more.
-    fn with(mut self, closes: SwitchIds, opens: SwitchIds) -> PairList
-        requires { self.count < 512 }
-        ensures { moves_in result ≡ moves_in self ++ (record { closes = ids_in closes; opens = ids_in opens } ∷ []) }
-    {
-        let at = wide16(self.count);
-        self.closes[at] = closes;
-        self.opens[at] = opens;
-        self.count += 1;
-        self
-    }
-}
+// The pairs of a plan in order. Each closes another branch by a switch of its own: there are no more of them than switches (`specs/Length.plan_few`:
+// 255 at the most).
+pub type PairList = SwitchList<Pair>;
 
 // The pairs made so far, and the branches that are live with them done.
-#[derive(Clone, Copy)]
+#[derive(Drop)]
 struct Stage {
     live: [bool; PowerNetwork::MAX_BRANCHES],
     pairs: PairList,
+}
+
+impl Stage {
+    // The pair that closes branch k and opens branch f, made of the switches that it moves and done.
+    fn pair_done(&mut self, k: u16, f: u16, pair: Pair)
+        requires { (k < 512) × (f < 512) × (length self.old.pairs < 512) }
+        ensures { (self.new.live ≡ set (set self.old.live k true) f false) × (self.new.pairs ≡ self.old.pairs ++ pair ∷ []) }
+    {
+        self.live[usize::from(k)] = true;
+        self.live[usize::from(f)] = false;
+        self.pairs.push(pair);
+    }
 }
 
 // One id more, behind the others.
@@ -65,8 +53,7 @@ fn with_id(mut ids: SwitchIds, id: u16) -> SwitchIds
     requires { ids.count < 2 }
     ensures { (result.count ≡ ids.count + 1) × (ids_in result ≡ ids_in ids ++ (id ∷ [])) }
 {
-    let at = wide8(ids.count);
-    ids.ids[at] = id;
+    ids.ids[usize::from(ids.count)] = id;
     ids.count += 1;
     ids
 }
@@ -76,47 +63,22 @@ fn open_ids(network: PowerNetwork, state: &[u8]) -> [SwitchIds; PowerNetwork::MA
     requires { (check_records (records_of network) ≡ accepted tt) × (length state.now ≡ network.switch_count) }
     ensures { (k : ℕ) → k < 512 → ids_in (get_or result k no_entry) ≡ map (id_of (records_of network)) (open_switches (records_of network) state.now k) }
 {
-    let none = SwitchIds::new();
-    let n = network.switch_count;
-    let mut ids = [none; PowerNetwork::MAX_BRANCHES];
-    let mut i = 0u16;
-    while i < n {
-        let at = wide16(i);
-        if state[at] == 1 {
-            let switch = network.switches[at];
-            let on = wide16(switch.branch_idx);
+    let mut ids = [SwitchIds::new(); PowerNetwork::MAX_BRANCHES];
+    let switches = &network.switches[..usize::from(network.switch_count)];
+    for (i, switch) in switches.iter().enumerate() {
+        if state[i] == NetworkConfiguration::OPEN {
+            let on = usize::from(switch.branch_idx);
             ids[on] = with_id(ids[on], switch.id);
         }
-        i += 1;
     }
     ids
-}
-
-// The pair that closes branch k and opens branch f, made of the switches that it moves and done.
-fn pair_done(stage: Stage, k: u16, f: u16, closes: SwitchIds, opens: SwitchIds) -> Stage
-    requires { (k < 512) × (f < 512) × (stage.pairs.count < 512) }
-    ensures { (result.live ≡ set (set stage.live k true) f false)
-        × (moves_in result.pairs ≡ moves_in stage.pairs ++ (record { closes = ids_in closes; opens = ids_in opens } ∷ [])) }
-{
-    let mut live = stage.live;
-    let closed = wide16(k);
-    let opened = wide16(f);
-    live[closed] = true;
-    live[opened] = false;
-    Stage {
-        live,
-        pairs: stage.pairs.with(closes, opens),
-    }
 }
 
 // Whether a pair still to come closes branch k: it is live in the wanted state and not yet.
 fn is_closing(live: &[bool], wanted: &[bool], k: u16) -> bool
     ensures { result ≡ only_in (flag wanted.now) (flag live.now) k }
 {
-    if flagged(wanted, k) {
-        return !flagged(live, k);
-    }
-    false
+    flagged(wanted, k) && !flagged(live, k)
 }
 
 // The plan of a change that is accepted: a pair for each branch live in the wanted state only, by the order of its first switch. From there on the branch
@@ -124,32 +86,34 @@ fn is_closing(live: &[bool], wanted: &[bool], k: u16) -> bool
 // in the wanted one.
 pub(crate) fn pairs_of(
     network: PowerNetwork,
-    change: Change,
+    change: &Change,
     present: &[u8],
     wanted: &[u8],
 ) -> PairList
-    requires { Passed network change present.now wanted.now }
+    requires { Passed network change.now present.now wanted.now }
     ensures { moves_in result ≡ plan (records_of network) present.now wanted.now }
 {
     let closes = open_ids(network, present);
     let opens = open_ids(network, wanted);
-    let present_live = change.present_live;
-    let wanted_live = change.wanted_live;
-    let n = network.switch_count;
+    let none = SwitchIds::new();
+    let pairs = PairList::new(Pair {
+        closes: none,
+        opens: none,
+    });
     let mut stage = Stage {
-        live: present_live,
-        pairs: PairList::new(),
+        live: change.present_live,
+        pairs,
     };
-    let mut i = 0u16;
-    while i < n {
-        let at = wide16(i);
-        let k = network.switches[at].branch_idx;
-        let live = stage.live;
-        if is_closing(&live, &wanted_live, k) {
-            let f = opening(change.graph, live, wanted_live, k);
-            stage = pair_done(stage, k, f, closes[wide16(k)], opens[wide16(f)]);
+    for switch in &network.switches[..usize::from(network.switch_count)] {
+        let k = switch.branch_idx;
+        if is_closing(&stage.live, &change.wanted_live, k) {
+            let f = opening(change.graph, stage.live, change.wanted_live, k);
+            let pair = Pair {
+                closes: closes[usize::from(k)],
+                opens: opens[usize::from(f)],
+            };
+            stage.pair_done(k, f, pair);
         }
-        i += 1;
     }
     stage.pairs
 }

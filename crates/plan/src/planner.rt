@@ -1,126 +1,91 @@
 // The planner.
-ghost use Rattle.std.specs.Prelude.{◌≡◌, ◌≤◌, length};
+ghost use Rattle.std.specs.Prelude.{◌≡◌, ◌<◌, ◌≤◌, ◌^◌, length, sum_by};
 ghost use Rattle.slices.specs.Written.{written};
+ghost use Rattle.network.specs.Answers.{answer_of, valued};
 ghost use Rattle.network.specs.Records.{records_of};
-ghost use Rattle.plan.specs.Plan.{plan_text, planned, planned_length, plan_answer_of};
-ghost use Rattle.plan.specs.Stored.{moves_in, made_in};
+ghost use Rattle.plan.specs.Plan.{plan_text, planned, planned_length};
+ghost use Rattle.plan.specs.Stored.{moves_in, line_length, made_in, bytes_in};
 ghost use Rattle.plan.specs.MadePlans.{made_plan};
 
-use crate::pairs::{PairList, pairs_of};
+use crate::pairs::{Pair, PairList, pairs_of};
 use changes::change::check_plan;
-use network::error::Verdict;
+use network::error::Refusal;
 use network::topology::PowerNetwork;
-use numbers::wide16;
 use printing::writer::{pair_length, write_pair};
 
-// How many pairs the plan has, or document 01's refusal number and place.
-#[derive(Clone, Copy)]
-pub enum PlanAnswer {
-    Pairs(u16),
-    Refused { number: u8, place: u16 },
-}
-
-// The planner's answer, and how many bytes its lines have.
-#[derive(Clone, Copy)]
+// How many pairs the plan has, and how many bytes their lines.
+#[derive(Clone, Copy, Debug, PartialEq, Eq)]
 pub struct PlanLines {
-    pub answer: PlanAnswer,
+    pub pairs: u16,
     pub length: usize,
 }
 
-// The verdict of `check_plan`, and the pairs of the plan: none beside a refusal. What stands in their arrays behind the count is no pair, and nothing is promised of it.
-#[derive(Clone, Copy)]
-pub struct MadePlan {
-    pub verdict: Verdict,
-    pub pairs: PairList,
-}
-
 // How many bytes the lines of the pairs have together.
-fn text_length(pairs: PairList) -> usize
-    requires { pairs.count ≤ 512 }
-    ensures { result ≡ length (plan_text (moves_in pairs)) }
+fn text_length(pairs: &[Pair]) -> usize
+    requires { sum_by line_length pairs.now < 2 ^ 64 }
+    ensures { result ≡ sum_by line_length pairs.now }
 {
-    let n = wide16(pairs.count);
-    let mut sum: usize = 0;
-    let mut i: usize = 0;
-    while i < n {
-        sum += pair_length(pairs.closes[i], pairs.opens[i]);
-        i += 1;
-    }
-    sum
+    pairs
+        .iter()
+        .map(|pair| pair_length(pair.closes, pair.opens))
+        .sum()
 }
 
 // A line for each pair, one behind the other.
-fn write_pairs(out: &mut [u8], pairs: PairList)
-    requires { (pairs.count ≤ 512) × (length (plan_text (moves_in pairs)) ≤ length out.old) }
-    ensures { out.new ≡ written (plan_text (moves_in pairs)) out.old }
+fn write_pairs(out: &mut [u8], pairs: &[Pair])
+    requires { length (plan_text (moves_in pairs.now)) ≤ length out.old }
+    ensures { out.new ≡ written (plan_text (moves_in pairs.now)) out.old }
 {
-    let n = wide16(pairs.count);
-    let mut at: usize = 0;
-    let mut i: usize = 0;
-    while i < n {
-        write_pair(&mut out[at..], pairs.closes[i], pairs.opens[i]);
-        at += pair_length(pairs.closes[i], pairs.opens[i]);
-        i += 1;
+    let mut at = 0;
+    for pair in pairs {
+        write_pair(&mut out[at..], pair.closes, pair.opens);
+        at += pair_length(pair.closes, pair.opens);
     }
 }
 
-// The pairs of the plan from the present state to the wanted one, or the refusal beside which there are none.
-pub fn made_plan(network: PowerNetwork, present: &[u8], wanted: &[u8]) -> MadePlan
+// The pairs of the plan from the present state to the wanted one.
+pub fn made_plan(network: PowerNetwork, present: &[u8], wanted: &[u8]) -> Result<PairList, Refusal>
     ensures { made_in result ≡ made_plan (records_of network) present.now wanted.now }
 {
     let change = check_plan(network, present, wanted);
-    let verdict = change.verdict;
-    let Verdict::Accepted = verdict else {
-        return MadePlan {
-            verdict,
-            pairs: PairList::new(),
-        };
-    };
-    MadePlan {
-        verdict,
-        pairs: pairs_of(network, change, present, wanted),
-    }
+    change.verdict?;
+    Ok(pairs_of(network, &change, present, wanted))
 }
 
-// The plan from the present state to the wanted one, as 86 lines at the front of the slice, and how many bytes these have: none beside a refusal.
-pub fn plan_lines(network: PowerNetwork, present: &[u8], wanted: &[u8], out: &mut [u8]) -> PlanLines
-    ensures { (record { answer = plan_answer_of result.answer; out = out.new }
+// The plan from the present state to the wanted one, as 86 lines at the front of the slice.
+pub fn plan_lines(
+    network: PowerNetwork,
+    present: &[u8],
+    wanted: &[u8],
+    out: &mut [u8],
+) -> Result<PlanLines, Refusal>
+    ensures { (record { answer = valued (λ (l : PlanLines). l.pairs) (answer_of result); out = out.new }
         ≡ planned (records_of network) present.now wanted.now out.old)
-        × (result.length ≡ planned_length (records_of network) present.now wanted.now out.old) }
+        × (bytes_in result ≡ planned_length (records_of network) present.now wanted.now out.old) }
 {
-    let made = made_plan(network, present, wanted);
-    let verdict = made.verdict;
-    match verdict {
-        Verdict::Refused { number, place } => PlanLines {
-            answer: PlanAnswer::Refused { number, place },
-            length: 0,
-        },
-        Verdict::Accepted => {
-            let pairs = made.pairs;
-            let length = text_length(pairs);
-            if out.len() < length {
-                return PlanLines {
-                    answer: PlanAnswer::Refused {
-                        number: 13,
-                        place: 0,
-                    },
-                    length: 0,
-                };
-            }
-            write_pairs(out, pairs);
-            PlanLines {
-                answer: PlanAnswer::Pairs(pairs.count),
-                length,
-            }
-        }
+    let made = made_plan(network, present, wanted)?;
+    let pairs = made.as_slice();
+    let length = text_length(pairs);
+    if out.len() < length {
+        return Err(Refusal::Room);
     }
+    write_pairs(out, pairs);
+    Ok(PlanLines {
+        pairs: pairs.len() as u16,
+        length,
+    })
 }
 
 // The same without the length.
-pub fn plan(network: PowerNetwork, present: &[u8], wanted: &[u8], out: &mut [u8]) -> PlanAnswer
-    ensures { record { answer = plan_answer_of result; out = out.new }
+pub fn plan(
+    network: PowerNetwork,
+    present: &[u8],
+    wanted: &[u8],
+    out: &mut [u8],
+) -> Result<u16, Refusal>
+    ensures { record { answer = answer_of result; out = out.new }
         ≡ planned (records_of network) present.now wanted.now out.old }
 {
-    let lines = plan_lines(network, present, wanted, out);
-    lines.answer
+    let lines = plan_lines(network, present, wanted, out)?;
+    Ok(lines.pairs)
 }

@@ -11,31 +11,55 @@ ghost use Rattle.printing.specs.Lengths.{longest_pair};
 use crate::lengths::{ANSWER_LENGTH, ID_LENGTH, PAIR_HEAD_LENGTH};
 use graph::form::{Form, fields_of};
 use network::topology::PowerNetwork;
-use numbers::{at_most, wide8};
 use slices::writer::{write_digits, write_line};
 
 // What is done to a switch.
-#[derive(Clone, Copy)]
+#[derive(Clone, Copy, Debug, PartialEq, Eq)]
 pub enum SwitchAction {
     Open,
     Close,
 }
 
+// What is done, as the frame 82 says it: a state's byte says how a switch stands, and that is the other way round.
+impl From<SwitchAction> for u8 {
+    ghost from_gives = { λ action r. r ≡ action_byte action };
+
+    fn from(action: SwitchAction) -> u8 {
+        match action {
+            SwitchAction::Open => 0,
+            SwitchAction::Close => 1,
+        }
+    }
+}
+
 // A switch by its id, and what is done to it.
-#[derive(Clone, Copy)]
+#[derive(Clone, Copy, Debug, PartialEq, Eq)]
 pub struct SwitchOperation {
     pub switch_id: u16,
     pub action: SwitchAction,
 }
 
 // Why a repair dropped a line: it was a branch from a bus to itself, or a switch on one.
-#[derive(Clone, Copy)]
+#[derive(Clone, Copy, Debug, PartialEq, Eq)]
 pub enum DropReason {
     Branch,
     Switch,
 }
 
-// The ids of switches of one branch that a pair moves, in list order: the first `count` of them, both where it is larger.
+// The reason as the frame 87 says it.
+impl From<DropReason> for u8 {
+    ghost from_gives = { λ reason r. r ≡ reason_byte reason };
+
+    fn from(reason: DropReason) -> u8 {
+        match reason {
+            DropReason::Branch => 1,
+            DropReason::Switch => 2,
+        }
+    }
+}
+
+// The ids of switches of one branch that a pair moves, in list order: the first `count` of them, both where it is larger. A count beside an array: there is no
+// heap, and a pair's ids are at most two.
 #[derive(Clone, Copy)]
 pub struct SwitchIds {
     pub count: u8,
@@ -61,32 +85,11 @@ struct IdDigits {
     number: u64,
 }
 
-// The byte of a field that says whether it is so.
+// The byte of a field that says whether it is so: by its name, since the answers that C gets are promised with it too.
 pub fn truth_byte(b: bool) -> u8
     ensures { result ≡ truth_byte b }
 {
-    if b {
-        return 1;
-    }
-    0
-}
-
-fn action_byte(action: SwitchAction) -> u8
-    ensures { result ≡ action_byte action }
-{
-    match action {
-        SwitchAction::Open => 0,
-        SwitchAction::Close => 1,
-    }
-}
-
-fn reason_byte(reason: DropReason) -> u8
-    ensures { result ≡ reason_byte reason }
-{
-    match reason {
-        DropReason::Branch => 1,
-        DropReason::Switch => 2,
-    }
+    u8::from(b)
 }
 
 // The base loss, the best one and the reduction of a search's answer.
@@ -99,7 +102,7 @@ fn write_losses(out: &mut [u8], base: u64, best: u64, reduction: u64)
     write_digits(&mut out[32..], 16, reduction);
 }
 
-// The frame 81: a search's answer. The losses and the reduction in percent are the bits of an f64.
+// The frame 81: a search's answer, by its fields in their order. The losses and the reduction in percent are the bits of an f64.
 pub fn write_answer(
     out: &mut [u8],
     radial: bool,
@@ -134,8 +137,8 @@ pub fn write_form(out: &mut [u8], form: Form)
 pub fn write_operation(out: &mut [u8], operation: SwitchOperation)
     ensures { out.new ≡ written (operation_text operation) out.old }
 {
-    let action = operation.action;
-    let fields = 0x100 * operation.switch_id as u64 + action_byte(action) as u64;
+    let action = u8::from(operation.action);
+    let fields = 0x100 * operation.switch_id as u64 + action as u64;
     write_line(out, 8, 0x8200_0000 + fields);
 }
 
@@ -161,24 +164,22 @@ fn two_ids(first: u16, second: u16) -> IdDigits
 fn id_digits(switches: SwitchIds) -> IdDigits
     ensures { last_digits result.width result.number ≡ ids_text (ids_in switches) }
 {
-    if switches.count == 0 {
-        return IdDigits {
+    match switches.count {
+        0 => IdDigits {
             width: 2,
             number: 0,
-        };
+        },
+        1 => one_id(switches.ids[0]),
+        _ => two_ids(switches.ids[0], switches.ids[1]),
     }
-    if switches.count == 1 {
-        return one_id(switches.ids[0]);
-    }
-    two_ids(switches.ids[0], switches.ids[1])
 }
 
 // How many bytes the line of a pair has. The bound stands beside the equation for the callers: they add lengths up, and the ids that the text has are not bounded by its words.
 pub fn pair_length(closes: SwitchIds, opens: SwitchIds) -> usize
     ensures { (result ≡ length (pair_text (ids_in closes) (ids_in opens))) × (result ≤ longest_pair) }
 {
-    let closed = at_most(wide8(closes.count), PowerNetwork::MAX_SWITCHES_ON_BRANCH);
-    let opened = at_most(wide8(opens.count), PowerNetwork::MAX_SWITCHES_ON_BRANCH);
+    let closed = usize::from(closes.count).min(PowerNetwork::MAX_SWITCHES_ON_BRANCH);
+    let opened = usize::from(opens.count).min(PowerNetwork::MAX_SWITCHES_ON_BRANCH);
     PAIR_HEAD_LENGTH + ID_LENGTH * (closed + opened)
 }
 
@@ -188,8 +189,8 @@ pub fn write_pair(out: &mut [u8], closes: SwitchIds, opens: SwitchIds)
 {
     let closed = id_digits(closes);
     let opened = id_digits(opens);
-    let width = wide8(closed.width);
-    if out.len() < 2 + width + wide8(opened.width) + 1 {
+    let width = usize::from(closed.width);
+    if out.len() < 2 + width + usize::from(opened.width) + 1 {
         return;
     }
     write_digits(out, 2, 0x86);
@@ -209,6 +210,6 @@ pub fn write_refusal(out: &mut [u8], number: u8, place: u16)
 pub fn write_dropped(out: &mut [u8], line: u16, reason: DropReason)
     ensures { out.new ≡ written (dropped_text line (reason_byte reason)) out.old }
 {
-    let fields = 0x100 * line as u64 + reason_byte(reason) as u64;
+    let fields = 0x100 * line as u64 + u8::from(reason) as u64;
     write_line(out, 8, 0x8700_0000 + fields);
 }

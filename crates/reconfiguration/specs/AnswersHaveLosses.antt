@@ -4,7 +4,7 @@ use Rattle.std.specs.Prelude.{◌≡◌, Bool, true, false, ℕ, ◌<◌}
 use Rattle.std.proofs.Math.Path.{refl, ap}
 use Rattle.std.proofs.Common.{◌∙◌}
 use Rattle.std.proofs.Math.Bool.{and-false}
-use Rattle.std.proofs.Math.Option.{Option, none, some}
+use Rattle.std.specs.Prelude.{Option, None, Some}
 use Rattle.numbers.specs.IfSome.{IfSome}
 use Rattle.numbers.specs.Tests.{both}
 use Rattle.network.specs.declared.switch.ReconfigAlgorithm.{ReconfigAlgorithm}
@@ -52,13 +52,13 @@ module _ (N : Network) (ok : check_network N ≡ accepted tt) where
 module _ (N : Network) where
   same_fed : (s : State) (p : Option ℕ) → check_fed N p s ≡ check_fed (as_exhaustive N) p s
   unfolding as_exhaustive check_radial radial_in form_in live feeder position
-  same_fed s none = refl
-  same_fed s (some id) = refl
+  same_fed s None = refl
+  same_fed s (Some id) = refl
 
   same_drawn : (E : ℕ → Bool) (p : Option ℕ) → drawn_for N p E ≡ drawn_for (as_exhaustive N) p E
   unfolding as_exhaustive feeder position
-  same_drawn E none = refl
-  same_drawn E (some id) = refl
+  same_drawn E None = refl
+  same_drawn E (Some id) = refl
 
   same_loss : (s : State) → loss_in N s ≡ loss_in (as_exhaustive N) s
   unfolding as_exhaustive loss_in drawn live
@@ -83,8 +83,8 @@ module _ (N : Network) where
   trial_radial s tie l e = go (trial N s tie) (trial_swaps N s tie l e)
     where
       go : (found : Option State) → IfSome (Swap N s) found → IfSome (λ t. radial_in N t ≡ true) found
-      go none w = tt
-      go (some t) w = w.radial
+      go None w = tt
+      go (Some t) w = w.radial
 
   pub move_radial : (x : Tabu) (i : ℕ) → allowed N x i ≡ true → radial_in N (move_of N x i).state ≡ true
   unfolding allowed

@@ -2,17 +2,21 @@
 ghost use Rattle.std.specs.Prelude.{◌≡◌, ◌+◌, ◌≤◌, length};
 ghost use Rattle.std.proofs.lemmas.List.Edits.{sets};
 ghost use Rattle.frames.specs.Lengths.{deciding_length};
-ghost use Rattle.texts.specs.Texts.{write_answer_of};
+ghost use Rattle.network.specs.Answers.{answer_of};
 ghost use Rattle.record_bytes.specs.RecordBytes.{frame_bytes, text_of_bytes, written_records};
 ghost use Rattle.record_bytes.specs.RecordSteps.{line_bytes, byte_text};
 ghost use Rattle.record_bytes.specs.RecordCalls.{Decides};
 
 use frames::reader::read_text;
-use network::error::Verdict;
-use numbers::at_most;
-use record_lines::{branch, bus, head, supply, switch};
+use network::branch::Branch;
+use network::bus::Bus;
+use network::error::Refusal;
+use network::switch::Switch;
+use record_lines::head::Head;
+use record_lines::record::Record;
+use record_lines::supply::Supply;
 use slices::writer::{write_bytes, write_digits, write_line};
-use texts::writer::{LONGEST_TEXT, WriteAnswer};
+use texts::writer::LONGEST_TEXT;
 
 // "a line over 36 characters is 2 whatever they are": so many of its characters show it.
 const DECIDING_LINE: usize = 37;
@@ -28,22 +32,14 @@ const ROOM: usize = DECIDING_LENGTH + 2;
 fn frame_bytes(kind: u8, left: usize) -> usize
     ensures { result ≡ frame_bytes kind left }
 {
-    if kind == head::KIND {
-        return at_most(head::SIZE / 2, left);
+    match kind {
+        Head::KIND => (Head::SIZE / 2).min(left),
+        Bus::KIND => (Bus::SIZE / 2).min(left),
+        Branch::KIND => (Branch::SIZE / 2).min(left),
+        Switch::KIND => (Switch::SIZE / 2).min(left),
+        Supply::KIND => (Supply::SIZE / 2).min(left),
+        _ => left,
     }
-    if kind == bus::KIND {
-        return at_most(bus::SIZE / 2, left);
-    }
-    if kind == branch::KIND {
-        return at_most(branch::SIZE / 2, left);
-    }
-    if kind == switch::KIND {
-        return at_most(switch::SIZE / 2, left);
-    }
-    if kind == supply::KIND {
-        return at_most(supply::SIZE / 2, left);
-    }
-    left
 }
 
 // How many bytes of a line there are from this byte on: so many are left of a line that was begun, or a frame begins here.
@@ -76,36 +72,27 @@ fn write_frames(records: &[u8], text: &mut [u8]) -> usize
 {
     let mut at = 0usize;
     let mut left = 0usize;
-    let mut i = 0usize;
-    while i < records.len() {
+    for (i, byte) in records.iter().enumerate() {
         if at >= DECIDING_LENGTH {
             return at;
         }
-        left = line_bytes(left, records[i], records.len() - i);
-        at = write_byte(text, at, records[i], left);
+        left = line_bytes(left, *byte, records.len() - i);
+        at = write_byte(text, at, *byte, left);
         left -= 1;
-        i += 1;
     }
     at
 }
 
 // The text of records in bytes, at the front of the slice, which keeps what is behind it. The text's refusal comes first, then 13; a refusal writes no byte.
-pub fn write_records(records: &[u8], out: &mut [u8]) -> WriteAnswer
-    ensures { record { answer = write_answer_of result; out = out.new } ≡ written_records records.now out.old }
+pub fn write_records(records: &[u8], out: &mut [u8]) -> Result<u16, Refusal>
+    ensures { record { answer = answer_of result; out = out.new } ≡ written_records records.now out.old }
 {
     let mut text = [0u8; ROOM];
     let n = write_frames(records, &mut text);
-    let reading = read_text(&text[0..n]);
-    let verdict = reading.verdict;
-    if let Verdict::Refused { number, place } = verdict {
-        return WriteAnswer::Refused { number, place };
-    }
+    read_text(&text[..n])?;
     if out.len() < n {
-        return WriteAnswer::Refused {
-            number: 13,
-            place: 0,
-        };
+        return Err(Refusal::Room);
     }
-    write_bytes(out, &text[0..n]);
-    WriteAnswer::Written(n as u16)
+    write_bytes(out, &text[..n]);
+    Ok(n as u16)
 }

@@ -1,3 +1,3 @@
-pub mod NanLaws
 pub mod FieldLaws
 pub mod FrameLaws
+pub mod HeadLaws

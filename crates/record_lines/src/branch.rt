@@ -1,54 +1,43 @@
 // The branch frame: 03, then from, to, r in per unit, status byte.
-ghost use Rattle.std.specs.Prelude.{◌≡◌, drop};
-ghost use Rattle.network.specs.Answers.{accepted, ◌and_then◌, judge};
-ghost use Rattle.lines.specs.Hex.{read_fields};
-ghost use Rattle.lines.specs.Lines.{cut};
-ghost use Rattle.record_lines.specs.Kinds.{branch, branch_from, read_one, without, branch_bytes};
-ghost use Rattle.record_lines.specs.LineAnswers.{branch_answer};
+ghost use Rattle.std.specs.Prelude.{refl};
+ghost use Rattle.record_lines.specs.Kinds.{branch, branch_from, branch_bytes};
+ghost use Rattle.record_lines.specs.FramedLaws.{size};
 
 use crate::field;
-use lines::line::judge_line;
+use crate::record::Record;
 use network::branch::Branch;
-use network::error::Verdict;
+use network::error::Refusal;
 
-// The kind byte, and how many characters the line has.
-pub const KIND: u8 = 3;
+impl Record for Branch {
+    ghost frame = { branch };
 
-pub const SIZE: usize = 28;
+    ghost made = { branch_from };
 
-#[derive(Clone, Copy)]
-pub enum BranchRead {
-    Made(Branch),
-    Refused { number: u8, place: u16 },
-}
+    ghost faults = { branch_bytes };
 
-// The fields of a branch line, behind its kind byte. A status byte over 01 has no meaning.
-fn branch_fields(f: &[u8], place: u16) -> BranchRead
-    ensures { branch_answer result ≡ (judge (branch_bytes (read_fields branch.widths f.now)) place and_then accepted (branch_from (read_fields branch.widths f.now))) }
-{
-    let from_bus = field::word(f, 0);
-    let to_bus = field::word(f, 4);
-    let r = field::float(f, 8);
-    let status = field::byte(f, 24);
-    if status > 1 {
-        return BranchRead::Refused { number: 3, place };
+    ghost KIND = { branch.kind };
+
+    ghost SIZE = { size branch };
+
+    const KIND: u8 = 3;
+
+    const SIZE: usize = 28;
+
+    // A status byte over 01 has no meaning.
+    fn of_fields(fields: &[u8], place: u16) -> Result<Branch, Refusal> {
+        let status = field::byte(fields, 24);
+        if status > 1 {
+            return Err(Refusal::Meaning { line: place });
+        }
+        Ok(Branch {
+            from_bus: field::word(fields, 0),
+            to_bus: field::word(fields, 4),
+            r: field::float(fields, 8),
+            status: status == 1,
+        })
     }
-    BranchRead::Made(Branch {
-        from_bus,
-        to_bus,
-        r,
-        status: status == 1,
-    })
-}
 
-// The branch of the line that begins at `at`, or refusal 1, 2 or 3.
-pub fn branch_line(text: &[u8], at: usize, place: u16) -> BranchRead
-    ensures { branch_answer result ≡ without (read_one branch branch_from branch_bytes place (cut (drop at text.now))) }
-{
-    let v = judge_line(text, at, place, KIND, SIZE);
-    if let Verdict::Refused { number, place } = v {
-        return BranchRead::Refused { number, place };
-    }
-    let line = &text[at..at + SIZE];
-    branch_fields(&line[2..], place)
+    ghost of_kind = { refl };
+
+    ghost of_size = { refl };
 }

@@ -5,6 +5,7 @@ ghost use Rattle.std.specs.Float.Ieee.{of_bits};
 ghost use Rattle.lines.specs.Hex.{number};
 
 use lines::hex::number_at;
+use std::num::f64_from_bits_with_nan;
 
 // The byte at a position of a row of fields.
 pub(crate) fn byte(f: &[u8], at: usize) -> u8
@@ -24,9 +25,5 @@ pub(crate) fn word(f: &[u8], at: usize) -> u16
 pub(crate) fn float(f: &[u8], at: usize) -> f64
     ensures { result ≡ of_bits binary64 (number (take 16 (drop at f.now))) }
 {
-    let bits = number_at(f, at, 16);
-    if bits % 0x8000_0000_0000_0000 > 0x7ff0_0000_0000_0000 {
-        return 0.0 / 0.0;
-    }
-    f64::from_bits(bits)
+    f64_from_bits_with_nan(number_at(f, at, 16))
 }

@@ -5,5 +5,6 @@ pub mod branch;
 pub mod bus;
 mod field;
 pub mod head;
+pub mod record;
 pub mod supply;
 pub mod switch;

@@ -1,32 +1,37 @@
 // The supply frame of document 02: 05, then the id of the supply bus.
-ghost use Rattle.std.specs.Prelude.{◌≡◌, drop};
-ghost use Rattle.lines.specs.Lines.{cut};
-ghost use Rattle.record_lines.specs.Kinds.{supply, supply_from, read_one, without, supply_bytes};
-ghost use Rattle.record_lines.specs.LineAnswers.{supply_answer};
+ghost use Rattle.std.specs.Prelude.{refl};
+ghost use Rattle.record_lines.specs.Kinds.{supply, supply_bytes};
+ghost use Rattle.record_lines.specs.FramedLaws.{size};
+ghost use Rattle.record_lines.specs.LineAnswers.{supply_made};
 
 use crate::field;
-use lines::line::judge_line;
-use network::error::Verdict;
+use crate::record::Record;
+use network::error::Refusal;
 
-// The kind byte, and how many characters the line has.
-pub const KIND: u8 = 5;
+// The id of the supply bus.
+#[derive(Clone, Copy, Debug, PartialEq, Eq)]
+pub struct Supply(pub u16);
 
-pub const SIZE: usize = 6;
+impl Record for Supply {
+    ghost frame = { supply };
 
-#[derive(Clone, Copy)]
-pub enum SupplyRead {
-    Made(u16),
-    Refused { number: u8, place: u16 },
-}
+    ghost made = { supply_made };
 
-// The bus id of the line that begins at `at`, or refusal 1 or 2.
-pub fn supply_line(text: &[u8], at: usize, place: u16) -> SupplyRead
-    ensures { supply_answer result ≡ without (read_one supply supply_from supply_bytes place (cut (drop at text.now))) }
-{
-    let v = judge_line(text, at, place, KIND, SIZE);
-    if let Verdict::Refused { number, place } = v {
-        return SupplyRead::Refused { number, place };
+    ghost faults = { supply_bytes };
+
+    ghost KIND = { supply.kind };
+
+    ghost SIZE = { size supply };
+
+    const KIND: u8 = 5;
+
+    const SIZE: usize = 6;
+
+    fn of_fields(fields: &[u8], _place: u16) -> Result<Supply, Refusal> {
+        Ok(Supply(field::word(fields, 0)))
     }
-    let line = &text[at..at + SIZE];
-    SupplyRead::Made(field::word(&line[2..], 0))
+
+    ghost of_kind = { refl };
+
+    ghost of_size = { refl };
 }

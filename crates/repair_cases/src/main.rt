@@ -6,195 +6,102 @@
 // the slice itself, its line feeds as they are. At last comes what is read before the 87 lines.
 #![tactic(auto)]
 
-ghost use Rattle.std.specs.Prelude.{◌≡◌, ◌+◌, ◌≤◌, length};
+ghost use Rattle.std.specs.Prelude.{◌≤◌};
 ghost use Rattle.frames.specs.Lengths.{longest_text};
 
-use cases::{first_case, line_behind, part_of};
+use cases::{Cases, DOT, LentCase, begins_with, filled};
 use frames::reader::read_text;
-use input::read_input;
+use input::read_available;
 use lines::hex::number_at;
-use network::error::Verdict;
-use numbers::at_most;
 use repairs::repair::repair_text;
-use standard_output::{print_decimal, write_all};
-use texts::writer::{LONGEST_TEXT, WriteAnswer};
+use std::io;
+use texts::writer::LONGEST_TEXT;
 
 // How much longer the last slice is than the repair.
 const LONGER: usize = 80;
 
 const MOST_ROOM: usize = LONGEST_TEXT + LONGER;
 
-// A dot for each byte.
-fn dots() -> [u8; MOST_ROOM]
-    ensures { longest_text + 80 ≡ length result }
-{
-    [46; MOST_ROOM]
-}
-
-fn print_refusal(rt: &impl Print, number: u8, place: u16) {
-    write_all(rt, b"refused ");
-    print_decimal(rt, number as u64);
-    write_all(rt, b" ");
-    print_decimal(rt, place as u64);
-}
-
 // What a new text is answered with.
-fn print_verdict(rt: &impl Print, text: &[u8]) {
-    let reading = read_text(text);
-    let verdict = reading.verdict;
-    match verdict {
-        Verdict::Accepted => {
-            write_all(rt, b"accepted");
-        }
-        Verdict::Refused { number, place } => print_refusal(rt, number, place),
-    }
-    write_all(rt, b"\n");
-}
-
-fn print_answer(rt: &impl Print, answer: WriteAnswer) {
-    match answer {
-        WriteAnswer::Written(length) => {
-            print_decimal(rt, length as u64);
-            write_all(rt, b" written");
-        }
-        WriteAnswer::Refused { number, place } => print_refusal(rt, number, place),
+fn print_read(rt: &impl Print, text: &[u8]) -> io::Result<()> {
+    match read_text(text) {
+        Ok(_) => rt.println("accepted"),
+        Err(refusal) => println!(rt; "refused {refusal}"),
     }
 }
 
-// The byte of the front at a position, and a dot behind it.
-fn byte_of(front: &[u8], i: usize) -> u8 {
-    if i < front.len() {
-        return front[i];
-    }
-    46
-}
-
-// Whether these bytes stand at the slice's front, and dots behind them.
-fn begins_with(out: &[u8], front: &[u8]) -> bool {
-    let mut i = 0usize;
-    while i < out.len() {
-        if out[i] != byte_of(front, i) {
-            return false;
-        }
-        i += 1;
-    }
-    front.len() <= out.len()
-}
-
-fn print_slice(rt: &impl Print, out: &[u8], text: &[u8], before: &[u8]) {
+fn print_slice(rt: &impl Print, out: &[u8], text: &[u8], before: &[u8]) -> io::Result<()> {
     if begins_with(out, b"") {
-        write_all(rt, b", kept\n");
-        return;
+        return rt.println(", kept");
     }
     if begins_with(out, text) {
-        write_all(rt, b", as stored\n");
-        return;
+        return rt.println(", as stored");
     }
     if begins_with(out, before) {
-        write_all(rt, b", as before\n");
-        return;
+        return rt.println(", as before");
     }
-    write_all(rt, b", [");
-    write_all(rt, out);
-    write_all(rt, b"]\n");
+    rt.print(", [")?;
+    rt.write_all(out)?;
+    rt.println("]")
 }
 
-fn print_room(rt: &impl Print, room: usize) {
-    print_decimal(rt, room as u64);
-    write_all(rt, b": ");
-}
-
-// The first bytes were lent.
-fn print_first(rt: &impl Print, bytes: [u8; MOST_ROOM], room: usize, text: &[u8], before: &[u8])
-    requires { room ≤ longest_text + 80 }
-{
-    print_slice(rt, &bytes[0..room], text, before);
-}
-
-fn print_repair(rt: &impl Print, text: &[u8], room: usize, before: &[u8])
-    requires { room ≤ longest_text + 80 }
-{
-    let mut out = dots();
-    print_room(rt, room);
-    print_answer(rt, repair_text(text, &mut out[0..room]));
-    print_first(rt, out, room, text, before);
-}
-
-fn print_others(rt: &impl Print, text: &[u8], room: usize, before: &[u8])
-    requires { room ≤ longest_text }
-{
-    print_repair(rt, text, 0, before);
-    if room > 0 {
-        print_repair(rt, text, room - 1, before);
+// Into this slice of dots, and then what became of it.
+fn print_repair(rt: &impl Print, text: &[u8], before: &[u8], out: &mut [u8]) -> io::Result<()> {
+    let room = out.len();
+    print!(rt; "{room}: ")?;
+    match repair_text(text, out) {
+        Ok(length) => print!(rt; "{length} written")?,
+        Err(refusal) => print!(rt; "refused {refusal}")?,
     }
-    print_repair(rt, text, room + 1, before);
-    print_repair(rt, text, room + LONGER, before);
-}
-
-// The first slice, the others, and what is read before the 87 lines.
-fn print_slices(rt: &impl Print, first: [u8; MOST_ROOM], text: &[u8], room: usize, left: usize)
-    requires room_le_longest_text { room ≤ longest_text }
-    requires left_le_longest_text { left ≤ longest_text }
-{
-    print_slice(rt, &first[0..room], text, b"");
-    print_others(rt, text, room, &first[0..room]);
-    if left > 0 {
-        print_verdict(rt, &first[0..left]);
-    }
-}
-
-fn print_text(rt: &impl Print, text: &[u8], room: usize, left: usize)
-    requires room_le_longest_text { room ≤ longest_text }
-    requires left_le_longest_text { left ≤ longest_text }
-{
-    print_verdict(rt, text);
-    let mut first = dots();
-    print_room(rt, room);
-    print_answer(rt, repair_text(text, &mut first[0..room]));
-    print_slices(rt, first, text, room, left);
+    print_slice(rt, out, text, before)
 }
 
 // A length, in four digits of a line.
 fn length_at(line: &[u8], at: usize) -> usize
     ensures { result ≤ longest_text }
 {
-    at_most(number_at(line, at, 4) as usize, LONGEST_TEXT)
+    (number_at(line, at, 4) as usize).min(LONGEST_TEXT)
 }
 
-// Prints what comes of the first case, and answers where it ends.
-fn print_case(rt: &impl Print, input: &[u8]) -> usize
-    ensures { result ≤ length input.now }
-{
-    let case = first_case(input);
-    let line = line_behind(input, case.text.to);
-    let lengths = part_of(input, line);
-    write_all(rt, part_of(input, case.name));
-    write_all(rt, b" ");
-    print_text(
-        rt,
-        part_of(input, case.text),
-        length_at(lengths, 0),
-        length_at(lengths, 5),
-    );
-    line.to
-}
-
-fn print_cases(rt: &impl Print, input: &[u8]) {
-    let mut at = 0usize;
-    while at < input.len() {
-        at = at + print_case(rt, &input[at..]) + 1;
+// The first slice, the others, and what is read before the 87 lines.
+fn print_case(rt: &impl Print, case: LentCase) -> io::Result<()> {
+    let lengths = case.line(0);
+    let room = length_at(lengths, 0);
+    let left = length_at(lengths, 5);
+    rt.write_all(case.name)?;
+    rt.print(" ")?;
+    print_read(rt, case.text)?;
+    let mut first = filled::<MOST_ROOM>(DOT);
+    print_repair(rt, case.text, b"", &mut first[..room])?;
+    for length in [
+        Some(0),
+        room.checked_sub(1),
+        Some(room + 1),
+        Some(room + LONGER),
+    ]
+    .into_iter()
+    .flatten()
+    {
+        let mut out = filled::<MOST_ROOM>(DOT);
+        print_repair(
+            rt,
+            case.text,
+            &first[..room],
+            &mut out[..length.min(MOST_ROOM)],
+        )?;
     }
+    if left > 0 {
+        print_read(rt, &first[..left])?;
+    }
+    Ok(())
 }
 
-// Room for all cases.
-fn buffer() -> [u8; 344064]
-    ensures { 344064 ≡ length result }
-{
-    [0; 344064]
-}
-
-fn main(rt: HostRuntime) {
-    let mut buffer = buffer();
-    let n = read_input(&mut rt.stdin(), &mut buffer).count;
-    print_cases(&rt, &buffer[..n]);
+fn main(rt: HostRuntime) -> io::Result<()> {
+    // Room for all cases.
+    let mut room = filled::<344_064>(0);
+    let n = read_available(&mut rt.stdin(), &mut room);
+    for case in Cases::of(&room[..n], 1) {
+        print_case(&rt, case)?;
+    }
+    Ok(())
 }

@@ -1,15 +1,17 @@
 -- How long a repair is, what is left of a text that is read, and the text that is written first.
-use Rattle.std.specs.Prelude.{◌≡◌, List, ◌++◌, ℕ, ◌+◌, ◌*◌, ◌-◌, ◌≤◌, ◌<◌}
+use Rattle.std.specs.Prelude.{◌≡◌, List, ◌++◌, ℕ, ◌+◌, ◌*◌, ◌-◌, ◌≤◌, ◌<◌, Result, Ok, Err}
 use Rattle.std.proofs.Math.Path.{refl, sym, ap}
 use Rattle.std.proofs.Common.{◌∙◌, arith}
 use Rattle.std.proofs.Math.ListN.{length, length-append}
 use Rattle.numbers.specs.KeepLaws.{keep_short}
+use Rattle.network.specs.declared.error.Refusal.{Refusal}
 use Rattle.network.specs.declared.topology.PowerNetwork.{PowerNetwork}
-use Rattle.network.specs.Answers.{Answer, accepted, refused}
+use Rattle.network.specs.Answers.{accepted, refused, answer_of}
+use Rattle.network.specs.AnswerLaws.{same_value, no_refusal, refused_so, accepted_so}
 use Rattle.network.specs.Inside.{Inside}
 use Rattle.network.specs.InsideLaws.{check_inside}
 use Rattle.network.specs.Records.{Network, records_of}
-use Rattle.own_loops.specs.OwnLoops.{is_proper, without_own, dropped_lines, value_without}
+use Rattle.own_loops.specs.OwnLoops.{is_proper, without_own, Dropped, dropped_lines, value_without}
 use Rattle.own_loops.specs.OwnLoopLaws.{left_short, left_inside, dropped_many, value_without_lem}
 use Rattle.states.specs.Listed.{branches_listed, switches_listed, few_branches, few_switches}
 use Rattle.feeders.specs.Supply.{supplies, check_network}
@@ -23,13 +25,17 @@ use Rattle.slices.specs.Written.{written}
 use Rattle.printing.specs.Calls.{Call}
 use Rattle.printing.specs.CallLaws.{call_refused, call_short, call_done, call_is}
 use Rattle.printing.specs.Lengths.{dropped_length}
+use Rattle.printing.specs.LineTexts.{length_lines, length_dropped}
+use Rattle.texts.specs.PartLaws.{Begun, same_length}
 use Rattle.texts.specs.Texts.{written_text}
 use Rattle.texts.specs.TextLaws.{text_length, text_short}
 use Rattle.repairs.specs.Repairs.{dropped_lines_text, repaired, printed_repair, repaired_text}
 use Rattle.repairs.specs.RepairValues.{Left}
-use Rattle.repairs.specs.DroppedLines.{dropped_length_lem}
 
 -- ---- how long a repair is
+dropped_long : (l : List Dropped) → length (dropped_lines_text l) ≡ dropped_length * length l
+dropped_long l = length_lines _ dropped_length (λ d. length_dropped d.line d.reason) l
+
 module _ (N : Network) where
   same_buses : (without_own N).buses ≡ N.buses
   unfolding without_own
@@ -50,7 +56,7 @@ module _ (N : Network) where
   repaired_length : length (repaired N)
       ≡ length (text_of (without_own N)) + dropped_length * ((length N.branches - length (without_own N).branches) + (length N.switches - length (without_own N).switches))
   unfolding repaired
-  repaired_length = length-append (text_of (without_own N)) (dropped_lines_text (dropped_lines N)) ∙ rw (dropped_length_lem (dropped_lines N), dropped_many N)
+  repaired_length = length-append (text_of (without_own N)) (dropped_lines_text (dropped_lines N)) ∙ rw (dropped_long (dropped_lines N), dropped_many N)
 
   -- a dropped line has 29 or 13 bytes, its frame 87 has 9
   pub repaired_shorter : length (repaired N) ≤ length (text_of N)
@@ -118,17 +124,29 @@ module _ (n left : PowerNetwork) (l : Left n left) where
       omega (arith, e, long, text, branches, switches, branches_listed n, branches_listed left, switches_listed n, switches_listed left)
 
   -- ---- the text that is left, then the frames 87
-  pub in_two : text_of (records_of left) ++ dropped_lines_text (dropped_lines (records_of n)) ≡ repaired (records_of n)
+  in_two : text_of (records_of left) ++ dropped_lines_text (dropped_lines (records_of n)) ≡ repaired (records_of n)
   unfolding repaired
   in_two = rw left_records
 
-  pub room_for_both : {room : ℕ} → length (repaired (records_of n)) ≤ room → length (text_of (records_of left) ++ dropped_lines_text (dropped_lines (records_of n))) ≤ room
-  room_for_both h = rw in_two h
+  -- what `write_text` answers, and what it leaves in the slice
+  module _ (out : List ℕ) {needed : ℕ} (long : needed ≡ length (repaired (records_of n))) (room : needed ≤ length out) where
+    in_full : length (text_of (records_of left)) + length (dropped_lines_text (dropped_lines (records_of n))) ≤ length out
+    in_full = omega (arith, long, room, ap length in_two, length-append (text_of (records_of left)) (dropped_lines_text (dropped_lines (records_of n))))
 
-  -- what `write_text` leaves in the slice
-  pub text_first : (out : List ℕ) → length (repaired (records_of n)) ≤ length out → {answer : Answer ℕ} {after : List ℕ}
-      → record { answer = answer; out = after } ≡ written_text (records_of left) out → after ≡ written (text_of (records_of left)) out
-  unfolding written_text
-  text_first out room e =
-      let long = length-append (text_of (records_of left)) (dropped_lines_text (dropped_lines (records_of n))) in
-      ap (λ (c : Call ℕ). c.out) (call_is _ (text_of (records_of left)) out l.good (omega (arith, room_for_both room)) e)
+    module _ (v : Result ℕ Refusal) {after : List ℕ} (e : record { answer = answer_of v; out = after } ≡ written_text (records_of left) out) where
+      its_call : ◌≡◌ {A = Call ℕ} (record { answer = answer_of v; out = after }) (record { answer = accepted (length (text_of (records_of left))); out = written (text_of (records_of left)) out })
+      unfolding written_text
+      its_call = call_is _ (text_of (records_of left)) out l.good (omega (arith, in_full)) e
+
+      pub never_refused : {A : Type 0} {r : Refusal} → v ≡ Err r → A
+      never_refused q = no_refusal (sym (refused_so q (ap (λ (c : Call ℕ). c.answer) its_call)))
+
+      module _ {k at : ℕ} (was : v ≡ Ok k) (f : at ≡ k) where
+        pub left_begun : Begun (text_of (records_of left)) out after at
+        left_begun = record { so_far = ap (λ (c : Call ℕ). c.out) its_call; here = f ∙ same_value (sym (accepted_so was (ap (λ (c : Call ℕ). c.answer) its_call))) }
+
+        pub lines_room : at + length (dropped_lines_text (dropped_lines (records_of n))) ≤ length after
+        lines_room = omega (arith, in_full, left_begun.here, same_length left_begun)
+
+  pub both_written : (out : List ℕ) {after : List ℕ} → after ≡ written (text_of (records_of left) ++ dropped_lines_text (dropped_lines (records_of n))) out → after ≡ written (repaired (records_of n)) out
+  both_written out w = w ∙ ap (λ b. written b out) in_two

@@ -2,12 +2,12 @@
 // letter. The lent bytes behind the answer must stay as they were, and all of them beside a refusal.
 #![tactic(auto)]
 
-ghost use Rattle.std.specs.Prelude.{◌≡◌, ◌+◌, ◌≤◌, ◌<◌, length};
+ghost use Rattle.std.specs.Prelude.{◌≡◌, ◌+◌, ◌≤◌, ◌<◌, length, IfSome};
 ghost use Rattle.printing.specs.Lengths.{printed_length};
 
-use answers::printer::{TextAnswer, answer_text};
-use input::read_input;
-use numbers::wide16;
+use answers::printer::answer_text;
+use input::{read_available, read_input};
+use network::error::Refusal;
 use printing::lengths::{MAX_LENGTH, REFUSAL_LENGTH};
 use printing::writer::write_refusal;
 use standard_output::{print_decimal, write_all};
@@ -25,72 +25,55 @@ const MOST_ENTRIES: u64 = 65535;
 // What each byte holds before an answer is written: no answer has such a byte.
 const UNWRITTEN: u8 = 170;
 
-// The next entry of the list: it is replayed, and the answer is its output or not; or there is none, as the list ends, or is damaged: broken off
-// inside an entry, or with a head that is none.
-#[derive(Clone, Copy)]
-enum Entry {
-    Replayed { same: bool },
-    Missing { ended: bool },
-}
+// The list is damaged: broken off inside an entry, or with a head that is none.
+#[derive(Clone, Copy, Debug, PartialEq, Eq)]
+struct Damaged;
 
 // What the replay found: how many texts it answered, how many of them otherwise and which of them first, and whether it came to the list's end.
 #[derive(Clone, Copy)]
 struct Found {
     texts: u64,
     differences: u64,
-    first: u64,
+    first: Option<u64>,
     ended: bool,
 }
 
-// The value of a digit, and 16 for another character.
-fn digit(c: u8) -> usize
-    ensures { result ≤ 16 }
+// The value of a digit; another character has none.
+fn digit(c: u8) -> Option<usize>
+    ensures { IfSome result (λ d. d < 16) }
 {
     match c {
-        48..=57 => (c - 48) as usize,
-        65..=70 => (c - 55) as usize,
-        _ => 16,
+        b'0'..=b'9' => Some(usize::from(c - b'0')),
+        b'A'..=b'F' => Some(usize::from(c - b'A') + 10),
+        _ => None,
     }
 }
 
-// The length that four digits of a head say, and 65,536 where one of them is no digit.
-fn length_at(head: [u8; HEAD_LENGTH], at: usize) -> usize
+// The length that four digits of a head say.
+fn length_at(head: [u8; HEAD_LENGTH], at: usize) -> Result<usize, Damaged>
     requires { at ≤ 5 }
 {
-    let a = digit(head[at]);
-    let b = digit(head[at + 1]);
-    let c = digit(head[at + 2]);
-    let d = digit(head[at + 3]);
-    if a == 16 || b == 16 || c == 16 || d == 16 {
-        return 65536;
-    }
-    a * 4096 + b * 256 + c * 16 + d
+    let a = digit(head[at]).ok_or(Damaged)?;
+    let b = digit(head[at + 1]).ok_or(Damaged)?;
+    let c = digit(head[at + 2]).ok_or(Damaged)?;
+    let d = digit(head[at + 3]).ok_or(Damaged)?;
+    Ok(a * 4096 + b * 256 + c * 16 + d)
 }
 
 // Whether no byte was written.
 fn kept(bytes: &[u8]) -> bool {
-    let mut i = 0usize;
-    while i < bytes.len() {
-        if bytes[i] != UNWRITTEN {
-            return false;
-        }
-        i += 1;
-    }
-    true
+    bytes.iter().all(|byte| *byte == UNWRITTEN)
 }
 
 // Whether an answer of n bytes is the output, and the bytes behind it are kept.
 fn prints(out: &[u8], n: usize, output: &[u8]) -> bool {
-    if out.len() < n {
-        return false;
-    }
-    &out[0..n] == output && kept(&out[n..])
+    n <= out.len() && &out[..n] == output && kept(&out[n..])
 }
 
 // Whether a refusal's line is the output, and every byte is kept.
-fn refuses(out: &[u8], number: u8, place: u16, output: &[u8]) -> bool {
+fn refuses(out: &[u8], refusal: Refusal, output: &[u8]) -> bool {
     let mut line = [0u8; REFUSAL_LENGTH];
-    write_refusal(&mut line, number, place);
+    write_refusal(&mut line, refusal.number(), refusal.place());
     &line[..] == output && kept(out)
 }
 
@@ -105,17 +88,20 @@ fn unwritten() -> [u8; MAX_LENGTH]
 fn answers_with(text: &[u8], output: &[u8]) -> bool {
     let mut out = unwritten();
     match answer_text(text, &mut out) {
-        TextAnswer::Printed(n) => prints(&out, wide16(n), output),
-        TextAnswer::Refused { number, place } => refuses(&out, number, place, output),
+        Ok(n) => prints(&out, usize::from(n), output),
+        Err(refusal) => refuses(&out, refusal, output),
     }
 }
 
-// Whether the input has n bytes more, which come to the front of the room.
-fn read_bytes<R: Read>(reader: &mut R, room: &mut [u8], n: usize) -> bool
+// The next n bytes of the input, at the front of the room.
+fn read_bytes<R: Read>(reader: &mut R, room: &mut [u8], n: usize) -> Result<(), Damaged>
     requires { n ≤ length room.old }
     ensures { length room.new ≡ length room.old }
 {
-    read_input(reader, &mut room[0..n]).count == n
+    if read_input(reader, &mut room[..n]) == Ok(n) {
+        return Ok(());
+    }
+    Err(Damaged)
 }
 
 fn text_room() -> [u8; MOST_TEXT]
@@ -130,71 +116,46 @@ fn output_room() -> [u8; MAX_LENGTH]
     [0; MAX_LENGTH]
 }
 
-// Reads an entry's text of n bytes and its output of m, and replays it.
-fn replay_entry<R: Read>(reader: &mut R, n: usize, m: usize) -> Entry
+// Reads an entry's text of n bytes and its output of m: whether the answer is the output.
+fn replay_entry<R: Read>(reader: &mut R, n: usize, m: usize) -> Result<bool, Damaged>
     requires { (n ≤ 32767) × (m ≤ printed_length) }
 {
     let mut text = text_room();
-    if !read_bytes(reader, &mut text, n) {
-        return Entry::Missing { ended: false };
-    }
+    read_bytes(reader, &mut text, n)?;
     let mut output = output_room();
-    if !read_bytes(reader, &mut output, m) {
-        return Entry::Missing { ended: false };
-    }
-    let same = answers_with(&text[0..n], &output[0..m]);
-    Entry::Replayed { same }
+    read_bytes(reader, &mut output, m)?;
+    Ok(answers_with(&text[..n], &output[..m]))
 }
 
-// Reads an entry's head, and replays it.
-fn next_entry<R: Read>(reader: &mut R) -> Entry {
+// The next entry of the list, replayed: whether the answer is its output. None where the list ends.
+fn next_entry<R: Read>(reader: &mut R) -> Result<Option<bool>, Damaged> {
     let mut head = [0u8; HEAD_LENGTH];
-    let n = read_input(reader, &mut head).count;
+    let n = read_available(reader, &mut head);
     if n == 0 {
-        return Entry::Missing { ended: true };
+        return Ok(None);
     }
-    if n < 9 || head[8] != 10 {
-        return Entry::Missing { ended: false };
+    if n < HEAD_LENGTH || head[8] != b'\n' {
+        return Err(Damaged);
     }
-    let text_length = length_at(head, 0);
-    let output_length = length_at(head, 4);
+    let text_length = length_at(head, 0)?;
+    let output_length = length_at(head, 4)?;
     if text_length > MOST_TEXT || output_length > MAX_LENGTH {
-        return Entry::Missing { ended: false };
+        return Err(Damaged);
     }
-    replay_entry(reader, text_length, output_length)
+    Ok(Some(replay_entry(reader, text_length, output_length)?))
 }
 
 // What is found with one entry more. Entries are counted from 1.
-fn counted(found: Found, same: bool) -> Found
+fn counted(mut found: Found, same: bool) -> Found
     requires { (found.differences ≤ found.texts) × (found.texts < 65535) }
     ensures { (result.differences ≤ result.texts) × (result.texts ≡ found.texts + 1) }
 {
-    let texts = found.texts + 1;
-    let differences = found.differences;
-    let first = found.first;
-    let ended = found.ended;
-    if same {
-        return Found {
-            texts,
-            differences,
-            first,
-            ended,
-        };
+    found.texts += 1;
+    if !same {
+        found.differences += 1;
+        found.first = found.first.or(Some(found.texts));
     }
-    if differences > 0 {
-        return Found {
-            texts,
-            differences: differences + 1,
-            first,
-            ended,
-        };
-    }
-    Found {
-        texts,
-        differences: 1,
-        first: texts,
-        ended,
-    }
+    found
 }
 
 // Replays the list from its start to its end, or as far as it can be read.
@@ -204,18 +165,17 @@ fn replay<R: Read>(reader: &mut R) -> Found
     let mut found = Found {
         texts: 0,
         differences: 0,
-        first: 0,
+        first: None,
         ended: false,
     };
-    while found.texts < MOST_ENTRIES {
+    for _ in 0..MOST_ENTRIES {
         match next_entry(reader) {
-            Entry::Replayed { same } => {
-                found = counted(found, same);
-            }
-            Entry::Missing { ended } => {
-                found.ended = ended;
+            Ok(Some(same)) => found = counted(found, same),
+            Ok(None) => {
+                found.ended = true;
                 return found;
             }
+            Err(Damaged) => return found,
         }
     }
     found
@@ -234,8 +194,8 @@ fn main(rt: HostRuntime) {
     write_all(&rt, b" texts, ");
     print_decimal(&rt, found.differences);
     write_all(&rt, b" differences\n");
-    if found.differences > 0 {
-        print_entry(&rt, b"first different: entry ", found.first);
+    if let Some(first) = found.first {
+        print_entry(&rt, b"first different: entry ", first);
     }
     if !found.ended {
         print_entry(&rt, b"cannot be read: entry ", found.texts + 1);

@@ -1,3 +1,2 @@
-pub mod MoveLists
-pub mod MoveLines
+pub mod Moving
 pub mod Answering

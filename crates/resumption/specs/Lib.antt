@@ -1,6 +1,5 @@
 pub mod SingleMoves
 pub mod Resume
-pub mod Stored
 pub mod Claim
 pub mod MoveLaws
 pub mod PairMoves

@@ -1,7 +1,7 @@
 -- Document 02, Point 4: the call for a plan that was cut off.
 use Rattle.std.specs.Prelude.{List, [], ◌∷◌, ◌++◌, ℕ, ◌*◌, ◌-◌, ltb, length, take, drop}
 use Rattle.network.specs.Records.{Network}
-use Rattle.network.specs.Answers.{Answer, accepted, refused, ◌and_then◌, ◌if◌, judge, Judgement}
+use Rattle.network.specs.Answers.{accepted, ◌and_then◌, ◌if◌, judge, Judgement}
 use Rattle.states.specs.Switches.{State}
 use Rattle.printing.specs.declared.writer.SwitchOperation.{SwitchOperation}
 use Rattle.printing.specs.Lengths.{operation_length}
@@ -9,8 +9,6 @@ use Rattle.printing.specs.Calls.{TwoSlices, called_in_two}
 use Rattle.changes.specs.Change.{check_plan}
 use Rattle.operations.specs.Operations.{operations_text}
 use Rattle.plan.specs.Plan.{plan}
-use Rattle.resumption.specs.declared.resume.ResumeAnswer.{ResumeAnswer}
-use Rattle.resumption.specs.declared.resume.ResumeAnswer.TheVariants.{Remaining, Refused}
 use Rattle.resumption.specs.SingleMoves.{single_moves, going_back}
 
 -- the moves of the plan from the present state, in which it began, to the wanted one
@@ -37,8 +35,3 @@ full_answer N present wanted count remaining back =
       first = operations_text (drop count moves) ++ drop (operation_length * (length moves - count)) remaining;
       second = operations_text (going_back (take count moves)) ++ drop (operation_length * count) back;
     }
-
--- the refusal's number and place, or how many moves remain, for each case of the code's answer
-abbrev pub resume_answer_of : ResumeAnswer → Answer ℕ
-resume_answer_of (Remaining count) = accepted count
-resume_answer_of (Refused number place) = refused number place

@@ -9,10 +9,12 @@ use Rattle.states.specs.Live.{base_state}
 use Rattle.network.specs.Records.{records_of}
 use Rattle.graph.specs.declared.rows.Graph.{Graph}
 use Rattle.feeders.specs.FeederRows.{feeder_graph}
-use Rattle.feeders.specs.Supply.{check_supply}
+use Rattle.feeders.specs.Supply.{check_network, check_supply}
 use Rattle.losses.specs.declared.loads.Loads.{Loads}
 use Rattle.losses.specs.Loss.{loss_in}
 use Rattle.losses.specs.LiveLoss.{loads_of}
+use Rattle.searches.specs.declared.start.Start.{Start}
+use Rattle.searches.specs.SearchValues.{start_of}
 use Rattle.searches.specs.States.{state_of}
 
 -- the test in its two parts: most laws want the records' part alone
@@ -26,3 +28,7 @@ Base n base loss = (base ≡ configuration_of (base_state (records_of n))) × (l
 -- behind the listed switches a configuration has 00
 abbrev pub Held : PowerNetwork → NetworkConfiguration → Type 0
 Held n c = c ≡ configuration_of (state_of n c)
+
+-- what a search is handed: a network that has passed its test, and where every search of it starts
+abbrev pub Started : PowerNetwork → Start → Type 0
+Started n start = (check_network (records_of n) ≡ accepted tt) × (start ≡ start_of n)

@@ -4,7 +4,6 @@ use Rattle.std.specs.Float.{binary64}
 use Rattle.std.specs.Float.Ieee.{sub, mul, div, lt}
 use Rattle.numbers.specs.Constants.{zero64, trillionth, hundred}
 use Rattle.network.specs.Records.{Network}
-use Rattle.network.specs.Answers.{Answer, accepted, refused}
 use Rattle.states.specs.Live.{base_state}
 use Rattle.states.specs.Switches.{State, GoodState}
 use Rattle.printing.specs.Calls.{Call, called}
@@ -13,8 +12,6 @@ use Rattle.feeders.specs.Feeder.{form_in, radial_in}
 use Rattle.feeders.specs.Supply.{check_network}
 use Rattle.losses.specs.Loss.{loss_in}
 use Rattle.searches.specs.declared.answer.ReconfigResult.{ReconfigResult}
-use Rattle.searches.specs.declared.answer.SolveAnswer.{SolveAnswer}
-use Rattle.searches.specs.declared.answer.SolveAnswer.TheVariants.{Solved, Refused}
 
 -- what a search found
 pub record Best : Type 0 where
@@ -57,7 +54,7 @@ result_by search N =
 unfoldable pub solved_by : (Network → Best) → Network → List ℕ → Call Result
 solved_by search N out = called (check_network N) (result_by search N) (search N).state out
 
--- document 01's values for each case of the code's answer
+-- document 01's values of the code's answer
 abbrev pub result_of : ReconfigResult → Result
 result_of r =
     record {
@@ -68,7 +65,3 @@ result_of r =
       iterations = r.n_iterations;
       converged = r.converged;
     }
-
-abbrev pub solve_answer_of : SolveAnswer → Answer Result
-solve_answer_of (Solved r) = accepted (result_of r)
-solve_answer_of (Refused number place) = refused number place

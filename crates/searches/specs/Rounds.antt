@@ -1,6 +1,6 @@
 -- How the searches go on and how they choose: rounds that may end before the last, and the lesser of two losses.
 use Rattle.std.specs.Prelude.{Bool, true, false, cond, ℕ, zero, suc, Float}
-use Rattle.std.proofs.Math.Option.{Option, none, some}
+use Rattle.std.specs.Prelude.{Option, None, Some}
 use Rattle.std.specs.Float.Ieee.{lt}
 
 -- "up to max_iterations rounds": n more, none after the end
@@ -10,5 +10,5 @@ until_ended ended next (suc n) x = elim (ended x) [ true ↦ x | false ↦ until
 
 -- of two things with losses the lesser, the earlier on a tie
 unfoldable pub lesser_by : {A : Type 0} → (A → Float) → Option A → A → Option A
-lesser_by loss none x = some x
-lesser_by loss (some b) x = cond (lt (loss x) (loss b)) (some x) (some b)
+lesser_by loss None x = Some x
+lesser_by loss (Some b) x = cond (lt (loss x) (loss b)) (Some x) (Some b)

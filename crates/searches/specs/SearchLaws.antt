@@ -1,13 +1,12 @@
 -- What the code of a search holds is what the definition says, case by case: it is refused, or it answers with what was found.
-use Rattle.std.specs.Prelude.{◌≡◌, List, ℕ, ◌<◌, min, length, take}
+use Rattle.std.specs.Prelude.{◌≡◌, Result, Ok, Err, List, ℕ, ◌<◌, min, length, take}
 use Rattle.std.proofs.Math.Path.{refl, ap}
 use Rattle.std.proofs.Common.{sym, ◌∙◌, arith, take_all}
 use Rattle.std.proofs.Math.Decide.{dec_lt}
-use Rattle.network.specs.declared.error.Verdict.{Verdict}
-use Rattle.network.specs.declared.error.Verdict.TheVariants.{Accepted, Refused}
+use Rattle.network.specs.declared.error.Refusal.{Refusal}
 use Rattle.network.specs.declared.topology.PowerNetwork.{PowerNetwork}
 use Rattle.network.specs.Records.{Network, records_of}
-use Rattle.network.specs.Answers.{accepted, refused, answer_of, ◌and_then◌, Judgement}
+use Rattle.network.specs.Answers.{accepted, refused, answer_of, number_of, place_of, ◌and_then◌, Judgement}
 use Rattle.network.specs.AnswerLaws.{accepted_so, then_iff}
 use Rattle.network.specs.Check.{check_records}
 use Rattle.states.specs.Listed.{state_accepted, switches_listed, few_switches}
@@ -29,7 +28,7 @@ use Rattle.searches.specs.StateLaws.{state_held}
 use Rattle.searches.specs.States.{state_of}
 
 -- a call that is accepted has a network that has passed its test
-pub search_checked : {v : Verdict} (N : Network) (room : Judgement) → v ≡ Accepted → answer_of v ≡ (check_network N and_then room) → check_network N ≡ accepted tt
+pub search_checked : {v : Result (Unit {0}) Refusal} {u : Unit {0}} (N : Network) (room : Judgement) → v ≡ Ok u → answer_of v ≡ (check_network N and_then room) → check_network N ≡ accepted tt
 search_checked N room r tested = ((then_iff (check_network N) room).0 (accepted_so r tested)).0
 
 -- a configuration has bytes for 512 switches
@@ -51,7 +50,7 @@ module _ (n : PowerNetwork) (search : Network → Best) (sound : (N : Network) �
   long : length (search N).state ≡ n.switch_count
   long = (sound N).good.long ∙ switches_listed n
 
-  module _ (v : Verdict) (tested : answer_of v ≡ (check_network N and_then check_room n.switch_count (length out))) where
+  module _ (v : Result (Unit {0}) Refusal) (tested : answer_of v ≡ (check_network N and_then check_room n.switch_count (length out))) where
     by_state : answer_of v ≡ (check_network N and_then check_room (length (search N).state) (length out))
     by_state = tested ∙ ap (λ m. check_network N and_then check_room m (length out)) (sym long)
 
@@ -60,10 +59,10 @@ module _ (n : PowerNetwork) (search : Network → Best) (sound : (N : Network) �
     unfolding solved_by called
     as_tested = ap (λ t. answered t (result_by search N) (search N).state out) by_state
 
-    pub search_refused : {number place : ℕ} → v ≡ Refused number place → record { answer = refused number place; out = out } ≡ solved_by search N out
+    pub search_refused : {r : Refusal} → v ≡ Err r → record { answer = refused (number_of r) (place_of r); out = out } ≡ solved_by search N out
     search_refused r = ap (λ w. answered (answer_of w) (result_by search N) (search N).state out) (sym r) ∙ as_tested
 
-    module _ (r : v ≡ Accepted) (sized : length n.buses ≡ 256) {start : Start} (s : start ≡ start_of n) {found : Found} (f : found ≡ found_of N (search N)) where
+    module _ {u : Unit {0}} (r : v ≡ Ok u) (sized : length n.buses ≡ 256) {start : Start} (s : start ≡ start_of n) {found : Found} (f : found ≡ found_of N (search N)) where
       passed : check_network N ≡ accepted tt
       passed = search_checked N _ r tested
 

@@ -1,21 +1,20 @@
 // Translated and changed from src/network/reconfiguration.rs of oxigrid. Copyright 2024-2026 COOLJAPAN OU (Team Kitasan), Apache License 2.0.
 // What a search tests first, and how it answers what it found.
 ghost use Rattle.std.specs.Prelude.{◌≡◌, take};
-ghost use Rattle.network.specs.Answers.{answer_of, ◌and_then◌};
+ghost use Rattle.network.specs.Answers.{accepted, answer_of, ◌and_then◌};
 ghost use Rattle.network.specs.Records.{records_of};
 ghost use Rattle.feeders.specs.Supply.{check_network};
 ghost use Rattle.printing.specs.Calls.{check_room};
 ghost use Rattle.slices.specs.Written.{written};
-ghost use Rattle.searches.specs.Results.{reduction, solve_answer_of};
+ghost use Rattle.searches.specs.Results.{reduction, result_of};
 ghost use Rattle.searches.specs.SearchValues.{answer_with};
 
 use crate::start::Start;
 use feeders::supply::check_network;
 use forms::form::form_of;
 use graph::form::Form;
-use network::error::Verdict;
+use network::error::Refusal;
 use network::topology::PowerNetwork;
-use numbers::{at_most, wide16};
 use slices::writer::write_bytes;
 use states::configuration::{NetworkConfiguration, live_branches};
 
@@ -30,13 +29,6 @@ pub struct ReconfigResult {
     pub converged: bool,
 }
 
-// The result of a search, or document 01's refusal number and place.
-#[derive(Clone, Copy)]
-pub enum SolveAnswer {
-    Solved(ReconfigResult),
-    Refused { number: u8, place: u16 },
-}
-
 // What a search found.
 #[derive(Clone, Copy)]
 pub struct Found {
@@ -47,20 +39,15 @@ pub struct Found {
 }
 
 // A search's call tests the network, then whether a slice of this length has a byte for each switch.
-pub fn check_search(network: PowerNetwork, room: usize) -> Verdict
+pub fn check_search(network: PowerNetwork, room: usize) -> Result<(), Refusal>
     ensures { answer_of result ≡ (check_network (records_of network) and_then check_room network.switch_count room) }
 {
-    if let Verdict::Refused { number, place } = check_network(network) {
-        return Verdict::Refused { number, place };
-    }
-    let count = wide16(network.switch_count);
+    check_network(network)?;
+    let count = usize::from(network.switch_count);
     if room < count {
-        return Verdict::Refused {
-            number: 13,
-            place: 0,
-        };
+        return Err(Refusal::Room);
     }
-    Verdict::Accepted
+    Ok(())
 }
 
 // By how many per cent the best loss is below the base's.
@@ -77,26 +64,29 @@ fn reduction(base: f64, best: f64) -> f64
 fn write_state(best: NetworkConfiguration, switch_count: u16, out: &mut [u8])
     ensures { out.new ≡ written (take switch_count best.switches) out.old }
 {
-    let state = best.switches;
-    let count = at_most(wide16(switch_count), NetworkConfiguration::MAX_SWITCHES);
-    write_bytes(out, &state[0..count]);
+    let count = usize::from(switch_count).min(NetworkConfiguration::MAX_SWITCHES);
+    write_bytes(out, &best.switches[..count]);
 }
 
 // What was found is answered: its state, a byte for each switch at the front of the slice, and the result beside it. After `check_search`, with the start of the same
 // network, that is the search's call (specs/SearchLaws, search_answered).
-pub fn answer_with(network: PowerNetwork, start: Start, found: Found, out: &mut [u8]) -> SolveAnswer
-    ensures { record { answer = solve_answer_of result; out = out.new } ≡ answer_with network start found out.old }
+pub fn answer_with(
+    network: PowerNetwork,
+    start: Start,
+    found: Found,
+    out: &mut [u8],
+) -> ReconfigResult
+    ensures { record { answer = accepted (result_of result); out = out.new } ≡ answer_with network start found out.old }
 {
     let best = found.configuration;
-    let graph = start.graph;
-    let form = form_of(graph, live_branches(network, best));
+    let form = form_of(start.graph, live_branches(network, best));
     write_state(best, network.switch_count, out);
-    SolveAnswer::Solved(ReconfigResult {
+    ReconfigResult {
         form,
         base_losses_mw: start.loss,
         optimized_losses_mw: found.loss,
         loss_reduction_pct: reduction(start.loss, found.loss),
         n_iterations: found.iterations,
         converged: found.converged,
-    })
+    }
 }

@@ -29,8 +29,7 @@ pub fn start_of(network: PowerNetwork) -> Start
     let base = build_base_configuration(network);
     let live = live_branches(network, base);
     let radial = is_radial(graph, live);
-    let branches = network.branches;
-    let loss = live_loss(graph, loads, branches, network.base_mva, live);
+    let loss = live_loss(graph, loads, network.branches, network.base_mva, live);
     Start {
         graph,
         loads,

@@ -1,6 +1,6 @@
 -- Bytes that are written into a slice, one after the other or into the part of it that begins behind them.
 use Rattle.std.specs.Prelude.{◌≡◌, refl, Bool, true, false, List, [], ◌∷◌, ◌++◌, ℕ, suc, ◌+◌, ◌-◌, ◌<◌, ◌≤◌, length, take, drop, set, leb}
-use Rattle.std.proofs.Common.{sym, ap, ◌∙◌, append-nil, arith, add-zero, add-suc, suc-add, zero-add, length-append, length-drop, take-append-drop, drop_of_length-le, take_all, le-leb, leb-true, leb-false}
+use Rattle.std.proofs.Common.{sym, ap, ◌∙◌, append-nil, arith, add-zero, add-suc, suc-add, zero-add, length-append, length-drop, take-append-drop, drop_of_length-le, le-leb, leb-true, leb-false}
 use Rattle.std.proofs.lemmas.List.Edits.{sets, sets-eq}
 use Rattle.std.proofs.Math.Seq.{length-sets, take-append_seam}
 use Rattle.std.proofs.lemmas.List.{take-set-le, drop-set-add}
@@ -71,7 +71,3 @@ written_append a b out n {l} behind room first next =
     written_part b l n (omega arith) next
     ∙ (rw (front, ← behind) (rw zero-add at (sets_append out 0 a b)))
     ∙ sym (written_sets (a ++ b) out (omega (arith, length-append a b)))
-
--- ---- copied
-pub written_copied : (bytes out : List ℕ) {now : List ℕ} → length bytes ≤ length out → now ≡ take (length bytes) bytes ++ drop (length bytes) out → now ≡ written bytes out
-written_copied bytes out room e = e ∙ rw (take_all (length bytes) bytes (omega arith)) (sym (written_room bytes out room))

@@ -3,9 +3,8 @@ ghost use Rattle.std.specs.Prelude.{◌≡◌, [], ◌∷◌, ◌++◌, ◌<◌}
 ghost use Rattle.lines.specs.Hex.{digit};
 ghost use Rattle.slices.specs.Written.{written, last_digits};
 
-use numbers::wide8;
-
 // Bytes at the front of a slice.
+#[tactic(auto, using(crate::specs::WrittenLaws::written_room, crate::specs::WrittenLaws::written_short))]
 pub fn write_bytes(out: &mut [u8], bytes: &[u8])
     ensures { out.new ≡ written bytes.now out.old }
 {
@@ -16,14 +15,12 @@ pub fn write_bytes(out: &mut [u8], bytes: &[u8])
 }
 
 // The digit for a number below 16.
+#[tactic(auto, unfolding(lines::specs::Hex::digit))]
 fn digit(n: u8) -> u8
     requires { n < 16 }
     ensures { result ≡ digit n }
 {
-    if n < 10 {
-        return 48 + n;
-    }
-    55 + n
+    if n < 10 { b'0' + n } else { b'A' + (n - 10) }
 }
 
 // The last digits of a number, so many, at the front of a slice: the last one first.
@@ -34,22 +31,22 @@ pub fn write_digits(out: &mut [u8], width: usize, n: u64)
         return;
     }
     let mut rest = n;
-    let mut i = width;
-    while 0 < i {
-        i -= 1;
+    // By index, since of bytes that are written through `iter_mut().rev()` a proof knows only how many they are.
+    for i in (0..width).rev() {
         out[i] = digit((rest % 16) as u8);
         rest /= 16;
     }
 }
 
 // A line of so many digits, and its line feed.
+#[tactic(auto, using(crate::proofs::Remaining::line_short, crate::proofs::Remaining::line_ended))]
 pub fn write_line(out: &mut [u8], width: u8, n: u64)
     ensures { out.new ≡ written (last_digits width n ++ (10 ∷ [])) out.old }
 {
-    let end = wide8(width);
+    let end = usize::from(width);
     if out.len() < end + 1 {
         return;
     }
     write_digits(out, end, n);
-    out[end] = 10;
+    out[end] = b'\n';
 }

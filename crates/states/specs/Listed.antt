@@ -1,5 +1,6 @@
 -- What the checks leave for the code behind them: the records as they are listed, counts inside the arrays, and a byte for each switch.
-use Rattle.std.specs.Prelude.{◌≡◌, refl, ◌↔◌, true, ◌&&◌, [], ◌∷◌, ℕ, zero, suc, ◌≤◌, ◌<◌, leb, eqb, length}
+use Rattle.std.specs.Prelude.{◌≡◌, refl, ◌↔◌, Bool, true, false, cond, not, ◌&&◌, [], ◌∷◌, ℕ, zero, suc, ◌≤◌, ◌<◌, leb, eqb, length}
+use Rattle.std.specs.List.{list_all}
 use Rattle.std.proofs.Common.{ap, arith, eqb-true, eq-eqb, leb-true, le-leb}
 use Rattle.std.proofs.Math.ListN.{get_or}
 use Rattle.numbers.specs.TableLaws.{length_table, get_or_table}
@@ -8,7 +9,7 @@ use Rattle.numbers.specs.Every.{every}
 use Rattle.network.specs.declared.switch.Switch.{Switch}
 use Rattle.network.specs.declared.topology.PowerNetwork.{PowerNetwork}
 use Rattle.network.specs.Records.{Network, no_bus, no_branch, no_switch, records_of}
-use Rattle.network.specs.Answers.{accepted}
+use Rattle.network.specs.Answers.{accepted, refused, ◌if◌, judge}
 use Rattle.network.specs.AnswerLaws.{judge_accepted}
 use Rattle.network.specs.Check.{check_records}
 use Rattle.network.specs.Inside.{Inside}
@@ -77,6 +78,20 @@ every_byte (x ∷ s) = (λ e. fore (both (leb x 1) _ e).0 ((every_byte s).0 (bot
     fore : leb x 1 ≡ true → ((i : ℕ) → i < length s → byte s i ≤ 1) → (i : ℕ) → i < length (x ∷ s) → byte (x ∷ s) i ≤ 1
     fore e h zero b = leb-true x 1 e
     fore e h (suc i) b = h i (omega arith)
+
+every_all : (s : State) → every (λ b. leb b 1) s ≡ list_all (λ b. leb b 1) s
+unfolding every
+every_all [] = refl
+every_all (b ∷ s) = rw (every_all s)
+
+-- refusal 10 by the tests that the code makes
+pub state_judged : (n : PowerNetwork) (s : State) (place : ℕ) → check_state (records_of n) s place ≡ cond (eqb (length s) n.switch_count && list_all (λ b. leb b 1) s) (accepted tt) (refused 10 place)
+unfolding check_state judge
+state_judged n s place = rw (every_all s, switches_listed n) (go (eqb (length s) n.switch_count && list_all (λ b. leb b 1) s))
+  where
+    go : (b : Bool) → judge ((10 if not b) ∷ []) place ≡ cond b (accepted tt) (refused 10 place)
+    go true = refl
+    go false = refl
 
 pub state_accepted : (N : Network) (s : State) (place : ℕ) → (check_state N s place ≡ accepted tt) ↔ GoodState N s
 unfolding check_state

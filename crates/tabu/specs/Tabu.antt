@@ -1,6 +1,6 @@
 -- Document 01's tabu search, step by step.
 use Rattle.std.specs.Prelude.{Bool, true, false, cond, not, ◌&&◌, ◌||◌, List, [], ◌∷◌, ◌++◌, ℕ, ◌-◌, Float, length, drop}
-use Rattle.std.proofs.Math.Option.{Option, none, some}
+use Rattle.std.specs.Prelude.{Option, None, Some}
 use Rattle.std.specs.Float.Ieee.{lt}
 use Rattle.numbers.specs.UpTo.{up_to}
 use Rattle.network.specs.Records.{Network}
@@ -47,7 +47,7 @@ seeing N x best i = cond (allowed N x i) (lesser best (move_of N x i)) best
 
 -- "each toggles every operable switch alone, in list order, and keeps radial results"
 unfoldable pub best_move : Network → Tabu → Option Move
-best_move N x = up_to (seeing N x) none (size N)
+best_move N x = up_to (seeing N x) None (size N)
 
 -- "The last 7 moved ids"
 unfoldable pub last_seven : List ℕ → List ℕ
@@ -55,8 +55,8 @@ last_seven l = drop (length l - 7) l
 
 -- the winner "is the next round's state"; it is the answer where its "loss is strictly below the best ever". "No candidate ends it"
 unfoldable pub after_move : Tabu → Option Move → Tabu
-after_move x none = record { state = x.state; best = x.best; best_loss = x.best_loss; barred = x.barred; ended = true }
-after_move x (some m) =
+after_move x None = record { state = x.state; best = x.best; best_loss = x.best_loss; barred = x.barred; ended = true }
+after_move x (Some m) =
     record {
       state = m.state;
       best = cond (lt m.loss x.best_loss) m.state x.best;

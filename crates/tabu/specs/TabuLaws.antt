@@ -3,7 +3,7 @@
 use Rattle.std.specs.Prelude.{◌≡◌, Bool, ℕ}
 use Rattle.std.proofs.Math.Path.{refl}
 use Rattle.std.proofs.Math.Bool.{true, false, cond}
-use Rattle.std.proofs.Math.Option.{Option, none, some}
+use Rattle.std.specs.Prelude.{Option, None, Some}
 use Rattle.std.specs.Float.Ieee.{lt}
 use Rattle.numbers.specs.Tests.{both}
 use Rattle.numbers.specs.UpTo.{up_to_keeps}
@@ -34,7 +34,7 @@ pub record MoveFrom (N : Network) (s : State) (m : Move) : Type 0 where
 module _ (N : Network) where
   pub best_move_moves : (x : Tabu) → IfSome (MoveFrom N x.state) (best_move N x)
   unfolding best_move allowed
-  best_move_moves x = up_to_keeps (λ n. IfSome P) _ none (size N) tt (λ i best l h. cond_holds P (allowed N x i) _ best (λ e. lesser_holds P _ best (move_of N x i) h (move i e)) h)
+  best_move_moves x = up_to_keeps (λ n. IfSome P) _ None (size N) tt (λ i best l h. cond_holds P (allowed N x i) _ best (λ e. lesser_holds P _ best (move_of N x i) h (move i e)) h)
     where
       P : Move → Type 0
       P = MoveFrom N x.state
@@ -56,8 +56,8 @@ module _ (N : Network) where
 
     both_kept : (x : Tabu) → Both x → (found : Option Move) → IfSome (MoveFrom N x.state) found → Both (after_move x found)
     unfolding after_move
-    both_kept x h none w = h
-    both_kept x h (some m) w = (new, go (lt m.loss x.best_loss))
+    both_kept x h None w = h
+    both_kept x h (Some m) w = (new, go (lt m.loss x.best_loss))
       where
         new : P m.state
         new = toggles x.state m.state h.0 w.toggle
@@ -75,8 +75,8 @@ module _ (N : Network) where
   tabu_loss = rounds_keep (λ x. x.best_loss ≡ loss_in N x.best) (λ x e h. one x h (best_move N x) (best_move_moves x)) refl
     where
       one : (x : Tabu) → x.best_loss ≡ loss_in N x.best → (found : Option Move) → IfSome (MoveFrom N x.state) found → (after_move x found).best_loss ≡ loss_in N (after_move x found).best
-      one x h none w = h
-      one x h (some m) w = go (lt m.loss x.best_loss)
+      one x h None w = h
+      one x h (Some m) w = go (lt m.loss x.best_loss)
         where
           go : (b : Bool) → cond b m.loss x.best_loss ≡ loss_in N (cond b m.state x.best)
           go true = w.loses

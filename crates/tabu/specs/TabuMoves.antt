@@ -1,12 +1,11 @@
 -- A switch more in a round of the tabu search, as the code sees it: it is locked, or its toggle is not radial, or the toggle is a candidate.
 use Rattle.std.specs.Prelude.{◌≡◌, Bool, not, ◌&&◌, ◌||◌, List, ℕ, ◌+◌, ◌≤◌, ◌<◌, eqb, Float, length, get_or, set}
 use Rattle.std.proofs.Math.Path.{refl, sym, ap}
-use Rattle.std.proofs.Common.{◌∙◌, arith}
+use Rattle.std.proofs.Common.{◌∙◌, ap₂, arith}
 use Rattle.std.proofs.Math.Bool.{true, false, cond, and-false}
-use Rattle.std.proofs.Math.Option.{Option, none, some}
+use Rattle.std.specs.Prelude.{Option, None, Some}
 use Rattle.std.specs.Float.Ieee.{lt}
 use Rattle.std.proofs.lemmas.Bool.{not-true, not-false}
-use Rattle.states.specs.declared.configuration.NetworkConfiguration.{NetworkConfiguration}
 use Rattle.network.specs.declared.topology.PowerNetwork.{PowerNetwork}
 use Rattle.network.specs.declared.switch.Switch.{Switch}
 use Rattle.network.specs.Inside.{Inside}
@@ -37,53 +36,37 @@ use Rattle.searches.specs.LiveFlags.{flags_toggled}
 use Rattle.searches.specs.Rounds.{lesser_by}
 use Rattle.tabu.specs.Toggles.{decides, decides_open, undecided_same, toggled_radial}
 use Rattle.tabu.specs.Tabu.{Move, Tabu, move_of, allowed, lesser, seeing}
-use Rattle.tabu.specs.TabuValues.{tabu_list_of, ids_of, HeldList, candidate_of, toggled_in, tabu_of, Stands}
-use Rattle.tabu.specs.TabuListLaws.{ids_held, list_held}
+use Rattle.tabu.specs.TabuValues.{as_candidate, candidate_of, lesser_candidate, seen, toggled_in, tabu_of, Stands}
 
 -- ---- two candidates
-module _ (c : NetworkConfiguration) where
-  -- "the least loss wins, the earlier on a tie"
-  pub lesser_held : (b : Option Move) (m : Move) (best candidate : Candidate) → best ≡ candidate_of c b → candidate ≡ candidate_of c (some m)
-      → candidate_of c (lesser b m) ≡ cond best.found (cond (lt candidate.loss best.loss) candidate best) candidate
-  unfolding candidate_of lesser_by
-  lesser_held none m best candidate e q = rw (e, q)
-  lesser_held (some k) m best candidate e q = rw (e, q) (go (lt m.loss k.loss))
-    where
-      go : (t : Bool) → candidate_of c (cond t (some m) (some k)) ≡ cond t (candidate_of c (some m)) (candidate_of c (some k))
-      go true = refl
-      go false = refl
+-- "the least loss wins, the earlier on a tie"
+lesser_held : (b : Option Move) (m : Move) → lesser_candidate (candidate_of b) (as_candidate m) ≡ candidate_of (lesser b m)
+unfolding candidate_of lesser_by
+lesser_held None m = refl
+lesser_held (Some k) m = go (lt m.loss k.loss)
+  where
+    go : (t : Bool) → cond t (Some (as_candidate m)) (Some (as_candidate k)) ≡ candidate_of (cond t (Some m) (Some k))
+    go true = refl
+    go false = refl
 
-  module _ (b : Option Move) (m : Move) (best candidate : Candidate) (e : best ≡ candidate_of c b) (q : candidate ≡ candidate_of c (some m)) (ids : List ℕ) (best_loss : Float) (t : Bool)
-      (h : t ≡ (not (among candidate.moved ids) || lt candidate.loss best_loss)) where
-    abbrev after : Option Move
-    after = cond (not (among m.moved ids) || lt m.loss best_loss) (lesser b m) b
-
-    same_test : (not (among m.moved ids) || lt m.loss best_loss) ≡ t
-    unfolding candidate_of
-    same_test = sym (h ∙ rw q)
-
-    pub see_allowed : t ≡ true → (r : Candidate) → r ≡ candidate_of c (lesser b m) → r ≡ candidate_of c after
-    see_allowed f r p = rw (same_test, f) p
-
-    pub see_barred : t ≡ false → best ≡ candidate_of c after
-    see_barred f = rw (same_test, f) e
+-- one that is barred is passed over
+seen_held : (y : TabuSearch) (b : Option Move) (m : Move) → seen y (candidate_of b) (as_candidate m) ≡ candidate_of (cond (not (among m.moved y.barred) || lt m.loss y.best_loss) (lesser b m) b)
+seen_held y b m = go (not (among m.moved y.barred) || lt m.loss y.best_loss)
+  where
+    go : (t : Bool) → cond t (lesser_candidate (candidate_of b) (as_candidate m)) (candidate_of b) ≡ candidate_of (cond t (lesser b m) b)
+    go true = lesser_held b m
+    go false = refl
 
 -- one switch more
-pub seen_more : (N : Network) (x : Tabu) (c : NetworkConfiguration) (i : ℕ) (r : Candidate) → r ≡ candidate_of c (seeing N x (up_to (seeing N x) none i) i)
-    → r ≡ candidate_of c (up_to (seeing N x) none (i + 1))
-seen_more N x c i r e = e ∙ ap (candidate_of c) (sym (up_to_more (seeing N x) none i))
+pub seen_more : (N : Network) (x : Tabu) (i : ℕ) (r : Option Candidate) → r ≡ candidate_of (seeing N x (up_to (seeing N x) None i) i)
+    → r ≡ candidate_of (up_to (seeing N x) None (i + 1))
+seen_more N x i r e = e ∙ ap candidate_of (sym (up_to_more (seeing N x) None i))
 
 -- ---- where the search stands
 module _ (n : PowerNetwork) (y : TabuSearch) (x : Tabu) (w : Stands n y x) where
-  barred_is : y.barred ≡ tabu_list_of x.barred
+  barred_is : y.barred ≡ x.barred
   unfolding tabu_of
   barred_is = ap (λ z. z.barred) w.held_by
-
-  pub barred_held : HeldList y.barred
-  barred_held = rw barred_is (list_held x.barred w.short)
-
-  barred_ids : ids_of y.barred ≡ x.barred
-  barred_ids = rw barred_is (ids_held x.barred w.short)
 
   module _ (ok : check_records (records_of n) ≡ accepted tt) (i : ℕ) (below : i < n.switch_count) (sw : Switch) (here : sw ≡ get_or n.switches i no_switch) where
     abbrev N : Network
@@ -141,9 +124,9 @@ module _ (n : PowerNetwork) (y : TabuSearch) (x : Tabu) (w : Stands n y x) where
       undecided f = undecided_same N inside x.state w.from_base.good i listed_switch (sym told ∙ f)
 
       -- ---- the best after it
-      module _ (b : Option Move) (best : Candidate) (q : best ≡ candidate_of y.configuration b) where
-        abbrev Best : Candidate → Type 0
-        Best r = r ≡ candidate_of y.configuration (seeing N x b i)
+      module _ (b : Option Move) (best : Option Candidate) (q : best ≡ candidate_of b) where
+        abbrev Best : Option Candidate → Type 0
+        Best r = r ≡ candidate_of (seeing N x b i)
 
         see_locked : sw.can_operate ≡ false → Best best
         unfolding allowed
@@ -175,20 +158,17 @@ module _ (n : PowerNetwork) (y : TabuSearch) (x : Tabu) (w : Stands n y x) where
             go false o f = see_locked o
 
         -- ---- the toggle is a candidate
-        module _ (r : Candidate) where
+        module _ (r : Option Candidate) where
           abbrev After : Float → Type 0
-          After loss =
-              (c : NetworkConfiguration) (b : Option Move) (m : Move) → best ≡ candidate_of c b
-              → record { found = true; configuration = toggled_in y.configuration i; loss = loss; moved = sw.id } ≡ candidate_of c (some m)
-              → r ≡ candidate_of c (cond (not (among m.moved (ids_of y.barred)) || lt m.loss y.best_loss) (lesser b m) b)
+          After loss = r ≡ seen y best (record { configuration = toggled_in y.configuration i; loss = loss; moved = sw.id })
 
           see_move : sw.can_operate ≡ true → (loss : Float) → radial_in N t ≡ true → loss ≡ loss_in N t → After loss → Best r
-          unfolding allowed candidate_of tabu_of
+          unfolding allowed tabu_of
           see_move o loss v e h =
               let can : operable N i ≡ true = ap (λ u. u.can_operate) own ∙ o in
               let best-is : y.best_loss ≡ x.best_loss = ap (λ z. z.best_loss) w.held_by in
-              let held : record { found = true; configuration = toggled_in y.configuration i; loss = loss; moved = sw.id } ≡ candidate_of y.configuration (some (move_of N x i)) = rw (toggled_is, e, own) in
-              rw (can, v, ← barred_ids, ← best-is) (h y.configuration b (move_of N x i) q held)
+              let held : record { configuration = toggled_in y.configuration i; loss = loss; moved = sw.id } ≡ as_candidate (move_of N x i) = rw (toggled_is, e, own) in
+              h ∙ ap₂ (seen y) q held ∙ seen_held y b (move_of N x i) ∙ rw (barred_is, best-is, can, v)
 
           -- from a radial state, where no branch becomes live or dead
           pub see_idle : y.radial ≡ true → (sw.can_operate && not decided) ≡ true → After y.loss → Best r

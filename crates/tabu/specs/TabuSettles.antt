@@ -5,7 +5,7 @@ use Rattle.std.proofs.Math.Path.{refl}
 use Rattle.std.proofs.Common.{sym, ap, ◌∙◌}
 use Rattle.std.proofs.Math.Logic.{inl, inr}
 use Rattle.std.proofs.Math.Bool.{true, false}
-use Rattle.std.proofs.Math.Option.{Option, none, some}
+use Rattle.std.specs.Prelude.{Option, None, Some}
 use Rattle.std.specs.Float.Ieee.{lt}
 use Rattle.numbers.specs.Tests.{clash}
 use Rattle.network.specs.Records.{Network}
@@ -35,8 +35,8 @@ module _ (N : Network) where
   -- after any round
   settles : (x : Tabu) (found : Option Move) → IfSome (MoveFrom N x.state) found → Settled (after_move x found)
   unfolding after_move
-  settles x none w = inl refl
-  settles x (some m) w = inr (w.toggle.radial, rw (← w.loses) (go (lt m.loss x.best_loss) refl))
+  settles x None w = inl refl
+  settles x (Some m) w = inr (w.toggle.radial, rw (← w.loses) (go (lt m.loss x.best_loss) refl))
     where
       go : (b : Bool) → lt m.loss x.best_loss ≡ b → lt m.loss (cond b m.loss x.best_loss) ≡ false
       go true e = lt_self m.loss
@@ -46,8 +46,8 @@ module _ (N : Network) where
     same_after : (x : Tabu) → radial_in N x.state ≡ true → lt (loss_in N x.state) x.best_loss ≡ false
         → (found : Option Move) → IfSome (MoveFrom N x.state) found → SameBest (after_move x found) x
     unfolding after_move
-    same_after x r n none w = (refl, refl)
-    same_after x r n (some m) w = (rw worse, rw worse)
+    same_after x r n None w = (refl, refl)
+    same_after x r n (Some m) w = (rw worse, rw worse)
       where
         t : Toggle N x.state m.state
         t = w.toggle

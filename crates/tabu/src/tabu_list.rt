@@ -1,17 +1,24 @@
 // Translated and changed from src/network/reconfiguration.rs of oxigrid. Copyright 2024-2026 COOLJAPAN OU (Team Kitasan), Apache License 2.0.
 // The ids that the tabu search bars.
-ghost use Rattle.std.specs.Prelude.{◌≡◌, [], ◌∷◌, ◌++◌, ◌<◌, drop};
+ghost use Rattle.std.specs.Prelude.{◌≡◌, ℕ, List, [], ◌∷◌, ◌++◌, ◌<◌, ◌≤◌, length, take, drop};
 ghost use Rattle.numbers.specs.Choose.{among};
 ghost use Rattle.tabu.specs.Tabu.{last_seven};
-ghost use Rattle.tabu.specs.TabuValues.{tabu_list_of, ids_of, HeldList};
 
-use numbers::wide16;
+use std::marker::Model;
 
-// The ids of the last switches that were moved, the earliest first, and 0 behind them.
-#[derive(Clone, Copy)]
+// The ids of the last switches that were moved, the earliest first: the first `count` of the array. The clauses see the list of them.
+#[derive(Drop)]
 pub(crate) struct TabuList {
     ids: [u16; TabuList::TABU_SIZE],
-    count: u16,
+    count: usize,
+}
+
+impl Model for TabuList {
+    ghost Value = { List ℕ };
+
+    ghost view = { λ t. take t.count t.ids };
+
+    ghost invariant = { λ t. t.count ≤ 7 };
 }
 
 impl TabuList {
@@ -20,7 +27,7 @@ impl TabuList {
 
     // Nothing is barred.
     pub(crate) fn new() -> TabuList
-        ensures { result ≡ tabu_list_of [] }
+        ensures { result ≡ [] }
     {
         TabuList {
             ids: [0; TabuList::TABU_SIZE],
@@ -29,57 +36,37 @@ impl TabuList {
     }
 
     // Is this id barred?
-    pub(crate) fn contains(self, id: u16) -> bool
-        requires { HeldList self }
-        ensures { result ≡ among id (ids_of self) }
+    pub(crate) fn contains(&self, id: u16) -> bool
+        ensures { result ≡ among id self.now }
     {
-        let count = wide16(self.count);
-        let mut i = 0usize;
-        while i < count {
-            if self.ids[i] == id {
-                return true;
-            }
-            i += 1;
-        }
-        false
+        self.ids[..self.count].contains(&id)
     }
 
     // One id more, where there is room.
-    fn push_back(self, id: u16) -> TabuList
-        requires { HeldList self × (self.count < 7) }
-        ensures { result ≡ tabu_list_of (ids_of self ++ (id ∷ [])) }
+    fn push_back(&mut self, id: u16)
+        requires { length self.old < 7 }
+        ensures { self.new ≡ self.old ++ (id ∷ []) }
     {
-        let at = wide16(self.count);
-        let mut list = self;
-        list.ids[at] = id;
-        list.count = self.count + 1;
-        list
+        self.ids[self.count] = id;
+        self.count += 1;
     }
 
-    // Without the earliest id of a full list.
-    fn pop_front(self) -> TabuList
-        requires { HeldList self × (self.count ≡ 7) }
-        ensures { result ≡ tabu_list_of (drop 1 (ids_of self)) }
+    // Without the earliest id.
+    fn pop_front(&mut self)
+        requires { 0 < length self.old }
+        ensures { self.new ≡ drop 1 self.old }
     {
-        let last = TabuList::TABU_SIZE - 1;
-        let mut list = TabuList::new();
-        let mut i = 0usize;
-        while i < last {
-            list.ids[i] = self.ids[i + 1];
-            i += 1;
-        }
-        list.count = self.count - 1;
-        list
+        self.ids.copy_within(1..self.count, 0);
+        self.count -= 1;
     }
 
     // One id more, for which the earliest leaves a full list.
-    pub(crate) fn push(self, id: u16) -> TabuList
-        requires { HeldList self }
-        ensures { result ≡ tabu_list_of (last_seven (ids_of self ++ (id ∷ []))) }
+    pub(crate) fn push(&mut self, id: u16)
+        ensures { self.new ≡ last_seven (self.old ++ (id ∷ [])) }
     {
-        if wide16(self.count) < TabuList::TABU_SIZE {
-            return self.push_back(id);
+        if self.count == TabuList::TABU_SIZE {
+            self.pop_front();
         }
-        self.pop_front().push_back(id)
+        self.push_back(id);
     }
 }

@@ -5,15 +5,8 @@ use Rattle.numbers.specs.UpTo.{up_to, up_to_more}
 use Rattle.network.specs.Answers.{accepted, refused}
 use Rattle.network.specs.Records.{Network}
 use Rattle.frames.specs.Text.{read_text}
-use Rattle.printing.specs.Calls.{Call}
-use Rattle.texts.specs.Texts.{written_text, write_answer_of}
-use Rattle.texts.specs.declared.writer.WriteAnswer.{WriteAnswer}
-use Rattle.text_timing.specs.TextRounds.{Added, length_in, counted, one_more_round, text_rounds, rounds_on}
-
--- ---- a call
-pub counted_by : (call : Call ℕ) (a b : WriteAnswer) (after : List ℕ) → a ≡ b → record { answer = write_answer_of a; out = after } ≡ call
-    → record { sum = length_in (write_answer_of b); out = after } ≡ counted call
-counted_by call a b after e h = ap (λ x. counted (record { answer = write_answer_of x; out = after })) (sym e) ∙ ap counted h
+use Rattle.texts.specs.Texts.{written_text}
+use Rattle.text_timing.specs.TextRounds.{Added, counted, one_more_round, text_rounds, rounds_on}
 
 -- ---- the rounds
 pub rounds_none : (N : Network) (out : List ℕ) → record { sum = 0; out = out } ≡ text_rounds N out 0

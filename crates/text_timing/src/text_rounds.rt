@@ -6,29 +6,23 @@ ghost use Rattle.texts.specs.Texts.{written_text};
 ghost use Rattle.text_timing.specs.TextRounds.{counted, text_rounds, rounds_on};
 
 use frames::reader::read_text;
-use network::error::Verdict;
 use network::topology::PowerNetwork;
 use std::num::wrapping_add_u64;
-use texts::writer::{WriteAnswer, write_text};
+use texts::writer::write_text;
 
 // How many bytes the network's text has.
 fn writing(network: PowerNetwork, out: &mut [u8]) -> u64
     ensures { record { sum = result; out = out.new } ≡ counted (written_text (records_of network) out.old) }
 {
-    match write_text(network, out) {
-        WriteAnswer::Refused { number, place } => 0,
-        WriteAnswer::Written(length) => length as u64,
-    }
+    write_text(network, out).map_or(0, u64::from)
 }
 
 fn text_rounds(network: PowerNetwork, out: &mut [u8], times: u64) -> u64
     ensures { record { sum = result; out = out.new } ≡ text_rounds (records_of network) out.old times }
 {
     let mut sum = 0u64;
-    let mut i = 0u64;
-    while i < times {
+    'rounds: for _ in 0..times {
         sum = wrapping_add_u64(sum, writing(network, out));
-        i += 1;
     }
     sum
 }
@@ -38,11 +32,8 @@ fn text_rounds(network: PowerNetwork, out: &mut [u8], times: u64) -> u64
 pub extern "C" fn timing_texts(text: &[u8], out: &mut [u8], times: u64) -> u64
     ensures { record { sum = result; out = out.new } ≡ rounds_on (read_text text.now) out.old times }
 {
-    let reading = read_text(text);
-    let verdict = reading.verdict;
-    if let Verdict::Refused { number, place } = verdict {
+    let Ok(network) = read_text(text) else {
         return 0;
-    }
-    let network = reading.network;
+    };
     text_rounds(network, out, times)
 }

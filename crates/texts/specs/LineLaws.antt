@@ -1,14 +1,14 @@
 -- A line with a float in it, as it is written: the fields before the float are one number, those behind it another.
-use Rattle.std.specs.Prelude.{◌≡◌, Bool, true, false, List, [], ◌∷◌, ◌++◌, ℕ, ◌+◌, ◌*◌, ◌-◌, ◌^◌, ◌<◌, ◌≤◌, length, take, drop}
+use Rattle.std.specs.Prelude.{◌≡◌, refl, Bool, true, false, List, [], ◌∷◌, ◌++◌, ℕ, ◌+◌, ◌*◌, ◌-◌, ◌^◌, ◌<◌, ◌≤◌, length, take, drop}
 use Rattle.std.proofs.Common.{sym, ap, ◌∙◌, append-nil, arith, lit<, length-append}
+use mir.Val.{bool_byte}
 use borrow.Rule.Slice.PartMut.{put_mid}
 use Rattle.lines.specs.Hex.{digits, Fields, write_fields, Fit, total}
 use Rattle.lines.specs.HexLaws.{length_digits}
 use Rattle.slices.specs.Written.{written, last_digits}
 use Rattle.slices.specs.WrittenLaws.{written_short}
 use Rattle.slices.specs.DigitLaws.{all_digits}
-use Rattle.frames.specs.Acceptable.{flags_byte}
-use Rattle.printing.specs.Printed.{truth_byte}
+use Rattle.frames.specs.Acceptable.{status_byte, flags_byte}
 use Rattle.printing.specs.FrameNumbers.{number_of, joined, frame_pieces, three_written}
 
 -- ---- as `write_around` writes it
@@ -44,8 +44,12 @@ pub around_line : (front back : List ℕ) (f : Fields front) (bits : ℕ) (b : F
     → after ≡ written (write_fields (front ++ (16 ∷ back)) (joined front (16 ∷ back) f (bits, b)) ++ (10 ∷ [])) out
 around_line front back f bits b out a h i e g = a ∙ ap (λ (line : List ℕ). written line out) (around_fields front back f bits b h i e g)
 
--- ---- the flags byte of a switch, as it is put together
-pub flags_byte_lem : (tie operable : Bool) {t o : ℕ} → t ≡ truth_byte tie → o ≡ truth_byte operable → (t + 2 * o ≡ flags_byte tie operable) × (flags_byte tie operable < 16 ^ 2)
+-- ---- a byte that says whether it is so, as the library makes it: the status byte of a branch, and the flags byte of a switch, put together
+pub status_byte_lem : (b : Bool) → bool_byte b ≡ status_byte b
+status_byte_lem true = refl
+status_byte_lem false = refl
+
+pub flags_byte_lem : (tie operable : Bool) {t o : ℕ} → t ≡ bool_byte tie → o ≡ bool_byte operable → (t + 2 * o ≡ flags_byte tie operable) × (flags_byte tie operable < 16 ^ 2)
 flags_byte_lem true true e f = (rw (e, f), lit< tt)
 flags_byte_lem true false e f = (rw (e, f), lit< tt)
 flags_byte_lem false true e f = (rw (e, f), lit< tt)

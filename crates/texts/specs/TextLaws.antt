@@ -1,7 +1,7 @@
 -- How long the text of a network is, known before anything is written, and the call that writes it.
 use Rattle.std.specs.Prelude.{◌≡◌, refl, ℕ, ◌+◌, ◌*◌, ◌≤◌, length}
 use mathlib.Core.List.{List, flat_map}
-use Rattle.std.proofs.Math.Option.{Option, none, some}
+use Rattle.std.specs.Prelude.{Option, None, Some}
 use Rattle.std.proofs.Common.{arith, length-append}
 use Rattle.network.specs.Records.{Network}
 use Rattle.network.specs.Inside.{Inside}
@@ -33,8 +33,8 @@ text_length N =
     (omega (arith, length_frame head (head_fields (head_of N)), kind_length bus bus_fields N.buses, kind_length branch branch_fields N.branches, kind_length switch switch_fields N.switches, z))
 
 one_line : (z : Option ℕ) → length (supplies z) ≤ 1
-one_line none = omega arith
-one_line (some id) = omega arith
+one_line None = omega arith
+one_line (Some id) = omega arith
 
 -- "At most 256 buses, 512 branches, 512 switches", and one supply: at most 27,436, which a u16 holds
 pub text_short : (N : Network) → Inside N → length (text_of N) ≤ longest_text

@@ -6,7 +6,7 @@ use Rattle.std.specs.Float.{binary64}
 use borrow.Author.Tests.{eq-eqb, ne_eqb}
 use Rattle.numbers.specs.UpTo.{up_to, up_to_more}
 use Rattle.states.specs.Listed.{buses_listed, branches_listed, switches_listed}
-use Rattle.network.specs.Answers.{Answer, accepted, refused, ◌and_then◌, Judgement}
+use Rattle.network.specs.Answers.{Answer, accepted, refused, valued, ◌and_then◌, Judgement}
 use Rattle.network.specs.AnswerLaws.{then_iff}
 use Rattle.network.specs.Records.{Network, records_of}
 use Rattle.network.specs.declared.topology.PowerNetwork.{PowerNetwork}
@@ -24,7 +24,7 @@ use Rattle.printing.specs.Calls.{check_room, Call, answered, called}
 use Rattle.plan.specs.Plan.{planned}
 use Rattle.searches.specs.Results.{Result, result_by, solved_by}
 use Rattle.reconfiguration.specs.Solve.{best, result, solved}
-use Rattle.controller.specs.Calls.{numbered, on_records, text_form, text_loss, on_text, text_plan}
+use Rattle.controller.specs.Calls.{on_records, text_form, text_loss, on_text, text_plan}
 use Rattle.controller.specs.CallLaws.{NoNan, reading_refused, text_untouched}
 use Rattle.timing.specs.Rounds.{value_of, record_count, search_value, text_search, asked, total}
 
@@ -52,12 +52,12 @@ module _ (kind : ℕ) (t a b : List ℕ) where
 
   module _ (N : Network) where
     pub asked_radiality : kind ≡ 1 → read_text t ≡ accepted N
-        → numbered form_number (on_state N a (form_in N a)) ≡ asked kind t a b
+        → valued form_number (on_state N a (form_in N a)) ≡ asked kind t a b
     unfolding asked text_form on_records
     asked_radiality e so = rw (e, so)
 
     pub asked_loss : kind ≡ 2 → read_text t ≡ accepted N
-        → numbered (to_bits binary64) (loss_call N a) ≡ asked kind t a b
+        → valued (to_bits binary64) (loss_call N a) ≡ asked kind t a b
     unfolding asked text_loss on_records
     asked_loss e so = rw (e, so)
 
@@ -115,8 +115,8 @@ value_refused : (kind : ℕ) (t a b : List ℕ) (n p : ℕ) → read_text t ≡ 
 unfolding asked on_records text_form text_loss text_plan
 value_refused kind t a b n p so =
     either_nothing (kind == 0) _ _ (sym (count_refused t n p so))
-    (either_nothing (kind == 1) _ _ (ap value_of (sym (reading_refused form_number t _ so)))
-    (either_nothing (kind == 2) _ _ (ap value_of (sym (reading_refused (to_bits binary64) t _ so)))
+    (either_nothing (kind == 1) _ _ (ap (λ x. value_of (valued form_number x)) (sym (reading_refused t _ so)))
+    (either_nothing (kind == 2) _ _ (ap (λ x. value_of (valued (to_bits binary64) x)) (sym (reading_refused t _ so)))
     (either_nothing (kind == 3) _ _ (ap (λ (q : Call ℕ). value_of q.answer) (sym (text_untouched t _ (replicate plan_length 0) so))) refl)))
 
 same_either_way : (b : Bool) (v : ℕ) → cond b v v ≡ v

@@ -2,13 +2,13 @@
 use Rattle.std.specs.Prelude.{ℕ, ◌+◌, ◌%◌, ◌^◌, cond, List, length, replicate, ◌==◌, to_bits}
 use Rattle.std.specs.Float.{binary64}
 use Rattle.numbers.specs.UpTo.{up_to}
-use Rattle.network.specs.Answers.{Answer, accepted, refused}
+use Rattle.network.specs.Answers.{Answer, accepted, refused, valued}
 use Rattle.network.specs.Records.{Network}
 use Rattle.frames.specs.Text.{read_text}
 use Rattle.printing.specs.Lengths.{plan_length}
 use Rattle.searches.specs.Results.{Result}
 use Rattle.reconfiguration.specs.Solve.{solved}
-use Rattle.controller.specs.Calls.{numbered, on_records, text_form, text_loss, text_plan}
+use Rattle.controller.specs.Calls.{on_records, text_form, text_loss, text_plan}
 
 -- what an answer counts for
 abbrev pub value_of : Answer ℕ → ℕ
@@ -20,7 +20,7 @@ record_count N = length N.buses + length N.branches + length N.switches
 
 -- the bits of the best loss that a search finds, with room for 512 switches
 unfoldable pub search_value : Network → Answer ℕ
-search_value N = numbered (λ (r : Result). to_bits binary64 r.best_loss) (solved N (replicate 512 0)).answer
+search_value N = valued (λ (r : Result). to_bits binary64 r.best_loss) (solved N (replicate 512 0)).answer
 
 -- the search that a text asks for
 unfoldable pub text_search : List ℕ → Answer ℕ

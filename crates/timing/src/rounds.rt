@@ -7,11 +7,10 @@ ghost use Rattle.timing.specs.Rounds.{value_of, asked, total};
 
 use crate::values::{loss, pairs, radiality, reading};
 use frames::reader::read_text;
-use network::error::Verdict;
 use network::topology::PowerNetwork;
 use std::num::wrapping_add_u64;
 
-// A call of a kind: 0 reads the text, 1 is radiality and 2 the loss of the first state, 3 the plan from the first state to the second.
+// A call of a kind, a number since tests/benchmark names it from outside: 0 reads the text, 1 is radiality and 2 the loss of the first state, 3 the plan from the first state to the second.
 fn call(kind: u8, text: &[u8], network: PowerNetwork, first: &[u8], second: &[u8]) -> u64
     requires { read_text text.now ≡ accepted (records_of network) }
     ensures { result ≡ value_of (asked kind text.now first.now second.now) }
@@ -29,10 +28,7 @@ fn call(kind: u8, text: &[u8], network: PowerNetwork, first: &[u8], second: &[u8
 fn in_turn<'a>(a: &'a [u8], b: &'a [u8], i: u64) -> &'a [u8]
     ensures { result.now ≡ (if nat_eq (i % 2) 0 then a.now else b.now) }
 {
-    if i % 2 == 0 {
-        return a;
-    }
-    b
+    if i % 2 == 0 { a } else { b }
 }
 
 // Round i. The call stands at one place, so that the compiler hands the network on without a copy.
@@ -58,10 +54,8 @@ fn rounds<'a>(
         (value_of (asked kind text.now b.now a.now)) times }
 {
     let mut sum = 0u64;
-    let mut i = 0u64;
-    while i < times {
+    for i in 0..times {
         sum = wrapping_add_u64(sum, round(kind, text, network, a, b, i));
-        i += 1;
     }
     sum
 }
@@ -78,11 +72,8 @@ pub extern "C" fn timing_rounds<'a>(
     ensures { result ≡ total (value_of (asked kind text.now a.now b.now))
         (value_of (asked kind text.now b.now a.now)) times }
 {
-    let reading = read_text(text);
-    let verdict = reading.verdict;
-    if let Verdict::Refused { number, place } = verdict {
+    let Ok(network) = read_text(text) else {
         return 0;
-    }
-    let network = reading.network;
+    };
     rounds(kind, text, network, a, b, times)
 }

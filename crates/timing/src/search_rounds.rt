@@ -5,7 +5,6 @@ ghost use Rattle.timing.specs.Rounds.{value_of, search_value, text_search, total
 
 use crate::values::search;
 use frames::reader::read_text;
-use network::error::Verdict;
 use network::topology::PowerNetwork;
 use std::num::wrapping_add_u64;
 
@@ -13,10 +12,8 @@ fn search_rounds(network: PowerNetwork, times: u64) -> u64
     ensures { result ≡ total (value_of (search_value (records_of network))) (value_of (search_value (records_of network))) times }
 {
     let mut sum = 0u64;
-    let mut i = 0u64;
-    while i < times {
+    'rounds: for _ in 0..times {
         sum = wrapping_add_u64(sum, search(network));
-        i += 1;
     }
     sum
 }
@@ -26,11 +23,8 @@ fn search_rounds(network: PowerNetwork, times: u64) -> u64
 pub extern "C" fn timing_searches(text: &[u8], times: u64) -> u64
     ensures { result ≡ total (value_of (text_search text.now)) (value_of (text_search text.now)) times }
 {
-    let reading = read_text(text);
-    let verdict = reading.verdict;
-    if let Verdict::Refused { number, place } = verdict {
+    let Ok(network) = read_text(text) else {
         return 0;
-    }
-    let network = reading.network;
+    };
     search_rounds(network, times)
 }

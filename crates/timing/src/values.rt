@@ -1,7 +1,7 @@
 // What a call counts for: the number that it answers, and 0 for a refusal.
 ghost use Rattle.std.specs.Prelude.{◌≡◌, replicate, to_bits};
 ghost use Rattle.std.specs.Float.{binary64};
-ghost use Rattle.network.specs.Answers.{accepted};
+ghost use Rattle.network.specs.Answers.{accepted, valued};
 ghost use Rattle.network.specs.Records.{records_of};
 ghost use Rattle.printing.specs.Lengths.{plan_length};
 ghost use Rattle.frames.specs.Text.{read_text};
@@ -10,55 +10,44 @@ ghost use Rattle.feeders.specs.Feeder.{form_in};
 ghost use Rattle.feeders.specs.StateCalls.{on_state};
 ghost use Rattle.losses.specs.LossCall.{loss_call};
 ghost use Rattle.plan.specs.Plan.{planned};
-ghost use Rattle.controller.specs.Calls.{numbered, on_records};
+ghost use Rattle.controller.specs.Calls.{on_records};
 ghost use Rattle.timing.specs.Rounds.{value_of, record_count, search_value};
 
+use controller::answer::form_number;
 use frames::reader::read_text;
-use graph::form::fields_of;
-use losses::evaluation::{LossAnswer, evaluate_config};
-use network::error::Verdict;
+use losses::evaluation::evaluate_config;
 use network::topology::PowerNetwork;
-use plan::planner::{PlanAnswer, plan};
+use plan::planner::plan;
 use printing::lengths::PLAN_LENGTH;
-use radiality::radiality::{Radiality, verify_radiality};
+use radiality::radiality::verify_radiality;
 use reconfiguration::solve::solve;
-use searches::answer::SolveAnswer;
 use states::configuration::NetworkConfiguration;
 
 // How many records a text has.
 pub(crate) fn reading(text: &[u8]) -> u64
     ensures { result ≡ value_of (on_records (read_text text.now) (λ N. accepted (record_count N))) }
 {
-    let reading = read_text(text);
-    let verdict = reading.verdict;
-    if let Verdict::Refused { number, place } = verdict {
+    let Ok(network) = read_text(text) else {
         return 0;
-    }
-    let network = reading.network;
-    network.bus_count as u64 + network.branch_count as u64 + network.switch_count as u64
+    };
+    u64::from(network.bus_count) + u64::from(network.branch_count) + u64::from(network.switch_count)
 }
 
 // What the live branches of a state are, as one number.
 pub(crate) fn radiality(network: PowerNetwork, state: &[u8]) -> u64
-    ensures { result ≡ value_of (numbered form_number (on_state (records_of network) state.now (form_in (records_of network) state.now))) }
+    ensures { result ≡ value_of (valued form_number (on_state (records_of network) state.now (form_in (records_of network) state.now))) }
 {
-    match verify_radiality(network, state) {
-        Radiality::Refused { number, place } => 0,
-        Radiality::Formed(form) => {
-            let fields = fields_of(form);
-            0x1_0000 * fields.islands as u64 + fields.branch as u64
-        }
-    }
+    verify_radiality(network, state).map_or(0, form_number)
 }
 
 // The bits of a loss.
 pub(crate) fn loss(network: PowerNetwork, state: &[u8]) -> u64
-    ensures { result ≡ value_of (numbered (to_bits binary64) (loss_call (records_of network) state.now)) }
+    ensures { result ≡ value_of (valued (to_bits binary64) (loss_call (records_of network) state.now)) }
 {
-    match evaluate_config(network, state) {
-        LossAnswer::Refused { number, place } => 0,
-        LossAnswer::Loss(loss) => f64::to_bits(loss),
-    }
+    let Ok(loss) = evaluate_config(network, state) else {
+        return 0;
+    };
+    f64::to_bits(loss)
 }
 
 // How many pairs a plan has; the longest has room.
@@ -66,10 +55,7 @@ pub(crate) fn pairs(network: PowerNetwork, present: &[u8], wanted: &[u8]) -> u64
     ensures { result ≡ value_of (planned (records_of network) present.now wanted.now (replicate plan_length 0)).answer }
 {
     let mut out = [0u8; PLAN_LENGTH];
-    match plan(network, present, wanted, &mut out) {
-        PlanAnswer::Refused { number, place } => 0,
-        PlanAnswer::Pairs(count) => count as u64,
-    }
+    plan(network, present, wanted, &mut out).map_or(0, u64::from)
 }
 
 // The bits of the best loss that the network's search finds.
@@ -77,8 +63,8 @@ pub(crate) fn search(network: PowerNetwork) -> u64
     ensures { result ≡ value_of (search_value (records_of network)) }
 {
     let mut best = [0u8; NetworkConfiguration::MAX_SWITCHES];
-    match solve(network, &mut best) {
-        SolveAnswer::Refused { number, place } => 0,
-        SolveAnswer::Solved(result) => f64::to_bits(result.optimized_losses_mw),
-    }
+    let Ok(found) = solve(network, &mut best) else {
+        return 0;
+    };
+    f64::to_bits(found.optimized_losses_mw)
 }

@@ -1,79 +1,42 @@
-// What the letter of a case does to the records once they are read: A (65) to P (80) give them a fault (O, an eleventh tie, with method 02 or a supply only), but for M (77), a second
-// switch on a branch; X (88) is a third. Q (81) and R (82) put records behind the counts that would be refused if they were listed, R with fewer listed than were read, S (83) lists
-// more buses and switches, Y (89) and Z (90) a branch more, with them and alone; T (84) gives the first of each kind values from the ends of their ranges. U (85) makes 3 the number of the supply, V (86) says that there is one, W (87) that
-// there is none.
+// What the letter of a case does to the records once they are read: A to P give them a fault (O, an eleventh tie, with method 02 or a supply only), but for M, a second
+// switch on a branch; X is a third. Q and R put records behind the counts that would be refused if they were listed, R with fewer listed than were read, S lists
+// more buses and switches, Y and Z a branch more, with them and alone; T gives the first of each kind values from the ends of their ranges. U makes 3 the number of the supply where one
+// is named, V names a supply where none is, W names none.
+use cases::faults::{branch, bus, three_on_a_branch, tie};
 use network::branch::Branch;
-use network::bus::{Bus, Power};
 use network::switch::Switch;
 use network::topology::PowerNetwork;
-use numbers::wide16;
 
 pub(crate) fn changed(mut network: PowerNetwork, change: u8) -> PowerNetwork {
     match change {
-        65 => network.max_iterations = 1001,
-        66 => network.bus_count = 257,
-        67 => network.branch_count = 513,
-        68 => network.switch_count = 65535,
-        69 => network.base_mva = no_number(),
-        70 => network.buses[1] = bus(1, 1.0),
-        71 => network.buses[2] = bus(3, 1000000.5),
-        72 => network.buses[2] = bus(3, no_number()),
-        73 => network.branches[1] = branch(2, 9, 0.5),
-        74 => network.branches[1] = branch(2, 3, -1.0),
-        75 => network.branches[1] = branch(9, 3, no_number()),
-        76 => network.switches[1] = switch(10, 2),
-        77 => network.switches[1] = switch(11, 1),
-        78 => network.switches[1] = switch(11, 3),
-        79 => network.switches[10] = switch(11, 10),
-        80 => return two_faults(network),
-        81 => return unlisted(network),
-        82 => return unlisted(with_counts(network, 2, 2, 1)),
-        83 => return with_counts(network, 4, 3, 3),
-        84 => return with_ends(network),
-        85 => network.supply = 3,
-        86 => network.has_supply = true,
-        87 => network.has_supply = false,
-        88 => return three_on_a_branch(network),
-        89 => return with_counts(network, 4, 4, 3),
-        90 => return with_counts(network, 3, 4, 2),
-        _ => return network,
+        b'A' => network.max_iterations = 1001,
+        b'B' => network.bus_count = 257,
+        b'C' => network.branch_count = 513,
+        b'D' => network.switch_count = 65_535,
+        b'E' => network.base_mva = f64::NAN,
+        b'F' => network.buses[1] = bus(1, 1.0),
+        b'G' => network.buses[2] = bus(3, 1_000_000.5),
+        b'H' => network.buses[2] = bus(3, f64::NAN),
+        b'I' => network.branches[1] = branch(2, 9, 0.5),
+        b'J' => network.branches[1] = branch(2, 3, -1.0),
+        b'K' => network.branches[1] = branch(9, 3, f64::NAN),
+        b'L' => network.switches[1] = tie(10, 2),
+        b'M' => network.switches[1] = tie(11, 1),
+        b'N' => network.switches[1] = tie(11, 3),
+        b'O' => network.switches[10] = tie(11, 10),
+        b'P' => return two_faults(network),
+        b'Q' => return unlisted(network),
+        b'R' => return unlisted(with_counts(network, 2, 2, 1)),
+        b'S' => return with_counts(network, 4, 3, 3),
+        b'T' => return with_ends(network),
+        b'U' => network.supply = network.supply.map(|_| 3),
+        b'V' => network.supply = Some(network.supply.unwrap_or(0)),
+        b'W' => network.supply = None,
+        b'X' => return three_on_a_branch(network),
+        b'Y' => return with_counts(network, 4, 4, 3),
+        b'Z' => return with_counts(network, 3, 4, 2),
+        _ => {}
     }
-    network
-}
-
-// A NaN.
-fn no_number() -> f64 {
-    0.0 / 0.0
-}
-
-fn bus(id: u16, pd: f64) -> Bus {
-    Bus { id, pd: Power(pd) }
-}
-
-fn branch(from_bus: u16, to_bus: u16, r: f64) -> Branch {
-    Branch {
-        from_bus,
-        to_bus,
-        r,
-        status: true,
-    }
-}
-
-// A tie.
-fn switch(id: u16, branch_idx: u16) -> Switch {
-    Switch {
-        id,
-        branch_idx,
-        normally_open: true,
-        can_operate: true,
-    }
-}
-
-// The triangle's first switch is on branch 1; the second joins it there, and a third is listed.
-fn three_on_a_branch(mut network: PowerNetwork) -> PowerNetwork {
-    network.switches[1] = switch(11, 1);
-    network.switches[2] = switch(12, 1);
-    network.switch_count = 3;
     network
 }
 
@@ -99,17 +62,19 @@ fn with_counts(
 // The first record behind each count: the id of the first bus again, with a load that is no number; a branch from a bus that may not be listed, with r below zero;
 // the first switch again.
 fn unlisted(mut network: PowerNetwork) -> PowerNetwork {
-    let i = wide16(network.bus_count);
-    let k = wide16(network.branch_count);
-    let j = wide16(network.switch_count);
-    if i < PowerNetwork::MAX_BUSES {
-        network.buses[i] = bus(network.buses[0].id, no_number());
+    let buses = usize::from(network.bus_count);
+    let branches = usize::from(network.branch_count);
+    let switches = usize::from(network.switch_count);
+    let first_id = network.buses[0].id;
+    let first_switch = network.switches[0];
+    if let Some(behind) = network.buses.get_mut(buses) {
+        *behind = bus(first_id, f64::NAN);
     }
-    if k < PowerNetwork::MAX_BRANCHES {
-        network.branches[k] = branch(9, 1, -1.0);
+    if let Some(behind) = network.branches.get_mut(branches) {
+        *behind = branch(9, 1, -1.0);
     }
-    if j < PowerNetwork::MAX_SWITCHES {
-        network.switches[j] = network.switches[0];
+    if let Some(behind) = network.switches.get_mut(switches) {
+        *behind = first_switch;
     }
     network
 }
@@ -126,7 +91,7 @@ fn with_ends(mut network: PowerNetwork) -> PowerNetwork {
         status: false,
     };
     network.switches[0] = Switch {
-        id: 65535,
+        id: 65_535,
         branch_idx: 0,
         normally_open: false,
         can_operate: false,

@@ -6,150 +6,71 @@
 
 mod changes;
 
-ghost use Rattle.std.specs.Prelude.{◌≡◌, ◌+◌, ◌≤◌, length};
-ghost use Rattle.frames.specs.Lengths.{longest_text};
-
-use cases::{first_case, line_behind, part_of};
+use cases::{Cases, DOT, LentCase, begins_with, filled};
 use changes::changed;
 use frames::reader::read_stored;
-use input::read_input;
-use network::error::Verdict;
+use input::read_available;
 use network::topology::PowerNetwork;
-use numbers::at_most;
-use standard_output::{print_decimal, write_all};
-use texts::writer::{LONGEST_TEXT, WriteAnswer, write_text};
+use std::io;
+use texts::writer::{LONGEST_TEXT, write_text};
 
 // How much longer the last slice is than the text that was read.
 const LONGER: usize = 80;
 
 const MOST_ROOM: usize = LONGEST_TEXT + LONGER;
 
-// A dot for each byte.
-fn dots() -> [u8; MOST_ROOM]
-    ensures { longest_text + 80 ≡ length result }
-{
-    [46; MOST_ROOM]
-}
-
-fn print_written(rt: &impl Print, length: u16) {
-    print_decimal(rt, length as u64);
-    write_all(rt, b" written");
-}
-
-fn print_refusal(rt: &impl Print, number: u8, place: u16) {
-    write_all(rt, b"refused ");
-    print_decimal(rt, number as u64);
-    write_all(rt, b" ");
-    print_decimal(rt, place as u64);
-}
-
-// The byte of the front at a position, and a dot behind it.
-fn byte_of(front: &[u8], i: usize) -> u8 {
-    if i < front.len() {
-        return front[i];
-    }
-    46
-}
-
-// Whether these bytes stand at the slice's front, and dots behind them.
-fn begins_with(out: &[u8], front: &[u8]) -> bool {
-    let mut i = 0usize;
-    while i < out.len() {
-        if out[i] != byte_of(front, i) {
-            return false;
-        }
-        i += 1;
-    }
-    front.len() <= out.len()
-}
-
-fn print_slice(rt: &impl Print, out: &[u8], text: &[u8]) {
+fn print_slice(rt: &impl Print, out: &[u8], text: &[u8]) -> io::Result<()> {
     if begins_with(out, b"") {
-        write_all(rt, b", kept\n");
-        return;
+        return rt.println(", kept");
     }
     if begins_with(out, text) {
-        write_all(rt, b", as read\n");
-        return;
+        return rt.println(", as read");
     }
-    write_all(rt, b", [");
-    write_all(rt, out);
-    write_all(rt, b"]\n");
+    rt.print(", [")?;
+    rt.write_all(out)?;
+    rt.println("]")
 }
 
-// The first bytes were lent.
-fn print_first(rt: &impl Print, bytes: [u8; MOST_ROOM], room: usize, text: &[u8])
-    requires { room ≤ longest_text + 80 }
-{
-    print_slice(rt, &bytes[0..room], text);
-}
-
-fn print_answer(rt: &impl Print, network: PowerNetwork, room: usize, name: &[u8], text: &[u8])
-    requires { room ≤ longest_text + 80 }
-{
-    let mut out = dots();
-    write_all(rt, name);
-    write_all(rt, b" ");
-    print_decimal(rt, room as u64);
-    write_all(rt, b": ");
-    match write_text(network, &mut out[0..room]) {
-        WriteAnswer::Written(length) => print_written(rt, length),
-        WriteAnswer::Refused { number, place } => print_refusal(rt, number, place),
+// Into a slice of this length.
+fn print_answer(
+    rt: &impl Print,
+    network: PowerNetwork,
+    case: LentCase,
+    room: usize,
+) -> io::Result<()> {
+    let room = room.min(MOST_ROOM);
+    let mut out = filled::<MOST_ROOM>(DOT);
+    rt.write_all(case.name)?;
+    print!(rt; " {room}: ")?;
+    match write_text(network, &mut out[..room]) {
+        Ok(length) => print!(rt; "{length} written")?,
+        Err(refusal) => print!(rt; "refused {refusal}")?,
     }
-    print_first(rt, out, room, text);
+    print_slice(rt, &out[..room], case.text)
 }
 
-// A text that the reader refuses is said to be no feeder: such a case is wrongly made.
-fn print_text(rt: &impl Print, name: &[u8], text: &[u8], change: u8) {
-    let n = at_most(text.len(), LONGEST_TEXT);
-    let reading = read_stored(text);
-    let verdict = reading.verdict;
-    let Verdict::Accepted = verdict else {
-        write_all(rt, b"no feeder\n");
-        return;
+// A text that the reader refuses is said to be no feeder: such a case is wrongly made. One that it accepts is not empty.
+fn print_case(rt: &impl Print, case: LentCase) -> io::Result<()> {
+    let Ok(read) = read_stored(case.text) else {
+        return rt.println("no feeder");
     };
-    let network = changed(reading.network, change);
-    print_answer(rt, network, 0, name, text);
-    if n > 0 {
-        print_answer(rt, network, n - 1, name, text);
+    let network = match case.line(0) {
+        [change, ..] => changed(read, *change),
+        [] => read,
+    };
+    let n = case.text.len().min(LONGEST_TEXT);
+    for room in [0, n.saturating_sub(1), n, n + 1, n + LONGER] {
+        print_answer(rt, network, case, room)?;
     }
-    print_answer(rt, network, n, name, text);
-    print_answer(rt, network, n + 1, name, text);
-    print_answer(rt, network, n + LONGER, name, text);
+    Ok(())
 }
 
-// Prints what comes of the first case, and answers where it ends.
-fn print_case(rt: &impl Print, input: &[u8]) -> usize
-    ensures { result ≤ length input.now }
-{
-    let case = first_case(input);
-    let line = line_behind(input, case.text.to);
-    let change = byte_of(part_of(input, line), 0);
-    print_text(
-        rt,
-        part_of(input, case.name),
-        part_of(input, case.text),
-        change,
-    );
-    line.to
-}
-
-fn print_cases(rt: &impl Print, input: &[u8]) {
-    let mut at = 0usize;
-    while at < input.len() {
-        at = at + print_case(rt, &input[at..]) + 1;
+fn main(rt: HostRuntime) -> io::Result<()> {
+    // Room for all cases.
+    let mut room = filled::<278_528>(0);
+    let n = read_available(&mut rt.stdin(), &mut room);
+    for case in Cases::of(&room[..n], 1) {
+        print_case(&rt, case)?;
     }
-}
-
-// Room for all cases.
-fn buffer() -> [u8; 278528]
-    ensures { 278528 ≡ length result }
-{
-    [0; 278528]
-}
-
-fn main(rt: HostRuntime) {
-    let mut buffer = buffer();
-    let n = read_input(&mut rt.stdin(), &mut buffer).count;
-    print_cases(&rt, &buffer[..n]);
+    Ok(())
 }

@@ -13,8 +13,8 @@ overflow_add-number c = omega (arith, simp length-take at c.leading-number.ensur
 
 pub returns : goal.returns
 returns c = (
-  case_found _ _ _ _ _ _ c.line_length-head.ensures.0 c.leading-number.ensures.0 c.at_most-name.ensures
-      c.at_most-from.ensures c.at_most.ensures,
+  case_found _ _ _ _ _ _ c.line_length-head.ensures.value c.leading-number.ensures.0 c.min-name.ensures
+      c.min-from.ensures c.min.ensures,
   search rules,
   search rules,
 )

@@ -1,22 +1,16 @@
 -- `leading` meets its contract: what is passed are digits. A value below 9,999,999 takes one digit more and stays small.
-use mathlib.Core.Path.{sym, ◌∙◌}
-use Rattle.cases.proofs.Laws.{none_read, no_digit, large_number, digit_read, line_read}
-use borrow.Author.Rules.{rules}
+use Rattle.cases.proofs.Laws.{no_digit, large_number, digit_read, line_read}
 use Rattle.cases.proofs.leading.Goals as goal
 
-pub loop-i-init : goal.loop-i-init
-loop-i-init c = none_read _
-
-pub returns-then-d : goal.returns-then-d
-returns-then-d c = no_digit c.loop-i.invariant (search rules) (sym c.digit-d.ensures ∙ c.if-d.true)
+pub returns-in_default : goal.returns-in_default
+returns-in_default c = no_digit c.loop-digits.invariant c.loop-digits-test.true c.in_default.ensures
 
 pub returns-then-value-ge9999999 : goal.returns-then-value-ge9999999
-returns-then-value-ge9999999 c = large_number c.loop-i.invariant (search rules) c.if-value-ge9999999.true
+returns-then-value-ge9999999 c = large_number c.loop-digits.invariant c.loop-digits-test.true c.if-value-ge9999999.true
 
-pub loop-i-preserved : goal.loop-i-preserved
-loop-i-preserved c =
-    digit_read c.loop-i.invariant _ (search rules) (c.wide8.ensures.0 ∙ c.digit-d.ensures)
-    (λ e. c.if-d.false (sym c.wide8.ensures.0 ∙ e)) c.wide8.ensures.1 c.if-value-ge9999999.false
+pub loop-digits-preserved : goal.loop-digits-preserved
+loop-digits-preserved c =
+    rw c.from.ensures (digit_read c.loop-digits.invariant _ c.loop-digits-test.true c.in-Some.ensures c.if-value-ge9999999.false)
 
 pub returns : goal.returns
-returns c = line_read c.loop-i.invariant c.loop-i-test.false
+returns c = line_read c.loop-digits.invariant c.loop-digits-test.false

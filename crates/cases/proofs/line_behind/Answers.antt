@@ -4,4 +4,4 @@ use Rattle.cases.proofs.Laws.{line_found}
 use Rattle.cases.proofs.line_behind.Goals as goal
 
 pub returns : goal.returns
-returns c = line_found _ _ _ _ (omega arith) c.line_length.ensures
+returns c = line_found _ _ _ _ (omega arith) (c.line_length.ensures.value, c.line_length.ensures.within)

@@ -3,4 +3,4 @@ use Rattle.cases.proofs.Laws.{part_cut}
 use Rattle.cases.proofs.part_of.Goals as goal
 
 pub returns : goal.returns
-returns c = part_cut _ _ _ _ c.at_most-to.ensures c.at_most-from.ensures
+returns c = part_cut _ _ _ _ c.min-to.ensures c.min-from.ensures

@@ -8,23 +8,23 @@ use Rattle.answers.specs.PrintingLaws.{printed_short, printed_count, printed_by_
 use Rattle.input.specs.CountLaws.{counts}
 use Rattle.feeder.proofs.print_text.Goals as goal
 
-pub returns-in-Printed-clause-prefix_len : goal.returns-in-Printed-clause-prefix_len
-returns-in-Printed-clause-prefix_len c =
+pub returns-in-Ok-clause-prefix_len : goal.returns-in-Ok-clause-prefix_len
+returns-in-Ok-clause-prefix_len c =
     let text = c.args.text.now in
-    let e = rw c.in-Printed.is at c.answer_text.ensures in
+    let e = rw c.in-Ok.is at c.answer_text.ensures in
     let long : length c.answer_text.new.out ≡ length c.args.out.now = search rules in
     let same = printed_count text _ e in
     counts _ _ (omega (arith, printed_short text, c.requires))
 
-pub returns-in-Printed-clause-out_after : goal.returns-in-Printed-clause-out_after
-returns-in-Printed-clause-out_after c =
+pub returns-in-Ok-clause-out_after : goal.returns-in-Ok-clause-out_after
+returns-in-Ok-clause-out_after c =
     let text = c.args.text.now in
-    let e = rw c.in-Printed.is at c.answer_text.ensures in
-    rw c.wide16.ensures.0 (ap printed_by e ∙ printed_by_call text _ c.requires)
+    let e = rw c.in-Ok.is at c.answer_text.ensures in
+    rw c.from.ensures (ap printed_by e ∙ printed_by_call text _ c.requires)
 
-pub returns-in-Refused-clause-out_after : goal.returns-in-Refused-clause-out_after
-returns-in-Refused-clause-out_after c =
-    let e = rw c.in-Refused.is at c.answer_text.ensures in
+pub returns-in-Err-clause-out_after : goal.returns-in-Err-clause-out_after
+returns-in-Err-clause-out_after c =
+    let e = rw c.in-Err.is at c.answer_text.ensures in
     let kept : length c.answer_text.new.out ≡ length c.args.out.now = search rules in
     let line = take_written (refusal_text _ _) _ (length_refusal _ _) (omega (arith, c.requires)) c.write_refusal.ensures in
-    line ∙ ap printed_by e ∙ printed_by_call c.args.text.now _ c.requires
+    line ∙ rw (c.number.ensures, c.place.ensures) (ap printed_by e ∙ printed_by_call c.args.text.now _ c.requires)

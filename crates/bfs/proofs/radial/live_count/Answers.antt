@@ -1,31 +1,21 @@
--- `live_count` meets its contract. The invariant: the total is the count so far. Flags behind the array are false, so a count of over 512 branches adds none.
-use mathlib.Core.Path.{◌≡◌, refl, ◌∙◌}
-use Prim.Native.Nat.{min}
-use native.Mathlib.Omega.{arith}
-use borrow.Author.Rules.{rules}
-use lib.ListN.{length}
-use Rattle.numbers.specs.Counts.{count, count_le}
-use Rattle.bfs.proofs.Counting.{one_live, one_dead, all_counted}
-use Rattle.graph.specs.Rows.{flag}
+-- `live_count` meets its contract: the count along the array is the count of flags, since behind its end they are false.
+use Rattle.std.proofs.Common.{arith, rules, ℕ, Bool, cond, take, ◌≤◌}
+use Rattle.std.specs.List.{count_by}
+use Rattle.std.proofs.lemmas.Grind.{common_steps}
+use Rattle.std.proofs.lemmas.List.{length-take-le}
+use Rattle.std.proofs.lemmas.List.Sums.{count_by-le-length}
+use Rattle.std.proofs.lemmas.Iterator.{YieldsList-from_slice, YieldsList-from_map}
+use Rattle.std.proofs.lemmas.Iterator.Consumers.{fits_by_from_yields_list}
+use Rattle.bfs.proofs.Counting.{live_within}
 use Rattle.bfs.proofs.radial.live_count.Goals as goal
-use Rattle.bfs.proofs.radial.live_count.Goals.{else-live-k, then-live-k}
+use borrow.Author.Tests.{tests}
 
-pub loop-k-init : goal.loop-k-init
-unfolding count
-loop-k-init c = (omega arith, refl)
-
-pub overflow_add-total : goal.overflow_add-total
-overflow_add-total c = omega (arith, count_le (flag c.args.live) c.loop-k.k)
-
-pub loop-k-preserved : goal.loop-k-preserved
-loop-k-preserved c =
-    let live = c.args.live in (
-      omega arith,
-      elim c.if-live-k.branch [ then-live-k y ↦ y.total-is ∙ one_live live _ c.loop-k.invariant.1 y.if-live-k.true | else-live-k z ↦ z.total-is ∙ one_dead live _ c.loop-k.invariant.1 z.if-live-k.false ],
-    )
+pub sum-requires-clause-fits : goal.sum-requires-clause-fits
+sum-requires-clause-fits c =
+    let one : Bool → ℕ = λ b. cond b 1 0 in
+    let front = take c.min-n.result c.args.live.now in
+    let few : count_by (λ b. b) front ≤ 512 = omega (arith, count_by-le-length (λ b. b) front, length-take-le c.min-n.result c.args.live.now) in
+    fits_by_from_yields_list one front c.map.result _ (YieldsList-from_map _ one (YieldsList-from_slice front (grind (arith, common_steps))) c.map.ensures.closure (λ x r q k. search (rules, tests))) (omega (arith, few))
 
 pub returns : goal.returns
-returns c =
-    let l : length c.args.live ≡ 512 = search rules in
-    let e : c.loop-k.k ≡ min c.args.branch_count 512 = omega arith in
-    c.loop-k.invariant.1 ∙ rw e (all_counted c.args.live c.args.branch_count l)
+returns c = rw (live_within c.args.live.now c.args.branch_count c.min-n.result c.told-live (omega arith)) (search rules)

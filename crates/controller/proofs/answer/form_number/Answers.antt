@@ -1,6 +1,5 @@
 -- `form_number` meets its contract: the fields are the form's.
-use mathlib.Core.Path.{ap}
-use native.Mathlib.Omega.{arith}
+use Rattle.std.proofs.Common.{ap, arith}
 use Rattle.graph.specs.declared.form.FormFields.{FormFields}
 use Rattle.graph.specs.Form.{form_number}
 use Rattle.controller.proofs.answer.form_number.Goals as goal

@@ -1,7 +1,7 @@
--- `feeder_answer_text` meets its contract: the printer's answer in numbers.
+-- `feeder_answer_text` meets its contract: the answer in numbers.
 use Rattle.controller.specs.Calls.{numbers_of}
-use Rattle.controller.specs.CallLaws.{numbers_beside}
+use Rattle.controller.specs.CallLaws.{call_numbers, numbers_beside}
 use Rattle.controller.proofs.calls.feeder_answer_text.Goals as goal
 
 pub returns : goal.returns
-returns c = numbers_beside numbers_of c.text_numbers.ensures c.answer_text.ensures
+returns c = numbers_beside numbers_of (call_numbers _ c.in_numbers.ensures) c.answer_text.ensures

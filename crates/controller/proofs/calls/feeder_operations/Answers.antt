@@ -1,17 +1,7 @@
--- `feeder_operations` meets its contract: the text is refused, or the operations on its records are written.
-use Rattle.frames.specs.ReadingLaws.{read_refused, read_accepted}
-use Rattle.controller.specs.Calls.{numbers_of, text_operations}
-use Rattle.controller.specs.CallLaws.{text_untouched, text_called, numbers_beside}
+-- `feeder_operations` meets its contract: the answer in numbers.
+use Rattle.controller.specs.Calls.{numbers_of}
+use Rattle.controller.specs.CallLaws.{call_numbers, numbers_beside}
 use Rattle.controller.proofs.calls.feeder_operations.Goals as goal
 
-pub returns-in-Refused : goal.returns-in-Refused
-unfolding text_operations
-returns-in-Refused c =
-    let so = read_refused _ _ _ _ c.read_text-reading.ensures c.in-Refused.is in
-    numbers_beside numbers_of c.refusal.ensures (text_untouched _ _ _ so)
-
 pub returns : goal.returns
-unfolding text_operations
-returns c =
-    let so = read_accepted _ _ c.read_text-reading.ensures c.in_default.is in
-    numbers_beside numbers_of c.operations_numbers.ensures (text_called _ _ _ so c.compute_switch_operations.ensures)
+returns c = numbers_beside numbers_of (call_numbers _ c.in_numbers.ensures) c.operations_of.ensures

@@ -1,7 +1,7 @@
--- `feeder_repair_text` meets its contract: the writer's answer in numbers.
+-- `feeder_repair_text` meets its contract: the answer in numbers.
 use Rattle.controller.specs.Calls.{numbers_of}
-use Rattle.controller.specs.CallLaws.{numbers_beside}
+use Rattle.controller.specs.CallLaws.{call_numbers, numbers_beside}
 use Rattle.controller.proofs.calls.feeder_repair_text.Goals as goal
 
 pub returns : goal.returns
-returns c = numbers_beside numbers_of c.write_numbers.ensures c.repair_text.ensures
+returns c = numbers_beside numbers_of (call_numbers _ c.in_numbers.ensures) c.repair_text.ensures

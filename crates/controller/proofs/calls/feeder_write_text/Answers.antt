@@ -1,7 +1,7 @@
--- `feeder_write_text` meets its contract: the writer's answer in numbers.
+-- `feeder_write_text` meets its contract: the answer in numbers.
 use Rattle.controller.specs.Calls.{numbers_of}
-use Rattle.controller.specs.CallLaws.{numbers_beside}
+use Rattle.controller.specs.CallLaws.{call_numbers, numbers_beside}
 use Rattle.controller.proofs.calls.feeder_write_text.Goals as goal
 
 pub returns : goal.returns
-returns c = numbers_beside numbers_of c.write_numbers.ensures c.write_records.ensures
+returns c = numbers_beside numbers_of (call_numbers _ c.in_numbers.ensures) c.write_records.ensures

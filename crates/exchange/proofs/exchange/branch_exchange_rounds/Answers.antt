@@ -1,29 +1,28 @@
--- `branch_exchange_rounds` meets its contract: the rounds that are left lead from where it stands to the definition's answer. The measure is the rounds that are left.
-use native.Mathlib.Omega.{arith}
-use Rattle.states.specs.Listed.{rounds_few}
-use Rattle.exchange.specs.ExchangeRounds.{standing_base, standing_held, standing_ended, standing_done, standing_next, rounds_rise}
+-- `branch_exchange_rounds` meets its contract: each round so far had an improving trial, and those that are left lead from where it stands to the definition's answer.
+use Rattle.std.proofs.Common.{arith}
+use Rattle.network.proofs.ArrayLengths.{buses_256}
+use Rattle.feeders.specs.SupplyLaws.{network_records}
+use Rattle.searches.specs.StartLaws.{start_base}
+use Rattle.exchange.specs.ExchangeRounds.{standing_base, standing_held, standing_ended, standing_done, standing_next}
 use Rattle.exchange.proofs.exchange.branch_exchange_rounds.Goals as goal
 
 pub sections_of-sections-requires : goal.sections_of-sections-requires
-sections_of-sections-requires c = c.requires.0.0
+sections_of-sections-requires c = network_records _ c.requires.0
 
-pub loop-done-init : goal.loop-done-init
-loop-done-init c = standing_base c.args.network c.requires.0.0 _ _ c.requires.1
+pub loop-round-init : goal.loop-round-init
+loop-round-init c =
+    standing_base c.args.network (network_records _ c.requires.0) _ _ (start_base c.args.network (buses_256 c.args.network c.well_formed.0) c.requires.0 c.requires.1)
 
-pub returns-then-done : goal.returns-then-done
-returns-then-done c = standing_ended c.args.network c.requires.0.0 c.loop-done.done c.loop-done.invariant c.if-done.true
+pub branch_exchange_step-requires : goal.branch_exchange_step-requires
+branch_exchange_step-requires c = (c.requires, c.sections_of-sections.ensures, standing_held c.args.network (network_records _ c.requires.0) _ _ c.loop-round.invariant)
 
-pub branch_exchange_step-step-requires : goal.branch_exchange_step-step-requires
-branch_exchange_step-step-requires c = (c.requires.0, c.sections_of-sections.ensures, standing_held c.args.network c.requires.0.0 c.loop-done.done c.loop-done.invariant)
+pub returns-in_default : goal.returns-in_default
+returns-in_default c =
+    standing_ended c.args.network (network_records _ c.requires.0) _ _ c.loop-round.invariant c.loop-round-test.true _ c.branch_exchange_step.ensures c.in_default.is
 
-pub after_round-done-requires : goal.after_round-done-requires
-after_round-done-requires c = omega (arith, c.loop-done-test.true, rounds_few c.args.network c.requires.0.0)
-
-pub loop-done-smaller : goal.loop-done-smaller
-loop-done-smaller c = omega (arith, c.loop-done-test.true, rounds_rise c.args.network c.requires.0.0 c.loop-done.done c.loop-done.invariant c.loop-done-test.true c.if-done.false _ c.branch_exchange_step-step.ensures _ c.after_round-done.ensures)
-
-pub loop-done-preserved : goal.loop-done-preserved
-loop-done-preserved c = standing_next c.args.network c.requires.0.0 c.loop-done.done c.loop-done.invariant c.loop-done-test.true c.if-done.false _ c.branch_exchange_step-step.ensures _ c.after_round-done.ensures
+pub loop-round-preserved : goal.loop-round-preserved
+loop-round-preserved c =
+    standing_next c.args.network (network_records _ c.requires.0) _ _ c.loop-round.invariant c.loop-round-test.true _ c.branch_exchange_step.ensures c.in-Some.is
 
 pub returns : goal.returns
-returns c = standing_done c.args.network c.requires.0.0 c.loop-done.done c.loop-done.invariant (λ h. omega arith)
+returns c = standing_done c.args.network (network_records _ c.requires.0) _ _ c.loop-round.invariant (omega arith)

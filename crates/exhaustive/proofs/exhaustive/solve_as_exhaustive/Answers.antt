@@ -1,19 +1,24 @@
 -- `solve_as_exhaustive` meets its contract: it is refused, or answers with what the exhaustive search finds.
-use mathlib.Core.Path.{◌∙◌}
+use Rattle.std.proofs.Common.{ap, ◌∙◌}
+use Rattle.network.specs.Answers.{valued}
+use Rattle.network.specs.AnswerLaws.{handed_on}
 use Rattle.network.proofs.ArrayLengths.{buses_256}
+use Rattle.searches.specs.Results.{result_of}
 use Rattle.searches.specs.SearchLaws.{search_refused, search_checked, search_answered}
 use Rattle.exhaustive.specs.Exhaustive.{exhaustive_best}
 use Rattle.exhaustive.specs.ExhaustiveLaws.{exhaustive_sound}
 use Rattle.exhaustive.proofs.exhaustive.solve_as_exhaustive.Goals as goal
 
-pub returns-in-Refused : goal.returns-in-Refused
-returns-in-Refused c = search_refused _ exhaustive_best exhaustive_sound _ _ c.check_search.ensures c.in-Refused.is
+pub returns-in_err-check_search : goal.returns-in_err-check_search
+returns-in_err-check_search c =
+    ap (λ a. record { answer = valued result_of a; out = c.args.out.now }) (handed_on _ _ c.from_residual.ensures.1)
+    ∙ search_refused _ exhaustive_best exhaustive_sound _ _ c.check_search.ensures c.in_err-check_search.was
 
 pub search-requires : goal.search-requires
-search-requires c = (search_checked _ _ c.in_default.is c.check_search.ensures, c.start_of-start.ensures, c.requires)
+search-requires c = ((search_checked _ _ c.in_ok-check_search.was c.check_search.ensures, c.start_of-start.ensures), c.requires)
 
 pub returns : goal.returns
 returns c =
     c.answer_with.ensures
-    ∙ search_answered _ exhaustive_best exhaustive_sound _ _ c.check_search.ensures c.in_default.is
+    ∙ search_answered _ exhaustive_best exhaustive_sound _ _ c.check_search.ensures c.in_ok-check_search.was
     (buses_256 c.args.network c.well_formed.0) c.start_of-start.ensures c.search.ensures

@@ -1,13 +1,10 @@
 -- `check_as` meets its contract: the records' refusal first; without a supply they decide; then 14 where no bus has the id, and 15 where the base is not radial.
-use mathlib.Core.Path.{◌≡◌, sym, ◌∙◌}
-use native.Mathlib.Omega.{arith}
-use borrow.Author.Tests.{not-true, not-false}
+use Rattle.std.proofs.Common.{◌≡◌, sym, ◌∙◌, arith, rules}
 use Rattle.network.specs.Answers.{accepted}
-use Rattle.network.specs.AnswerLaws.{accepted_so, refused_first, accepted_then}
+use Rattle.network.specs.AnswerLaws.{handed_on, decides, gives_way}
 use Rattle.network.specs.Check.{check_records}
 use Rattle.network.specs.InsideLaws.{lines_records}
 use Rattle.network.specs.Records.{records_of}
-use Rattle.network.proofs.ArrayLengths.{buses_256}
 use Rattle.states.specs.Listed.{few_buses, few_branches, few_switches}
 use Rattle.states.specs.Live.{base_state}
 use Rattle.feeders.specs.Feeder.{radial_in}
@@ -15,71 +12,55 @@ use Rattle.feeders.specs.Supply.{left_if, check_as}
 use Rattle.feeders.specs.SupplyLaws.{left_checked}
 use Rattle.feeders.proofs.Supplying.{records_decide, bus_missing, base_passes, base_fails}
 use Rattle.feeders.proofs.supply.check_as.Goals as goal
+use Rattle.feeders.proofs.supply.check_as.Goals.{In_ok-check, After-base_is_radial}
 
-pub returns-in-Refused : goal.returns-in-Refused
+-- the records have passed
+passed : (c : In_ok-check) → check_records (records_of c.args.network) ≡ accepted tt
+passed c = lines_records c.args.stored (records_of c.args.network) (sym c.in_ok-check.ensures)
+
+pub returns-in_err-check : goal.returns-in_err-check
 unfolding check_as
-returns-in-Refused c = refused_first _ _ _ _ _ c.in-Refused.is c.check.ensures
+returns-in_err-check c = handed_on _ _ c.from_residual.ensures.1 ∙ decides _ (sym c.in_err-check.ensures)
 
-pub returns-then-not-network : goal.returns-then-not-network
+pub returns-in_default : goal.returns-in_default
 unfolding check_as
-returns-then-not-network c = records_decide _ _ (not-true _ c.if-not-network.true) ∙ accepted_then _ _ _ c.in_default.is c.check.ensures
+returns-in_default c = records_decide _ _ c.in_default.is ∙ gives_way _ (sym c.in_ok-check.ensures)
 
-pub overflow_add-place : goal.overflow_add-place
-overflow_add-place c =
-    -- the records have passed
-    let passed : check_records (records_of c.args.network) ≡ accepted tt = lines_records _ _ (accepted_so c.in_default.is c.check.ensures) in
-    omega (arith, few_buses _ passed)
+pub overflow_add-line : goal.overflow_add-line
+overflow_add-line c = let ok = passed (goal.at.overflow_add-line c).In_ok-check in omega (arith, few_buses _ ok)
 
-pub overflow_add-place-2 : goal.overflow_add-place-2
-overflow_add-place-2 c =
-    -- the records have passed
-    let passed : check_records (records_of c.args.network) ≡ accepted tt = lines_records _ _ (accepted_so c.in_default.is c.check.ensures) in
-    omega (arith, few_buses _ passed, few_branches _ passed)
+pub overflow_add-line-2 : goal.overflow_add-line-2
+overflow_add-line-2 c = let ok = passed (goal.at.overflow_add-line-2 c).In_ok-check in omega (arith, few_buses _ ok, few_branches _ ok)
 
-pub overflow_add-place-3 : goal.overflow_add-place-3
-overflow_add-place-3 c =
-    -- the records have passed
-    let passed : check_records (records_of c.args.network) ≡ accepted tt = lines_records _ _ (accepted_so c.in_default.is c.check.ensures) in
-    omega (arith, few_buses _ passed, few_branches _ passed, few_switches _ passed)
+pub overflow_add-line-3 : goal.overflow_add-line-3
+overflow_add-line-3 c = let ok = passed (goal.at.overflow_add-line-3 c).In_ok-check in omega (arith, few_buses _ ok, few_branches _ ok, few_switches _ ok)
 
-pub returns-in_default-bus_index : goal.returns-in_default-bus_index
+pub returns-then-is_none : goal.returns-then-is_none
 unfolding check_as
-returns-in_default-bus_index c =
-    -- the records have passed
-    let passed : check_records (records_of c.args.network) ≡ accepted tt = lines_records _ _ (accepted_so c.in_default.is c.check.ensures) in
-    let n = c.args.network in
-    bus_missing _ n (buses_256 n c.well_formed.0) passed (not-false _ c.if-not-network.false) c.bus_index.ensures c.in_default-bus_index.is
-    ∙ accepted_then _ _ _ c.in_default.is c.check.ensures
+returns-then-is_none c =
+    bus_missing _ c.args.network (search rules) (passed (goal.at.returns-then-is_none c).In_ok-check) c.in-Some.is c.bus_index.ensures c.if-is_none.ensures
+    ∙ gives_way _ (sym c.in_ok-check.ensures)
 
 pub left_if-requires : goal.left_if-requires
-left_if-requires c = lines_records _ _ (accepted_so c.in_default.is c.check.ensures)
+left_if-requires c = passed (goal.at.left_if-requires c).In_ok-check
 
 pub base_is_radial-requires : goal.base_is_radial-requires
-base_is_radial-requires c =
-    -- the records have passed
-    let passed : check_records (records_of c.args.network) ≡ accepted tt = lines_records _ _ (accepted_so c.in_default.is c.check.ensures) in
-    rw c.left_if.ensures (left_checked c.args.stored (records_of c.args.network) passed)
+base_is_radial-requires c = rw c.left_if.ensures (left_checked c.args.stored (records_of c.args.network) (passed (goal.at.base_is_radial-requires c).In_ok-check))
 
-pub returns-then-base_is_radial : goal.returns-then-base_is_radial
+-- the base of the feeder that is fed
+judged : (c : After-base_is_radial) → let F = left_if c.args.stored (records_of c.args.network) in c.base_is_radial.result ≡ radial_in F (base_state F)
+judged c = rw (← c.left_if.ensures) c.base_is_radial.ensures
+
+pub returns-then-not-base_is_radial : goal.returns-then-not-base_is_radial
 unfolding check_as
-returns-then-base_is_radial c =
-    -- the records have passed
-    let passed : check_records (records_of c.args.network) ≡ accepted tt = lines_records _ _ (accepted_so c.in_default.is c.check.ensures) in
-    -- the base of the feeder that is fed
-    let judged : let F = left_if c.args.stored (records_of c.args.network) in c.base_is_radial.result ≡ radial_in F (base_state F) =
-    rw (← c.left_if.ensures) c.base_is_radial.ensures in
-    let n = c.args.network in
-    base_passes _ n (buses_256 n c.well_formed.0) passed (not-false _ c.if-not-network.false) c.bus_index.ensures c.in-At.is (sym judged ∙ c.if-base_is_radial.true)
-    ∙ accepted_then _ _ _ c.in_default.is c.check.ensures
+returns-then-not-base_is_radial c =
+    base_fails _ c.args.network (search rules) (passed (goal.at.returns-then-not-base_is_radial c).In_ok-check) c.in-Some.is c.bus_index.ensures c.if-is_none.ensures
+    (sym (judged (goal.at.returns-then-not-base_is_radial c).After-base_is_radial) ∙ c.if-not-base_is_radial.true)
+    ∙ gives_way _ (sym c.in_ok-check.ensures)
 
 pub returns : goal.returns
 unfolding check_as
 returns c =
-    -- the records have passed
-    let passed : check_records (records_of c.args.network) ≡ accepted tt = lines_records _ _ (accepted_so c.in_default.is c.check.ensures) in
-    -- the base of the feeder that is fed
-    let judged : let F = left_if c.args.stored (records_of c.args.network) in c.base_is_radial.result ≡ radial_in F (base_state F) =
-    rw (← c.left_if.ensures) c.base_is_radial.ensures in
-    let n = c.args.network in
-    base_fails _ n (buses_256 n c.well_formed.0) passed (not-false _ c.if-not-network.false) c.bus_index.ensures c.in-At.is (sym judged ∙ c.if-base_is_radial.false)
-    ∙ accepted_then _ _ _ c.in_default.is c.check.ensures
+    base_passes _ c.args.network (search rules) (passed (goal.at.returns c).In_ok-check) c.in-Some.is c.bus_index.ensures c.if-is_none.ensures
+    (sym (judged (goal.at.returns c).After-base_is_radial) ∙ c.if-not-base_is_radial.false)
+    ∙ gives_way _ (sym c.in_ok-check.ensures)

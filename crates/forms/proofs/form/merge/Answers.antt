@@ -1,14 +1,14 @@
--- `merge` meets its contract: after x turns the first x labels are changed.
-use native.Mathlib.Omega.{arith}
-use lib.ListN.{length-set}
-use Rattle.forms.proofs.Labelling.{none_changed, one_changed, all_changed}
+-- `merge` meets its contract: the labels in front of the index are changed.
+use Rattle.std.proofs.Common.{rules, arith, ◌<◌, length, get_or}
+use Rattle.std.proofs.lemmas.List.{get_or_default}
+use Rattle.std.proofs.lemmas.List.Edits.{map_over_more}
+use Rattle.graph.specs.Form.{relabel}
 use Rattle.forms.proofs.form.merge.Goals as goal
 
-pub loop-x-init : goal.loop-x-init
-loop-x-init c = (omega arith, c.requires, none_changed _ _ c.requires)
-
-pub loop-x-preserved : goal.loop-x-preserved
-loop-x-preserved c = (omega arith, simp length-set c.loop-x.invariant.1, one_changed _ _ _ c.loop-x.invariant.2 c.loop-x-test.true _ c.relabelled.ensures)
-
-pub returns : goal.returns
-returns c = all_changed _ _ c.requires _ c.loop-x.invariant.2 c.loop-x-test.false
+pub loop-each-preserved : goal.loop-each-preserved
+loop-each-preserved c =
+    let at = c.loop-each.each-index in
+    let now = c.loop-each.label in
+    let inside : at < length c.args.label.now = omega arith in
+    let here : at < length now = search rules in
+    rw c.relabelled.ensures (map_over_more (relabel c.args.kept c.args.gone) _ now at (get_or now at 0) inside c.loop-each.invariant (get_or_default now at 0 _ here))

@@ -1,13 +1,7 @@
--- `merge` meets its contract: after x turns the first x labels are changed.
-use Prim.Native.Nat.{◌≤◌, ◌-◌}
-use mathlib.Core.Path.{◌≡◌}
-use lib.ListN.{length}
+-- `merge` meets its contract: the labels in front of the index are changed.
+use Rattle.std.proofs.Common.{◌≡◌, map, take, drop, ◌++◌}
 use Rattle.graph.specs.Form.{relabel}
-use Rattle.forms.proofs.Labelling.{changed_to}
 use Rattle.forms.proofs.form.merge.Given as goal
 
-abbrev pub invariant-loop-x : goal.invariant-loop-x
-invariant-loop-x l = (l.x ≤ 256) × (length l.label ≡ 256) × (l.label ≡ changed_to (relabel l.kept l.gone) l.initial.label l.x)
-
-abbrev pub decreases-loop-x : goal.decreases-loop-x
-decreases-loop-x l = 256 - l.x
+abbrev pub invariant-loop-each : goal.invariant-loop-each
+invariant-loop-each l = l.label ≡ map (relabel l.kept l.gone) (take l.each-index l.initial.label) ++ drop l.each-index l.initial.label

@@ -1,14 +1,9 @@
--- `own_labels` meets its contract: after x turns the first x entries are their positions.
-use native.Mathlib.Omega.{arith}
-use Rattle.numbers.specs.TableLaws.{filled_more}
-use Rattle.forms.proofs.Labelling.{none_own, all_own}
+-- `own_labels` meets its contract: each entry is what the closure answers at its position.
+use Rattle.std.proofs.Common.{rules}
+use Rattle.numbers.specs.TableLaws.{as_table}
 use Rattle.forms.proofs.form.own_labels.Goals as goal
 
-pub loop-x-init : goal.loop-x-init
-loop-x-init c = (omega arith, none_own)
-
-pub loop-x-preserved : goal.loop-x-preserved
-loop-x-preserved c = (omega arith, rw c.loop-x.invariant.1 (filled_more (λ x. x) 0 256 _ c.loop-x-test.true))
-
 pub returns : goal.returns
-returns c = all_own _ c.loop-x.invariant.1 c.loop-x-test.false
+returns c =
+    let made = c.from_fn.ensures.items in
+    as_table (λ x. x) 256 0 _ made.long (λ i h. let call = made.at i 0 h in search rules)

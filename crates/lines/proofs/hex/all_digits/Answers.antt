@@ -1,21 +1,19 @@
--- `all_digits` meets its contract: the invariant is that all are digits exactly where all from `i` on are.
-use mathlib.Core.Path.{refl, sym, ◌∙◌}
-use native.Mathlib.Omega.{arith}
-use Rattle.numbers.specs.Every.{every_next, every_end}
+-- `all_digits` meets its contract: `every` is the library's test of all elements.
+use Rattle.std.proofs.Common.{◌≡◌, refl, ◌∙◌, rules, ◌&&◌, List, ℕ, Bool}
+use Rattle.std.specs.List.{list_all}
+use Rattle.std.proofs.lemmas.List.Recursion.{same_from_clauses}
+use Rattle.std.proofs.lemmas.Iterator.{YieldsList-from_slice}
+use Rattle.std.proofs.lemmas.Iterator.Search.{all_from_yields_List}
+use borrow.Author.Tests.{tests}
+use Rattle.numbers.specs.Every.{every}
+use Rattle.lines.specs.Hex.{is_digit}
 use Rattle.lines.proofs.hex.all_digits.Goals as goal
 
-pub loop-i-init : goal.loop-i-init
-loop-i-init c = (omega arith, refl)
-
-pub returns-then-not-is_digit : goal.returns-then-not-is_digit
-returns-then-not-is_digit c =
-    let loop = c.loop-i in
-    sym (loop.invariant.1 ∙ every_next _ _ loop.i c.loop-i-test.true ∙ rw (sym c.is_digit.ensures ∙ c.if-not-is_digit.true))
-
-pub loop-i-preserved : goal.loop-i-preserved
-loop-i-preserved c =
-    let loop = c.loop-i in
-    (omega arith, loop.invariant.1 ∙ every_next _ _ loop.i c.loop-i-test.true ∙ rw (sym c.is_digit.ensures ∙ c.if-not-is_digit.false))
+as_all : (p : ℕ → Bool) (xs : List ℕ) → list_all p xs ≡ every p xs
+unfolding every
+as_all p = same_from_clauses (list_all p) (every p) (λ x b. p x && b) refl (λ x xs. refl) (λ x xs. refl)
 
 pub returns : goal.returns
-returns c = sym (c.loop-i.invariant.1 ∙ every_end _ _ c.loop-i.i c.loop-i-test.false)
+returns c =
+    all_from_yields_List is_digit _ _ c.all.result c.all.ensures.ran (YieldsList-from_slice _ c.iter.ensures.rest) (λ x b q k. search (rules, tests))
+    ∙ as_all is_digit c.args.s.now

@@ -3,4 +3,4 @@ use Rattle.lines.proofs.LineEndLaws.{line_ends}
 use Rattle.lines.proofs.line.line_length.Goals as goal
 
 pub returns : goal.returns
-returns c = line_ends c.args.text.now c.args.at _ _ c.at_most-size.ensures c.find.ensures.value
+returns c = line_ends c.args.rest.now _ _ c.min-size.ensures c.find.ensures.value

@@ -1,34 +1,20 @@
 -- `live_lists` meets its contract: after u turns the array has the lists of the first u buses, and a turn is `one_rowed`.
-use mathlib.Core.Path.{◌≡◌, ap, ◌∙◌}
-use Prim.Native.Nat.{ℕ, ◌≤◌, min}
-use native.Mathlib.Omega.{arith}
+use Rattle.std.proofs.Common.{arith, rules, ◌≡◌, ◌<◌, length, length-take, get_or-take}
 use Rattle.lists.proofs.Listing.{none_rowed, one_rowed, all_rowed}
 use Rattle.lists.proofs.lists.live_lists.Goals as goal
 
 pub loop-u-init : goal.loop-u-init
-loop-u-init c = (omega arith, none_rowed _ _ _ _)
-
-pub offset_bounds-first-u : goal.offset_bounds-first-u
-offset_bounds-first-u c = omega (arith, c.at_most-n.ensures)
-
-pub bounds-first-u : goal.bounds-first-u
-bounds-first-u c = omega (arith, c.at_most-n.ensures)
-
-pub overflow_add-u : goal.overflow_add-u
-overflow_add-u c = omega (arith, c.at_most-n.ensures)
-
-pub offset_bounds-at-u : goal.offset_bounds-at-u
-offset_bounds-at-u c = omega (arith, c.at_most-n.ensures)
-
-pub bounds-at-u : goal.bounds-at-u
-bounds-at-u c = omega (arith, c.at_most-n.ensures)
+loop-u-init c = none_rowed _ _ _ _
 
 pub loop-u-preserved : goal.loop-u-preserved
 loop-u-preserved c =
-    let few : c.at_most-n.result ≤ 256 = omega (arith, c.at_most-n.ensures) in
-    (omega arith, one_rowed _ _ _ _ c.loop-u.invariant.1 (omega (arith, few)) c.list_row-end.ensures)
+    let u = c.loop-u.u in
+    let n = c.min-n.result in
+    let first = c.args.graph.first in
+    let short : u < n = omega (arith, length-take n first) in
+    one_rowed _ _ _ _ c.loop-u.invariant (omega arith) (rw (get_or-take n first u 0 short) at c.list_row.ensures)
 
 pub returns : goal.returns
 returns c =
-    let all_done : c.loop-u.u ≡ min c.args.graph.bus_count 256 = omega (arith, c.loop-u.invariant.0, c.loop-u-test.false) ∙ c.at_most-n.ensures ∙ ap (λ (k : ℕ). min k 256) c.wide16.ensures.0 in
-    all_rowed _ _ c.loop-u.invariant.1 all_done
+    let long : length c.args.graph.first ≡ 256 = search rules in
+    all_rowed _ _ c.loop-u.invariant (omega (arith, length-take c.min-n.result c.args.graph.first))

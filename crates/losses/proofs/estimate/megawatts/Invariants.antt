@@ -1,6 +1,6 @@
 -- `megawatts` meets its contract: the first i numbers are those of the loads, the others still 0.0.
 use mathlib.Core.Path.{◌≡◌}
-use Prim.Native.Nat.{◌≤◌, ◌-◌}
+use Prim.Native.Nat.{◌≤◌}
 use lib.ListN.{get_or}
 use Rattle.numbers.specs.Constants.{zero64}
 use Rattle.numbers.specs.TableLaws.{filled}
@@ -9,6 +9,3 @@ use Rattle.losses.proofs.estimate.megawatts.Given as goal
 
 abbrev pub invariant-loop-i : goal.invariant-loop-i
 invariant-loop-i l = (l.i ≤ 256) × (l.mw ≡ filled (λ j. (get_or l.loads j no_power).0) zero64 256 l.i)
-
-abbrev pub decreases-loop-i : goal.decreases-loop-i
-decreases-loop-i l = 256 - l.i

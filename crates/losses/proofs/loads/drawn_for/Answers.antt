@@ -2,10 +2,10 @@
 use Rattle.losses.specs.LiveLoss.{drawn_graph_for}
 use Rattle.losses.proofs.loads.drawn_for.Goals as goal
 
-pub returns-then-has_supply : goal.returns-then-has_supply
+pub returns-in-Some : goal.returns-in-Some
 unfolding drawn_graph_for
-returns-then-has_supply c = rw c.if-has_supply.true c.drawn_from.ensures
+returns-in-Some c = rw c.in-Some.is c.drawn_from.ensures
 
-pub returns : goal.returns
+pub returns-in-None : goal.returns-in-None
 unfolding drawn_graph_for
-returns c = rw c.if-has_supply.false
+returns-in-None c = rw c.in-None.is

@@ -4,4 +4,4 @@ use Rattle.losses.proofs.loads.loads_of.Goals as goal
 
 pub returns : goal.returns
 unfolding loads_of
-returns c = rw (c.loads_at-pd.ensures, c.supply_at.ensures)
+returns c = rw (c.loads_at.ensures, c.supply_at.ensures)

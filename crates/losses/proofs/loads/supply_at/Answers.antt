@@ -1,7 +1,6 @@
--- `supply_at` meets its contract: the position that the id is found at, and 0 where it is not or no supply is named.
-use mathlib.Core.Path.{sym, ap, ◌∙◌}
-use native.Mathlib.Omega.{arith}
-use lib.ListN.{length-take}
+-- `supply_at` meets its contract: the position that the id is found at, and 0 where it is not.
+use Rattle.std.proofs.Common.{Some, sym, ap, ◌∙◌, arith}
+use Rattle.std.proofs.Math.ListN.{length-take}
 use Rattle.network.proofs.ArrayLengths.{buses_256}
 use Rattle.feeders.specs.BusFound.{found_at, index_end, index_small}
 use Rattle.losses.proofs.loads.supply_at.Goals as goal
@@ -9,10 +8,10 @@ use Rattle.losses.proofs.loads.supply_at.Goals as goal
 pub overflow_cast-result : goal.overflow_cast-result
 overflow_cast-result c =
     let n = c.args.network in
-    omega (arith, index_small _ _ _ (sym c.bus_index.ensures ∙ c.in-At.is), length-take n.bus_count n.buses, buses_256 n c.well_formed.0)
+    omega (arith, index_small _ _ _ (sym c.bus_index.ensures ∙ c.in-Some-bus_index.is), length-take n.bus_count n.buses, buses_256 n c.well_formed.0)
 
-pub returns-in-At : goal.returns-in-At
-returns-in-At c = rw c.if-network.true (ap found_at (sym c.in-At.is ∙ c.bus_index.ensures) ∙ index_end _ _)
+pub returns-in-Some-bus_index : goal.returns-in-Some-bus_index
+returns-in-Some-bus_index c = rw c.in-Some.is (ap Some (ap found_at (sym c.in-Some-bus_index.is ∙ c.bus_index.ensures) ∙ index_end _ _))
 
-pub returns-in_default : goal.returns-in_default
-returns-in_default c = rw c.if-network.true (ap found_at (sym c.in_default.is ∙ c.bus_index.ensures) ∙ index_end _ _)
+pub returns-in-None : goal.returns-in-None
+returns-in-None c = rw c.in-Some.is (ap Some (ap found_at (sym c.in-None.is ∙ c.bus_index.ensures) ∙ index_end _ _))

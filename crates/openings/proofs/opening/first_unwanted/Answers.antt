@@ -1,15 +1,15 @@
--- `first_unwanted` meets its contract. The invariant: the first i branches of the path are wanted; the step is `one_wanted`.
-use Rattle.openings.proofs.Unwanted.{none_wanted, one_wanted, one_unwanted, all_wanted}
+-- `first_unwanted` meets its contract: a branch that is wanted is passed over, the first that is not is found.
+use Rattle.std.proofs.Common.{◌∙◌, sym, drop_of_length-le}
+use Rattle.numbers.specs.Choose.{first_of}
+use Rattle.openings.proofs.Unwanted.{one_wanted, one_unwanted}
 use Rattle.openings.proofs.opening.first_unwanted.Goals as goal
 
-pub loop-i-init : goal.loop-i-init
-loop-i-init c = none_wanted _ _
-
 pub returns-then-not-flagged : goal.returns-then-not-flagged
-returns-then-not-flagged c = one_unwanted _ _ _ c.loop-i.invariant c.loop-i-test.true _ c.wide16-at.ensures.0 _ c.flagged.ensures (c.if-not-flagged.true)
+returns-then-not-flagged c = sym (c.loop-k.invariant ∙ one_unwanted _ _ _ c.loop-k-test.true (sym c.flagged.ensures ∙ c.if-not-flagged.true))
 
-pub loop-i-preserved : goal.loop-i-preserved
-loop-i-preserved c = one_wanted _ _ _ c.loop-i.invariant c.loop-i-test.true _ c.wide16-at.ensures.0 _ c.flagged.ensures (c.if-not-flagged.false)
+pub loop-k-preserved : goal.loop-k-preserved
+loop-k-preserved c = c.loop-k.invariant ∙ one_wanted _ _ _ c.loop-k-test.true (sym c.flagged.ensures ∙ c.if-not-flagged.false)
 
 pub returns : goal.returns
-returns c = all_wanted _ _ _ c.loop-i.invariant c.loop-i-test.false
+unfolding first_of
+returns c = sym (rw (drop_of_length-le c.args.path.now {i = c.loop-k.k-index} c.loop-k-test.false) at c.loop-k.invariant)

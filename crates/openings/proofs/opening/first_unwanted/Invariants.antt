@@ -1,10 +1,8 @@
--- `first_unwanted` meets its contract. The invariant: the first i branches of the path are wanted; the step is `one_wanted`.
-use Prim.Native.Nat.{◌-◌}
-use Rattle.openings.proofs.Unwanted.{Wanted}
+-- `first_unwanted` meets its contract. The invariant: what is found from the index on is what is found in all.
+use Rattle.std.proofs.Common.{◌≡◌, drop}
+use Rattle.graph.specs.Rows.{flag}
+use Rattle.openings.specs.Opening.{first_unwanted}
 use Rattle.openings.proofs.opening.first_unwanted.Given as goal
 
-abbrev pub invariant-loop-i : goal.invariant-loop-i
-invariant-loop-i l = Wanted l.path l.wanted l.i
-
-abbrev pub decreases-loop-i : goal.decreases-loop-i
-decreases-loop-i l = l.n - l.i
+abbrev pub invariant-loop-k : goal.invariant-loop-k
+invariant-loop-k l = first_unwanted (flag l.wanted) l.path ≡ first_unwanted (flag l.wanted) (drop l.k-index l.path)

@@ -1,18 +1,15 @@
 -- `check_states` meets its contract: the first of its parts that refuses decides.
-use mathlib.Core.Path.{◌∙◌}
-use Rattle.network.specs.AnswerLaws.{refused_then, accepted_then}
+use Rattle.std.proofs.Common.{◌∙◌}
+use Rattle.network.specs.AnswerLaws.{refused_on, accepted_then}
 use Rattle.operations.proofs.operations.check_states.Goals as goal
 
-pub returns-in_default : goal.returns-in_default
-returns-in_default c = refused_then _ _ _ _ _ c.in_default.is c.check_network-tested.ensures
+pub returns-in_err-check_network : goal.returns-in_err-check_network
+returns-in_err-check_network c = refused_on _ _ c.from_residual.ensures.1 c.in_err-check_network.was c.check_network.ensures
 
-pub returns-in_default-first : goal.returns-in_default-first
-returns-in_default-first c =
-    refused_then _ _ _ _ _ c.in_default-first.is c.check_state-first.ensures
-    ∙ accepted_then _ _ _ c.in-Accepted.is c.check_network-tested.ensures
+pub returns-in_err-check_state : goal.returns-in_err-check_state
+returns-in_err-check_state c =
+    refused_on _ _ c.from_residual-in_err-check_state.ensures.1 c.in_err-check_state.was c.check_state.ensures
+    ∙ accepted_then _ c.in_ok-check_network.was c.check_network.ensures
 
 pub returns : goal.returns
-returns c =
-    c.check_state.ensures
-    ∙ accepted_then _ _ _ c.in-Accepted-first.is c.check_state-first.ensures
-    ∙ accepted_then _ _ _ c.in-Accepted.is c.check_network-tested.ensures
+returns c = c.check_state-2.ensures ∙ accepted_then _ c.in_ok-check_state.was c.check_state.ensures ∙ accepted_then _ c.in_ok-check_network.was c.check_network.ensures

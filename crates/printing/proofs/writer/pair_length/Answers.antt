@@ -17,6 +17,6 @@ pub returns : goal.returns
 returns c =
     let closes = c.args.closes in
     let opens = c.args.opens in
-    let closed = moved closes.count closes.ids (search rules) c.wide8.ensures.0 c.at_most-closed.ensures in
-    let opened = moved opens.count opens.ids (search rules) c.wide8-2.ensures.0 c.at_most-opened.ensures in
+    let closed = moved closes.count closes.ids (search rules) c.from.ensures c.min-closed.ensures in
+    let opened = moved opens.count opens.ids (search rules) c.from-2.ensures c.min-opened.ensures in
     (omega (arith, closed.0, opened.0, length_pair (ids_in closes) (ids_in opens)), omega (arith, closed.1, opened.1))

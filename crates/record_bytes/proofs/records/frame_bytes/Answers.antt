@@ -1,31 +1,31 @@
 -- `frame_bytes` meets its contract, kind by kind.
-use mathlib.Core.Path.{◌∙◌}
-use borrow.Author.Tests.{eq-eqb, ne_eqb}
+use Rattle.std.proofs.Common.{◌∙◌, arith}
+use borrow.Author.Tests.{ne_eqb}
 use Rattle.record_bytes.specs.RecordBytes.{frame_bytes}
 use Rattle.record_bytes.proofs.records.frame_bytes.Goals as goal
 
-pub returns-then-kind-eq-KIND : goal.returns-then-kind-eq-KIND
+pub returns-in-1 : goal.returns-in-1
 unfolding frame_bytes
-returns-then-kind-eq-KIND c = c.at_most.ensures ∙ rw (eq-eqb _ _ c.if-kind-eq-KIND.true)
+returns-in-1 c = c.min.ensures ∙ rw c.in-1.is
 
-pub returns-then-kind-eq-KIND-2 : goal.returns-then-kind-eq-KIND-2
+pub returns-in-2 : goal.returns-in-2
 unfolding frame_bytes
-returns-then-kind-eq-KIND-2 c = c.at_most-then-kind-eq-KIND-2.ensures ∙ rw (ne_eqb _ _ c.if-kind-eq-KIND.false, eq-eqb _ _ c.if-kind-eq-KIND-2.true)
+returns-in-2 c = c.min-in-2.ensures ∙ rw c.in-2.is
 
-pub returns-then-kind-eq-KIND-3 : goal.returns-then-kind-eq-KIND-3
+pub returns-in-3 : goal.returns-in-3
 unfolding frame_bytes
-returns-then-kind-eq-KIND-3 c = c.at_most-then-kind-eq-KIND-3.ensures ∙ rw (ne_eqb _ _ c.if-kind-eq-KIND.false, ne_eqb _ _ c.if-kind-eq-KIND-2.false, eq-eqb _ _ c.if-kind-eq-KIND-3.true)
+returns-in-3 c = c.min-in-3.ensures ∙ rw c.in-3.is
 
-pub returns-then-kind-eq-KIND-4 : goal.returns-then-kind-eq-KIND-4
+pub returns-in-4 : goal.returns-in-4
 unfolding frame_bytes
-returns-then-kind-eq-KIND-4 c = c.at_most-then-kind-eq-KIND-4.ensures ∙ rw (ne_eqb _ _ c.if-kind-eq-KIND.false, ne_eqb _ _ c.if-kind-eq-KIND-2.false, ne_eqb _ _ c.if-kind-eq-KIND-3.false, eq-eqb _ _ c.if-kind-eq-KIND-4.true)
+returns-in-4 c = c.min-in-4.ensures ∙ rw c.in-4.is
 
-pub returns-then-kind-eq-KIND-5 : goal.returns-then-kind-eq-KIND-5
+pub returns-in-5 : goal.returns-in-5
 unfolding frame_bytes
-returns-then-kind-eq-KIND-5 c =
-    c.at_most-then-kind-eq-KIND-5.ensures
-    ∙ rw (ne_eqb _ _ c.if-kind-eq-KIND.false, ne_eqb _ _ c.if-kind-eq-KIND-2.false, ne_eqb _ _ c.if-kind-eq-KIND-3.false, ne_eqb _ _ c.if-kind-eq-KIND-4.false, eq-eqb _ _ c.if-kind-eq-KIND-5.true)
+returns-in-5 c = c.min-in-5.ensures ∙ rw c.in-5.is
 
-pub returns : goal.returns
+pub returns-in_default : goal.returns-in_default
 unfolding frame_bytes
-returns c = rw (ne_eqb _ _ c.if-kind-eq-KIND.false, ne_eqb _ _ c.if-kind-eq-KIND-2.false, ne_eqb _ _ c.if-kind-eq-KIND-3.false, ne_eqb _ _ c.if-kind-eq-KIND-4.false, ne_eqb _ _ c.if-kind-eq-KIND-5.false)
+returns-in_default c =
+    let d = c.in_default in
+    rw (ne_eqb c.args.kind 1 (λ e. omega (arith, d)), ne_eqb c.args.kind 2 (λ e. omega (arith, d)), ne_eqb c.args.kind 3 (λ e. omega (arith, d)), ne_eqb c.args.kind 4 (λ e. omega (arith, d)), ne_eqb c.args.kind 5 (λ e. omega (arith, d)))

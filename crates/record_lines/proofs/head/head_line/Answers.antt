@@ -1,27 +1,21 @@
--- `head_line` meets its contract: rows 1 and 2 come first, then the fields behind the kind byte.
-use mathlib.Core.Path.{refl, sym, ap, ◌∙◌}
-use native.Mathlib.Omega.{arith}
-use Rattle.network.specs.Answers.{answer_of}
-use Rattle.record_lines.specs.Kinds.{head, head_from, head_line_faults}
-use Rattle.record_lines.proofs.FrameLaws.{frame_long, frame_refused, frame_read}
+-- `head_line` meets its contract: what the line and its method byte are refused for comes first, then what `judge_head` finds.
+use Rattle.std.proofs.Common.{ap, ◌∙◌}
+use Rattle.network.specs.Answers.{valued}
+use Rattle.network.specs.AnswerLaws.{handed_on, refused_first, accepted_then}
+use Rattle.network.specs.Faults.{head_faults}
+use Rattle.record_lines.specs.LineAnswers.{head_of_code}
+use Rattle.record_lines.proofs.HeadLaws.{head_refused, head_read}
 use Rattle.record_lines.proofs.head.head_line.Goals as goal
 
-pub returns-in-Refused : goal.returns-in-Refused
-returns-in-Refused c = frame_refused c.args.text.now 0 head head_from head_line_faults _ (sym c.judge_line-v.ensures ∙ ap answer_of c.in-Refused.is)
+pub returns-in_err-head : goal.returns-in_err-head
+returns-in_err-head c = ap (valued head_of_code) (handed_on _ _ c.from_residual.ensures.1) ∙ head_refused _ c.read_line.ensures c.in_err-head.was
 
-pub slice_bounds-line-end : goal.slice_bounds-line-end
-slice_bounds-line-end c =
-    omega (arith, frame_long c.args.text.now 0 1 36 1 (sym (ap answer_of c.in_default.is) ∙ c.judge_line-v.ensures))
-
-pub slice_bounds-head_fields-count : goal.slice_bounds-head_fields-count
-slice_bounds-head_fields-count c =
-    omega (arith, frame_long c.args.text.now 0 1 36 1 (sym (ap answer_of c.in_default.is) ∙ c.judge_line-v.ensures))
-
-pub slice_bounds-head_fields-start : goal.slice_bounds-head_fields-start
-slice_bounds-head_fields-start c =
-    omega (arith, frame_long c.args.text.now 0 1 36 1 (sym (ap answer_of c.in_default.is) ∙ c.judge_line-v.ensures))
+pub returns-in_err-judge_head : goal.returns-in_err-judge_head
+unfolding head_faults
+returns-in_err-judge_head c =
+    ap (valued head_of_code) (handed_on _ _ c.from_residual-in_err-judge_head.ensures.1)
+    ∙ refused_first _ c.in_err-judge_head.was c.judge_head.ensures ∙ head_read _ c.read_line.ensures c.in_ok-head.was
 
 pub returns : goal.returns
-returns c =
-    c.head_fields.ensures
-    ∙ frame_read c.args.text.now 0 head head_from head_line_faults 1 (sym (ap answer_of c.in_default.is) ∙ c.judge_line-v.ensures) _ refl
+unfolding head_faults
+returns c = accepted_then _ c.in_ok-judge_head.was c.judge_head.ensures ∙ head_read _ c.read_line.ensures c.in_ok-head.was

@@ -1,32 +1,48 @@
 -- `write_dropped_lines` meets its contract: the lines of the switches are written behind those of the branches.
-use mathlib.Core.Path.{sym}
-use Prim.Native.Nat.{◌≤◌}
-use lib.ListN.{length}
-use Rattle.network.specs.Records.{records_of}
-use Rattle.texts.specs.PartLaws.{part_begins, part_room, both_written}
-use Rattle.repairs.specs.DroppedLines.{written_so, both_kinds, room_for_kinds, branches_room}
-use borrow.Author.Rules.{rules}
+use Rattle.std.proofs.Common.{arith, rules, take}
+use Rattle.network.proofs.ArrayLengths.{branches_512, switches_512}
+use Rattle.network.specs.Limits.{is_own_loop}
+use Rattle.states.specs.Listed.{few_buses, few_branches, few_switches}
+use Rattle.repairs.proofs.BothKinds.{goes, branches_few, switches_few, branches_room, switches_room, both_put}
 use Rattle.repairs.proofs.repair.write_dropped_lines.Goals as goal
 
-pub write_branches-switches-requires : goal.write_branches-switches-requires
-write_branches-switches-requires c = (c.requires.0, branches_room (records_of c.args.network) c.requires.1)
+pub shared_ref_as_front-branches : goal.shared_ref_as_front-branches
+shared_ref_as_front-branches c = omega (arith, few_branches c.args.network c.requires.0, c.from.ensures)
 
-pub slice_bounds-write_switches-count : goal.slice_bounds-write_switches-count
-slice_bounds-write_switches-count c =
-    let begins : c.write_branches-switches.result ≤ length c.write_branches-switches.new.out =
-    part_begins _ _ _ _ (sym c.write_branches-switches.ensures.1) (room_for_kinds (records_of c.args.network) c.requires.1) c.write_branches-switches.ensures.0 in
-    begins
+pub shared_ref_as_front-switches : goal.shared_ref_as_front-switches
+shared_ref_as_front-switches c = omega (arith, few_switches c.args.network c.requires.0, c.from-2.ensures)
 
-pub slice_bounds-write_switches-start : goal.slice_bounds-write_switches-start
-slice_bounds-write_switches-start c =
-    let begins : c.write_branches-switches.result ≤ length c.write_branches-switches.new.out =
-    part_begins _ _ _ _ (sym c.write_branches-switches.ensures.1) (room_for_kinds (records_of c.args.network) c.requires.1) c.write_branches-switches.ensures.0 in
-    search rules
+pub overflow_add-line : goal.overflow_add-line
+overflow_add-line c = omega (arith, few_buses c.args.network c.requires.0)
 
-pub write_switches-requires : goal.write_switches-requires
-write_switches-requires c = (c.requires.0, part_room _ _ _ _ (sym c.write_branches-switches.ensures.1) (room_for_kinds (records_of c.args.network) c.requires.1) c.write_branches-switches.ensures.0)
+pub write_lines-end-requires-clause-few : goal.write_lines-end-requires-clause-few
+write_lines-end-requires-clause-few c =
+    let n = c.args.network in
+    branches_few n c.requires.0 _ _ c.from.ensures c.from-2.ensures (branches_512 n c.well_formed.1.1.0) (switches_512 n c.well_formed.1.1.0)
+
+pub write_lines-end-requires-clause-room : goal.write_lines-end-requires-clause-room
+write_lines-end-requires-clause-room c =
+    let n = c.args.network in
+    (is_own_loop, λ b r e. e, branches_room n c.requires.0 _ _ c.from.ensures c.from-2.ensures (branches_512 n c.well_formed.1.1.0) (switches_512 n c.well_formed.1.1.0) _ _ c.requires.1)
+
+pub overflow_add-line-2 : goal.overflow_add-line-2
+overflow_add-line-2 c = omega (arith, few_buses c.args.network c.requires.0, few_branches c.args.network c.requires.0)
+
+pub write_lines-requires-clause-few : goal.write_lines-requires-clause-few
+write_lines-requires-clause-few c =
+    let n = c.args.network in
+    switches_few n c.requires.0 _ _ c.from.ensures c.from-2.ensures (branches_512 n c.well_formed.1.1.0) (switches_512 n c.well_formed.1.1.0)
+
+pub write_lines-requires-clause-room : goal.write_lines-requires-clause-room
+write_lines-requires-clause-room c =
+    let n = c.args.network in
+    let room = switches_room n c.requires.0 _ _ c.from.ensures c.from-2.ensures (branches_512 n c.well_formed.1.1.0) (switches_512 n c.well_formed.1.1.0) _ _ c.requires.1 (c.write_lines-end.ensures is_own_loop (λ b r e. e)) in
+    (goes (take c.from.result n.branches), λ s r e. search rules, room)
 
 pub returns : goal.returns
 returns c =
-    let N = records_of c.args.network in
-    written_so _ (both_written _ _ _ _ (sym c.write_branches-switches.ensures.1) (room_for_kinds N c.requires.1) c.write_branches-switches.ensures.0 c.write_switches.ensures) (both_kinds N)
+    let n = c.args.network in
+    let long = branches_512 n c.well_formed.1.1.0 in
+    let wide = switches_512 n c.well_formed.1.1.0 in
+    both_put n c.requires.0 _ _ c.from.ensures c.from-2.ensures long wide _ _ c.requires.1 (c.write_lines-end.ensures is_own_loop (λ b r e. e))
+    (c.write_lines.ensures (goes (take c.from.result n.branches)) (λ s r e. search rules))

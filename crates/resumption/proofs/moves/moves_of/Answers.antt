@@ -1,27 +1,19 @@
--- `moves_of` meets its contract. The invariant: the moves of the first i pairs are in the list; the step is `pair_made`.
-use mathlib.Core.Path.{ap}
-use native.Mathlib.Omega.{arith}
-use lib.ListN.{length}
-use Rattle.resumption.proofs.MoveLists.{length_listed, none_made, closing_room, opening_room, pair_made, all_made}
+-- `moves_of` meets its contract. The step of the loop is `pair_made`.
+use Rattle.std.proofs.Common.{◌∙◌, arith}
+use Rattle.resumption.proofs.Moving.{none_made, closing_room, opening_room, pair_made, all_made}
 use Rattle.resumption.proofs.moves.moves_of.Goals as goal
 
-pub loop-i-init : goal.loop-i-init
-loop-i-init c = none_made _ c.new-moves.ensures
+pub loop-pair-init : goal.loop-pair-init
+loop-pair-init c = c.no_moves-moves.ensures ∙ none_made c.args.pairs.now
 
-pub with_ids-requires : goal.with_ids-requires
-with_ids-requires c = omega (arith, closing_room _ c.loop-i.invariant (omega (arith, c.wide16-n.ensures.0)), c.requires.1)
+pub push_ids-requires : goal.push_ids-requires
+push_ids-requires c = omega (arith, closing_room c.args.pairs.now c.loop-pair.invariant c.loop-pair-test.true, c.requires)
 
-pub with_ids-moves-requires : goal.with_ids-moves-requires
-with_ids-moves-requires c =
-    let closed = c.with_ids in
-    omega (arith, opening_room _ c.loop-i.invariant (omega (arith, c.wide16-n.ensures.0)) closed.result closed.ensures, c.requires.1)
+pub push_ids-requires-in-loop-pair : goal.push_ids-requires-in-loop-pair
+push_ids-requires-in-loop-pair c = omega (arith, opening_room c.args.pairs.now c.loop-pair.invariant c.loop-pair-test.true c.push_ids.ensures, c.requires)
 
-pub loop-i-preserved : goal.loop-i-preserved
-loop-i-preserved c =
-    let closed = c.with_ids in
-    pair_made _ c.loop-i.invariant (omega (arith, c.wide16-n.ensures.0)) closed.result closed.ensures c.with_ids-moves.ensures
+pub loop-pair-preserved : goal.loop-pair-preserved
+loop-pair-preserved c = pair_made c.args.pairs.now c.loop-pair.invariant c.loop-pair-test.true c.push_ids.ensures c.push_ids-in-loop-pair.ensures
 
 pub returns : goal.returns
-returns c =
-    let all = all_made _ c.loop-i.invariant (omega (arith, c.wide16-n.ensures.0)) in
-    (omega (arith, length_listed c.loop-i.moves, ap length all, c.requires.1), all)
+returns c = all_made c.args.pairs.now c.loop-pair.invariant c.loop-pair-test.false

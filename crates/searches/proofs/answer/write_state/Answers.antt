@@ -1,6 +1,5 @@
 -- `write_state` meets its contract: a configuration has no more bytes than those of 512 switches.
 use mathlib.Core.Path.{◌≡◌}
-use native.Mathlib.Numerals.{unary_clauses}
 use lib.ListN.{length}
 use borrow.Author.Rules.{rules}
 use Rattle.searches.specs.SearchLaws.{front_written}
@@ -9,4 +8,4 @@ use Rattle.searches.proofs.answer.write_state.Goals as goal
 pub returns : goal.returns
 returns c =
     let long : length c.args.best.switches ≡ 512 = search rules in
-    front_written c.args.best.switches _ long c.at_most-count.ensures c.wide16.ensures.0 (simp unary_clauses at c.write_bytes.ensures)
+    front_written c.args.best.switches _ long c.min-count.ensures c.from.ensures c.write_bytes.ensures

@@ -1,5 +1,5 @@
 -- `write_digits` meets its contract: the invariant is that the digits of `rest`, put at the front of `out`, would make the whole.
-use Rattle.slices.proofs.Remaining.{digits_short, all_remain, digit_stored, none_remain, remaining_length}
+use Rattle.slices.proofs.Remaining.{digits_short, all_remain, digit_stored, none_remain}
 use Rattle.slices.proofs.writer.write_digits.Goals as goal
 
 pub returns-then-out-width : goal.returns-then-out-width
@@ -10,9 +10,6 @@ loop-i-init c = all_remain c.if-out-width.false
 
 pub loop-i-preserved : goal.loop-i-preserved
 loop-i-preserved c = digit_stored _ _ c.loop-i.invariant c.loop-i-test.true c.digit.ensures
-
-pub shape_of-out : goal.shape_of-out
-shape_of-out c = remaining_length c.loop-i.invariant
 
 pub returns : goal.returns
 returns c = none_remain _ c.loop-i.invariant c.loop-i-test.false c.if-out-width.false

@@ -1,32 +1,40 @@
--- `open_branches` meets its contract: the flags are those of the first i switches.
-use mathlib.Core.Path.{◌≡◌, sym, ◌∙◌}
-use Prim.Native.Nat.{◌<◌}
-use native.Mathlib.Omega.{arith}
-use lib.ListN.{length}
-use borrow.Author.Rules.{rules}
-use Rattle.numbers.specs.TableLaws.{table_cong}
+-- `open_branches` meets its contract: the flags are those of the switches so far.
+use Rattle.std.proofs.Common.{rules, ◌≡◌, ◌+◌, ◌∙◌, [], ◌∷◌, ◌++◌, length, length-append}
+use Rattle.std.proofs.lemmas.Slice.Zip.{zip_turn, zip_end}
+use Rattle.network.specs.Records.{no_switch}
 use Rattle.states.specs.LiveLaws.{open_none, open_closed, open_beyond, open_set, open_all}
-use Rattle.states.proofs.ArrayLengths.{bytes_512}
 use Rattle.states.proofs.configuration.open_branches.Goals as goal
-use Rattle.states.proofs.configuration.open_branches.Goals.{then-configuration-i-eq-OPEN+then-on-lt-MAX_BRANCHES, then-configuration-i-eq-OPEN+else-on-lt-MAX_BRANCHES, else-configuration-i-eq-OPEN}
+use Rattle.states.proofs.configuration.open_branches.Goals.{else-byte-eq-OPEN-via-then-byte-eq-OPEN+else-k-lt-MAX_BRANCHES, else-byte-eq-OPEN-via-else-byte-eq-OPEN}
 
-pub loop-i-init : goal.loop-i-init
-loop-i-init c = (search rules, c.no_branches-opened.ensures ∙ table_cong _ _ 512 (λ k h. sym (open_none _ _ k)))
+pub loop-switch-init : goal.loop-switch-init
+loop-switch-init c = open_none c.args.switches.now c.args.state.now
 
-pub loop-i-preserved : goal.loop-i-preserved
-loop-i-preserved c =
-    let bytes : length c.args.configuration.switches ≡ 512 = bytes_512 c.args.configuration c.well_formed.1.1.0 in
-    let h : c.loop-i.i < length c.args.configuration.switches = omega (arith, bytes) in (
-      search rules,
-      elim c.if-configuration-i-eq-OPEN.branch [
-        | then-configuration-i-eq-OPEN+then-on-lt-MAX_BRANCHES w ↦ w.opened-is ∙ rw c.loop-i.invariant.1 (open_set _ _ 512 c.loop-i.i h _ c.wide16-on.ensures.0 w.if-on-lt-MAX_BRANCHES.true w.if-configuration-i-eq-OPEN.true)
-        | then-configuration-i-eq-OPEN+else-on-lt-MAX_BRANCHES w ↦ w.opened-is ∙ c.loop-i.invariant.1 ∙ open_beyond _ _ 512 c.loop-i.i h (rw c.wide16-on.ensures.0 at w.if-on-lt-MAX_BRANCHES.false)
-        | else-configuration-i-eq-OPEN w ↦ w.opened-is ∙ c.loop-i.invariant.1 ∙ open_closed _ _ 512 c.loop-i.i h w.if-configuration-i-eq-OPEN.false
-      ],
-    )
+pub loop-switch-preserved-then-k-lt-MAX_BRANCHES : goal.loop-switch-preserved-then-k-lt-MAX_BRANCHES
+loop-switch-preserved-then-k-lt-MAX_BRANCHES c =
+    let ws = c.args.switches.now in
+    let s = c.args.state.now in
+    let so_far = c.loop-switch.yielded in
+    let t = zip_turn ws s so_far c.into_iter-switch-iterator.result c.loop-switch.switch-iterator c.next.new.self c.next.result (search rules) (search rules) c.loop-switch.yielded_by _ c.in-Some.is c.next.ensures.steps in
+    let more : length (so_far ++ ((c.in-Some.switch, c.in-Some.byte) ∷ [])) ≡ length so_far + 1 = length-append so_far _ in
+    rw (more, c.loop-switch.invariant) (open_set ws s (length so_far) t.0 t.1 512 c.from-k.result (rw (← t.2 no_switch) c.from-k.ensures) c.if-k-lt-MAX_BRANCHES.true (rw (← t.3 0) c.if-byte-eq-OPEN.true))
+
+pub loop-switch-preserved : goal.loop-switch-preserved
+loop-switch-preserved c =
+    let ws = c.args.switches.now in
+    let s = c.args.state.now in
+    let so_far = c.loop-switch.yielded in
+    let t = zip_turn ws s so_far c.into_iter-switch-iterator.result c.loop-switch.switch-iterator c.next.new.self c.next.result (search rules) (search rules) c.loop-switch.yielded_by _ c.in-Some.is c.next.ensures.steps in
+    let more : length (so_far ++ ((c.in-Some.switch, c.in-Some.byte) ∷ [])) ≡ length so_far + 1 = length-append so_far _ in
+    rw (more, c.loop-switch.invariant)
+    (elim c.else-byte-eq-OPEN.branch [
+      | else-byte-eq-OPEN-via-then-byte-eq-OPEN+else-k-lt-MAX_BRANCHES w ↦ open_beyond ws s (length so_far) t.0 t.1 512 (rw (← t.2 no_switch, ← c.from-k.ensures) w.if-k-lt-MAX_BRANCHES.false)
+      | else-byte-eq-OPEN-via-else-byte-eq-OPEN w ↦ open_closed ws s (length so_far) t.0 t.1 512 (rw (← t.3 0) w.if-byte-eq-OPEN.false)
+    ])
 
 pub returns : goal.returns
 returns c =
-    let bytes : length c.args.configuration.switches ≡ 512 = bytes_512 c.args.configuration c.well_formed.1.1.0 in
-    let loop = c.loop-i in
-    loop.invariant.1 ∙ table_cong _ _ 512 (λ k h. open_all _ c.args.configuration.switches c.args.count loop.i k (omega (arith, bytes)))
+    let ws = c.args.switches.now in
+    let s = c.args.state.now in
+    let so_far = c.loop-switch.yielded in
+    let t = zip_end ws s so_far c.into_iter-switch-iterator.result c.loop-switch.switch-iterator c.next.new.self c.next.result (search rules) (search rules) c.loop-switch.yielded_by c.in-None.is c.next.ensures.steps in
+    c.loop-switch.invariant ∙ open_all ws s 512 (length so_far) t

@@ -1,13 +1,12 @@
 -- `write_around` meets its contract: the slice is too short for the line, or its pieces are written one behind the other.
-use mathlib.Core.Path.{◌∙◌}
+use Rattle.std.proofs.Common.{◌∙◌, rules}
 use Rattle.texts.specs.LineLaws.{around_short, around_written}
-use borrow.Author.Rules.{rules}
 use Rattle.texts.proofs.line.write_around.Goals as goal
 
 pub returns-then-out-end : goal.returns-then-out-end
-returns-then-out-end c = around_short _ _ _ _ _ _ c.wide8-float.ensures.0 c.wide8.ensures.0 c.if-out-end.true
+returns-then-out-end c = around_short _ _ _ _ _ _ c.from-float.ensures c.from.ensures c.if-out-end.true
 
 pub returns : goal.returns
 returns c =
-    around_written _ _ _ _ _ _ (search rules) (rw c.wide8.ensures.0 at c.if-out-end.false) c.write_digits.ensures c.write_digits-2.ensures c.write_line.ensures
-    ∙ rw c.wide8-float.ensures.0
+    around_written _ _ _ _ _ _ (search rules) (rw c.from.ensures at c.if-out-end.false) c.write_digits.ensures c.write_digits-2.ensures c.write_line.ensures
+    ∙ rw c.from-float.ensures

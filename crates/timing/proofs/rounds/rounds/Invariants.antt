@@ -1,10 +1,7 @@
 -- `rounds` meets its contract: after i rounds the sum is `total` of i, and a round is `total_more`.
-use Rattle.std.proofs.Common.{◌≡◌, ◌-◌, ◌≤◌}
+use Rattle.std.proofs.Common.{◌≡◌}
 use Rattle.timing.specs.Rounds.{value_of, asked, total}
 use Rattle.timing.proofs.rounds.rounds.Given as goal
 
 abbrev pub invariant-loop-i : goal.invariant-loop-i
-invariant-loop-i l = (l.i ≤ l.times) × (l.sum ≡ total (value_of (asked l.kind l.text l.a l.b)) (value_of (asked l.kind l.text l.b l.a)) l.i)
-
-abbrev pub decreases-loop-i : goal.decreases-loop-i
-decreases-loop-i l = l.times - l.i
+invariant-loop-i l = l.sum ≡ total (value_of (asked l.kind l.text l.a l.b)) (value_of (asked l.kind l.text l.b l.a)) l.i

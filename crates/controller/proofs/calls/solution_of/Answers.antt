@@ -1,0 +1,18 @@
+-- `solution_of` meets its contract: the text is refused, or the search on its records is answered.
+use Rattle.std.proofs.Common.{refl, ap, ◌∙◌}
+use Rattle.network.specs.Answers.{valued}
+use Rattle.network.specs.AnswerLaws.{handed_on}
+use Rattle.frames.specs.ReadingLaws.{read_refused, read_accepted}
+use Rattle.searches.specs.Results.{result_of}
+use Rattle.controller.specs.Calls.{text_solved}
+use Rattle.controller.specs.CallLaws.{text_untouched, text_called}
+use Rattle.controller.proofs.calls.solution_of.Goals as goal
+
+pub returns-in_err-network : goal.returns-in_err-network
+unfolding text_solved
+returns-in_err-network c =
+    ap (λ a. record { answer = valued result_of a; out = c.args.out.now }) (handed_on _ _ c.from_residual.ensures.1) ∙ text_untouched _ _ _ (read_refused _ refl c.in_err-network.ensures)
+
+pub returns : goal.returns
+unfolding text_solved
+returns c = text_called _ _ _ (read_accepted _ refl c.in_ok-network.ensures) c.solve.ensures

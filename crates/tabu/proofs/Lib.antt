@@ -1,0 +1,2 @@
+mod HeldIds
+mod RoundReads

@@ -1,6 +1,0 @@
--- `at_base` meets its contract: what it holds is the start of the definition's rounds.
-use Rattle.tabu.specs.TabuRounds.{base_held}
-use Rattle.tabu.proofs.tabu.at_base.Goals as goal
-
-pub returns : goal.returns
-returns c = λ n b r. base_held n _ _ _ _ b r c.new.ensures
