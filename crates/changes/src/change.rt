@@ -62,8 +62,10 @@ impl Change {
         requires made { Made network present.now wanted.now self.now }
         ensures { answer_of result ≡ check_locked (records_of network) present.now wanted.now }
     {
-        let switches = &network.switches[..usize::from(network.switch_count)];
-        for (at, switch) in switches.iter().enumerate() {
+        // Taken out of the network first: lent from it, the whole network would be copied wherever it is handed over.
+        let switches = network.switches;
+        let listed = &switches[..usize::from(network.switch_count)];
+        for (at, switch) in listed.iter().enumerate() {
             let before = flagged(&self.present_live, switch.branch_idx);
             let after = flagged(&self.wanted_live, switch.branch_idx);
             if is_locked_difference(*switch, present[at] != wanted[at], before, after) {

@@ -58,12 +58,29 @@ module _ (before : List Bus) {n : ℕ} {ids first next : List ℕ} (held : Holdi
       rw (← put_before held n b.from_bus p within e, ← put_before held n b.to_bus q within f) j
 
 -- a switch, with those before it. Where its branch position has no count it is refused by row 6 already
-pub switch_judged : (h : Head) (before : List Switch) {i : ℕ} {ids first next : List ℕ} → Holding i (map switch_id before) ids first next
+pub switch_judged : (h : Head) (before : List Switch) (s : Switch) (branches : ℕ) (algorithm : ReconfigAlgorithm) (twice : Bool) (onBranch : ℕ) (counted : List ℕ) (y t place : ℕ)
+    → h.branches ≡ branches → h.algorithm ≡ algorithm → branches ≤ 512
+    → twice ≡ among s.id (map switch_id before) → onBranch ≡ cond (ltb y 512) (get_or counted y 0) 0 → counted ≡ counts 512 (map on before) → y ≡ s.branch_idx → t ≡ ties before
+    → judge (switch_row s branches algorithm twice onBranch t) place ≡ judge (switch_faults h before s) place
+unfolding switch_faults judge
+switch_judged h before s branches algorithm twice onBranch counted y t place b m small e d f i q =
+    rw (b, m, e, d, f, i, q) (go (ltb s.branch_idx 512) refl)
+  where
+    row : ℕ → List Fault
+    row n = switch_row s branches algorithm (among s.id (map switch_id before)) n (ties before)
+
+    go : (k : Bool) → ltb s.branch_idx 512 ≡ k
+        → judge (row (cond (ltb s.branch_idx 512) (get_or (counts 512 (map on before)) s.branch_idx 0) 0)) place ≡ judge (row (times s.branch_idx (map on before))) place
+    go true k = rw (k, count_at 512 s.branch_idx (map on before) (ltb-true s.branch_idx 512 k))
+    go false k = rw (le-leb branches s.branch_idx (let l = ltb-false s.branch_idx 512 k in omega arith))
+
+-- the same by rows of the ids before it
+pub switch_judged_by_rows : (h : Head) (before : List Switch) {i : ℕ} {ids first next : List ℕ} → Holding i (map switch_id before) ids first next
     → (s : Switch) (count p on_branch : ℕ) (counted : List ℕ) (t : ℕ) {a : Judgement} (place : ℕ)
     → h.branches ≤ 512 → i ≤ count → p ≡ position_of ids first next count s.id → on_branch ≡ get_or counted s.branch_idx 0 → counted ≡ counts 512 (map on before) → t ≡ ties before
     → a ≡ judge (switch_row s h.branches h.algorithm (ltb p i) on_branch t) place → a ≡ judge (switch_faults h before s) place
 unfolding switch_faults judge
-switch_judged h before {i} held s count p on_branch counted t place small within e f g k j =
+switch_judged_by_rows h before {i} held s count p on_branch counted t place small within e f g k j =
     rw (put_before held count s.id p within e, f, g, k) at j ∙ go (ltb s.branch_idx 512) refl
   where
     row : ℕ → List Fault

@@ -91,7 +91,8 @@ fn check_switch_list(
     Ok(())
 }
 
-// The first refusal of the records, head, buses, branches, switches. Branches from a bus to itself pass in a stored text alone.
+// The first refusal of the records, head, buses, branches, switches. Branches from a bus to itself pass in a stored text alone. The network is copied behind the
+// test of the head: lent from as it came, it would be copied wherever it is handed on.
 pub fn check(network: PowerNetwork, stored: bool) -> Result<(), Refusal>
     ensures { answer_of result ≡ check_lines stored (records_of network) }
 {
@@ -102,9 +103,10 @@ pub fn check(network: PowerNetwork, stored: bool) -> Result<(), Refusal>
         network.base_mva,
         network.max_iterations,
     )?;
-    let buses = &network.buses[..usize::from(network.bus_count)];
-    let branches = &network.branches[..usize::from(network.branch_count)];
-    let switches = &network.switches[..usize::from(network.switch_count)];
+    let records = network;
+    let buses = &records.buses[..usize::from(network.bus_count)];
+    let branches = &records.branches[..usize::from(network.branch_count)];
+    let switches = &records.switches[..usize::from(network.switch_count)];
     check_buses_and_branches(buses, branches, stored)?;
     let start = 2 + network.bus_count + network.branch_count;
     check_switch_list(switches, start, network.branch_count, network.algorithm)

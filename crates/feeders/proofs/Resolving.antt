@@ -1,8 +1,8 @@
 -- An id that is looked up in rows gives the end of a branch; and the ends of the branches while they are looked up, by rising position.
 use Rattle.std.specs.Prelude.{◌≡◌, refl, Bool, true, false, cond, List, ℕ, ◌+◌, ◌<◌, ◌≤◌, min, ltb, length, get_or, take, set, replicate}
-use Rattle.std.proofs.Common.{◌∙◌, arith, length-take, get_or-take, lt-ltb, le-ltb, ltb-true, ltb-false}
+use Rattle.std.proofs.Common.{ap, ◌∙◌, arith, length-take, get_or-take, lt-ltb, le-ltb, ltb-true, ltb-false}
 use Rattle.numbers.specs.Choose.{index_of}
-use Rattle.numbers.specs.TableLaws.{replicate_table, table_cong, any_default, filled, renewed, filled_none, filled_more}
+use Rattle.numbers.specs.TableLaws.{replicate_table, table_cong, any_default, filled, renewed, filled_none, filled_more, filled_within}
 use Rattle.network.specs.declared.branch.Branch.{Branch}
 use Rattle.checks.specs.FaultLaws.{among_index}
 use Rattle.ids.specs.declared.rows.IdRows.{IdRows}
@@ -55,3 +55,15 @@ module _ (id : Branch → ℕ) (ids : List ℕ) where
       go k h false e =
           let beyond = ltb-false k count e in
           rw (e, le-ltb k (length front) (omega (arith, long))) refl
+
+-- the same for one array of branches: no more than its entries are looked up
+module _ (end : Branch → ℕ) (ids : List ℕ) (branches : List Branch) where
+  abbrev end_of : ℕ → ℕ
+  end_of k = end_at ids (end (get_or branches k no_branch))
+
+  pub ends_filled : ℕ → List ℕ
+  ends_filled k = filled end_of 0 512 k
+
+  pub ends_end : (count k : ℕ) → k ≡ min count 512 → ends_filled k ≡ ends_of end ids branches count
+  unfolding ends_filled filled
+  ends_end count k e = ap ends_filled e ∙ filled_within end_of 0 512 count

@@ -1,6 +1,5 @@
 // A feeder's records as a graph: ids are resolved to positions once.
 ghost use Rattle.std.specs.Prelude.{◌≡◌, List, ℕ, ◌≤◌, length};
-ghost use Rattle.std.specs.Fn.{FnReturnsAt};
 ghost use Rattle.network.specs.declared.branch.Branch.{Branch};
 ghost use Rattle.ids.specs.Ids.{id_rows};
 ghost use Rattle.feeders.specs.FeederRows.{end_at, ends_of, feeder_graph};
@@ -20,7 +19,7 @@ fn end_at(rows: &IdRows, n: usize, id: u16) -> u8
 }
 
 // The position of one end of each branch; behind the branches stands 0.
-fn ends_of<F: Fn(&Branch) -> u16>(
+fn ends_of<F: Fn(Branch) -> u16>(
     branches: &[Branch],
     end: F,
     rows: &IdRows,
@@ -28,12 +27,12 @@ fn ends_of<F: Fn(&Branch) -> u16>(
 ) -> [u8; Graph::MAX_BRANCHES]
     requires few { (length branches.now ≤ 512) × (n ≤ 256) }
     requires callable { F.IsAlwaysCallable end }
-    ensures { (id : Branch → ℕ) → ((b : Branch) (r : ℕ) → FnReturnsAt F.Fn end b r → r ≡ id b) → (l : List ℕ) → n ≡ length l → rows.now ≡ id_rows l
+    ensures { (id : Branch → ℕ) → ((b : Branch) (r : ℕ) → F.post end b r → r ≡ id b) → (l : List ℕ) → n ≡ length l → rows.now ≡ id_rows l
         → result ≡ ends_of id l branches.now (length branches.now) }
 {
     let mut ends = [0; Graph::MAX_BRANCHES];
     for (k, branch) in branches.iter().enumerate() {
-        ends[k] = end_at(rows, n, end(branch));
+        ends[k] = end_at(rows, n, end(*branch));
     }
     ends
 }
@@ -46,8 +45,9 @@ pub fn graph_of(network: PowerNetwork) -> Graph
     let rows = bus_rows(network.buses, bus_count);
     let n = bus_count.min(PowerNetwork::MAX_BUSES);
     let m = usize::from(network.branch_count).min(PowerNetwork::MAX_BRANCHES);
-    let branches = &network.branches[..m];
-    let from = ends_of(branches, |branch| branch.from_bus, &rows, n);
-    let to = ends_of(branches, |branch| branch.to_bus, &rows, n);
+    let branches = network.branches;
+    let listed = &branches[..m];
+    let from = ends_of(listed, |branch| branch.from_bus, &rows, n);
+    let to = ends_of(listed, |branch| branch.to_bus, &rows, n);
     Graph::new(network.bus_count, network.branch_count, from, to)
 }

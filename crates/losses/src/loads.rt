@@ -17,11 +17,16 @@ pub struct Loads {
     pub supply_at: Option<u8>,
 }
 
-// The loads of buses, in their order. An array of buses is handed over, so that the network is not copied for its loads.
+// The loads of buses, in their order. An array of buses is handed over, so that the network is not copied for its loads. By a loop: `map` of an array goes over a second
+// array of options.
 fn loads_at(buses: [Bus; PowerNetwork::MAX_BUSES]) -> [Power; PowerNetwork::MAX_BUSES]
     ensures { result ≡ loads_at buses }
 {
-    buses.map(|bus| bus.pd)
+    let mut loads = [Power(0.0); PowerNetwork::MAX_BUSES];
+    for i in 0..PowerNetwork::MAX_BUSES {
+        loads[i] = buses[i].pd;
+    }
+    loads
 }
 
 // The position of the supply bus, where one is named; 0 where none is listed with its id. The network is copied behind the test for a supply: without one it is not copied.

@@ -67,8 +67,11 @@ pub fn without_own_loops(network: PowerNetwork) -> PowerNetwork
 {
     let branch_count = usize::from(network.branch_count).min(PowerNetwork::MAX_BRANCHES);
     let switch_count = usize::from(network.switch_count).min(PowerNetwork::MAX_SWITCHES);
-    let listed_branches = &network.branches[..branch_count];
-    let listed_switches = &network.switches[..switch_count];
+    // Taken out of the network first: lent from it, the whole network would be copied.
+    let all_branches = network.branches;
+    let all_switches = network.switches;
+    let listed_branches = &all_branches[..branch_count];
+    let listed_switches = &all_switches[..switch_count];
     let empty = PowerNetwork::new(network.base_mva, network.algorithm, network.max_iterations);
     let mut branches = empty.branches;
     let mut switches = empty.switches;

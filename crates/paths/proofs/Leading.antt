@@ -1,10 +1,11 @@
--- The way back from a bus to the start of a walk, and a list turned round.
+-- The other end of a branch, the way back from a bus to the start of a walk, and a list turned round.
 use mathlib.Core.Path.{◌≡◌, refl, sym, ◌∙◌}
-use mathlib.Core.Bool.{Bool, true, false}
+use mathlib.Core.Bool.{Bool, true, false, cond}
 use mathlib.Core.List.{List, [], ◌∷◌, ◌++◌, reverse, append-nil}
-use Prim.Native.Nat.{ℕ, suc, ◌+◌, ◌-◌, ◌<◌}
+use Prim.Native.Nat.{ℕ, suc, ◌+◌, ◌*◌, ◌-◌, ◌<◌, ◌≤◌}
 use native.Mathlib.Omega.{arith}
-use lib.ListN.{length, get_or, set, drop, take, replicate, length-append, length-reverse}
+use lib.ListN.{length, get_or, set, drop, take, replicate, length-append, length-reverse, get_or-eq_default}
+use lib.Dec.{eqb}
 use lib.Seq.{append_snoc, take_at, drop_at}
 use borrow.Author.Tests.{eq-eqb, ne_eqb}
 use Rattle.numbers.specs.Arrays.{padded, padded_more}
@@ -13,9 +14,31 @@ use Rattle.graph.specs.Graph.{Net}
 use Rattle.std.specs.Prelude.{Option, None, is_some}
 use Rattle.graph.specs.declared.rows.Graph.{Graph}
 use Rattle.graph.specs.Walk.{Visit, reached, walk_by, by_of, across, back}
-use Rattle.graph.specs.Rows.{filled, row_neighbours, row_net, row_path, path_of}
+use Rattle.graph.specs.Rows.{filled, row_neighbours, row_net, across_far, row_path, path_of}
 use Rattle.paths.specs.Ways.{ways_by}
 use Rattle.paths.proofs.Noting.{reached_read}
+
+-- the other end
+module _ (far : List ℕ) (k u : ℕ) where
+  pub across_none : length far ≡ 1024 → 512 ≤ k → 0 ≡ across_far far k u
+  unfolding across_far across
+  across_none l h =
+      let a : get_or far (2 * k) 0 ≡ 0 = get_or-eq_default far 0 (omega arith) in
+      let b : get_or far (2 * k + 1) 0 ≡ 0 = get_or-eq_default far 0 (omega arith) in
+      rw (a, b) (either (eqb 0 u))
+    where
+      either : (b : Bool) → ◌≡◌ {A = ℕ} 0 (cond b 0 0)
+      either true = refl
+      either false = refl
+
+  module _ (at after : ℕ) (e₀ : at ≡ 2 * k) (e₁ : after ≡ 2 * k + 1) where
+    pub across_from : get_or far after 0 ≡ u → get_or far at 0 ≡ across_far far k u
+    unfolding across_far across
+    across_from e = rw (eq-eqb (get_or far (2 * k + 1) 0) u (rw e₁ at e), e₀)
+
+    pub across_to : (get_or far after 0 ≡ u → ⊥) → get_or far after 0 ≡ across_far far k u
+    unfolding across_far across
+    across_to n = rw (ne_eqb (get_or far (2 * k + 1) 0) u (λ e. n (rw e₁ e)), e₁)
 
 -- the way back
 module _ (N : Net) (o : List Visit) (start b : ℕ) where

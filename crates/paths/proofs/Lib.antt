@@ -1,2 +1,3 @@
 pub mod Noting
 pub mod Leading
+pub mod Ends

@@ -93,10 +93,16 @@ fn bfs_path(graph: &Graph, live: &[bool; Graph::MAX_BRANCHES], from: u8, to: u8)
     }
 }
 
-// The path between the ends of branch k, beginning at its from bus.
+// The path between the ends of branch k, beginning at its from bus. Beyond the branches that a graph has room for both ends are bus 0, so the path is empty.
 pub fn path_of_ends(graph: Graph, live: [bool; Graph::MAX_BRANCHES], k: u16) -> PathBranches
     ensures { result ≡ path_of (row_ends_path graph live k) }
 {
+    if usize::from(k) >= Graph::MAX_BRANCHES {
+        return PathBranches {
+            count: 0,
+            branch: [0; Graph::MAX_BUSES],
+        };
+    }
     let (from, to) = ends_of(&graph, k);
     bfs_path(&graph, &live, from, to)
 }

@@ -50,9 +50,13 @@ module _ (ws : List Switch) (s : List ℕ) where
   abbrev pub open_so_far : ℕ → ℕ → Bool
   open_so_far i k = open_on (take i ws) (take i s) k
 
-  pub open_none : replicate 512 false ≡ table (open_so_far 0) 512
+  pub open_none : (k : ℕ) → open_so_far 0 k ≡ false
   unfolding open_on
-  open_none = replicate_table false 512
+  open_none k = refl
+
+  -- the array of the code
+  pub none_flagged : replicate 512 false ≡ table (open_so_far 0) 512
+  none_flagged = replicate_table false 512 ∙ table_cong _ _ 512 (λ k h. sym (open_none k))
 
   module _ (i : ℕ) (h : i < length ws) (l : i < length s) where
     open_next : (k : ℕ) → open_so_far (i + 1) k ≡ (open_so_far i k || (eqb (get_or ws i no_switch).branch_idx k && eqb (get_or s i 0) 1))

@@ -53,8 +53,9 @@ pub fn build_base_configuration(network: PowerNetwork) -> NetworkConfiguration
     ensures { result ≡ configuration_of (base_state (records_of network)) }
 {
     let count = usize::from(network.switch_count).min(NetworkConfiguration::MAX_SWITCHES);
+    let switches = network.switches;
     let mut configuration = NetworkConfiguration::new();
-    for (i, switch) in network.switches[..count].iter().enumerate() {
+    for (i, switch) in switches[..count].iter().enumerate() {
         configuration.switches[i] = u8::from(switch.normally_open);
     }
     configuration
@@ -107,16 +108,16 @@ fn live_list(
 ) -> [bool; PowerNetwork::MAX_BRANCHES]
     ensures { result ≡ table (live_by branches.now opened.now) 512 }
 {
+    let count = branches.len().min(PowerNetwork::MAX_BRANCHES);
     let mut flags = [false; PowerNetwork::MAX_BRANCHES];
-    for (k, open) in opened.iter().enumerate() {
-        flags[k] = branches
-            .get(k)
-            .is_some_and(|branch| is_live(*branch, *open));
+    for (k, branch) in branches[..count].iter().enumerate() {
+        flags[k] = is_live(*branch, opened[k]);
     }
     flags
 }
 
-// A flag for each branch position: whether the branch is live in the state.
+// A flag for each branch position: whether the branch is live in the state. The lists are taken out of the network first: lent from it, they make the compiler copy all of
+// it, here and where it is handed over.
 pub fn live_branches(
     network: PowerNetwork,
     configuration: NetworkConfiguration,
@@ -125,8 +126,10 @@ pub fn live_branches(
 {
     let switch_count = usize::from(network.switch_count).min(PowerNetwork::MAX_SWITCHES);
     let branch_count = usize::from(network.branch_count).min(PowerNetwork::MAX_BRANCHES);
-    let opened = open_branches(&network.switches[..switch_count], &configuration.switches);
-    live_list(&network.branches[..branch_count], &opened)
+    let switches = network.switches;
+    let branches = network.branches;
+    let opened = open_branches(&switches[..switch_count], &configuration.switches);
+    live_list(&branches[..branch_count], &opened)
 }
 
 // For each branch position how many of the switches on it are open in the state: counted, where `open_branches` notes whether there is one, and each is promised by a
@@ -138,8 +141,9 @@ pub fn open_counts(
     ensures { result ≡ table (open_count (records_of network) configuration.switches) 512 }
 {
     let n = usize::from(network.switch_count).min(PowerNetwork::MAX_SWITCHES);
+    let switches = network.switches;
     let mut counts = [0u16; PowerNetwork::MAX_BRANCHES];
-    for (switch, byte) in network.switches[..n].iter().zip(&configuration.switches) {
+    for (switch, byte) in switches[..n].iter().zip(&configuration.switches) {
         let on = usize::from(switch.branch_idx);
         if *byte == NetworkConfiguration::OPEN && on < PowerNetwork::MAX_BRANCHES {
             counts[on] += 1;

@@ -6,7 +6,7 @@ use Rattle.ids.specs.PutIds.{none_held}
 use Rattle.checks.specs.Counts.{no_counts}
 use Rattle.network.specs.AnswerLaws.{handed_on}
 use Rattle.checks.specs.CheckLaws.{passed_none, passed_more, passed_refused, passed_all}
-use Rattle.checks.specs.FaultLaws.{switch_judged, passed_so, count_more, ties_more, ties_before, put_more}
+use Rattle.checks.specs.FaultLaws.{switch_judged_by_rows, passed_so, count_more, ties_more, ties_before, put_more}
 use Rattle.checks.proofs.check.check_switch_list.Goals as goal
 use Rattle.checks.proofs.check.check_switch_list.Goals.{In_ok-judge_switch}
 
@@ -17,7 +17,7 @@ loop-at-init c = record { passed = λ h p q. passed_none _ _ _; counted_are = no
 pub returns-in_err-judge_switch : goal.returns-in_err-judge_switch
 returns-in_err-judge_switch c h p q =
     let inv = c.loop-at.invariant in
-    let judged = switch_judged h _ inv.held _ _ _ _ _ _ _ (omega (arith, p)) (omega arith) c.position_of.ensures (rw c.from-on.ensures at c.switches_on-before.ensures) inv.counted_are inv.ties_are (rw (p, q) c.in_err-judge_switch.ensures) in
+    let judged = switch_judged_by_rows h _ inv.held _ _ _ _ _ _ _ (omega (arith, p)) (omega arith) c.position_of.ensures (rw c.from-on.ensures at c.switches_on-before.ensures) inv.counted_are inv.ties_are (rw (p, q) c.in_err-judge_switch.ensures) in
     handed_on _ _ c.from_residual.ensures.1 ∙ passed_refused _ _ _ (inv.passed h p q) _ c.loop-at-test.true judged
 
 -- a switch that passed is on a branch, and at most one before it is
@@ -42,7 +42,7 @@ loop-at-preserved c =
     let inv = c.loop-at.invariant in
     record {
       passed = λ h p q.
-          let judged = switch_judged h _ inv.held _ _ _ _ _ _ _ (omega (arith, p)) (omega arith) c.position_of.ensures (rw c.from-on.ensures at c.switches_on-before.ensures) inv.counted_are inv.ties_are (rw (p, q) c.in_ok-judge_switch.ensures) in
+          let judged = switch_judged_by_rows h _ inv.held _ _ _ _ _ _ _ (omega (arith, p)) (omega arith) c.position_of.ensures (rw c.from-on.ensures at c.switches_on-before.ensures) inv.counted_are inv.ties_are (rw (p, q) c.in_ok-judge_switch.ensures) in
           passed_more _ _ _ (inv.passed h p q) _ c.loop-at-test.true judged;
       counted_are = count_more _ _ _ _ _ _ c.loop-at-test.true inv.counted_are c.from-on.ensures (on_branch (goal.at.loop-at-preserved c).In_ok-judge_switch).0 c.switches_on-before.ensures;
       ties_are = ties_more _ _ _ _ c.loop-at-test.true inv.ties_are _ c.from-ties.ensures;

@@ -2,12 +2,12 @@
 use Rattle.std.proofs.Common.{rules, ◌≡◌, ◌+◌, ◌∙◌, [], ◌∷◌, ◌++◌, length, length-append}
 use Rattle.std.proofs.lemmas.Slice.Zip.{zip_turn, zip_end}
 use Rattle.network.specs.Records.{no_switch}
-use Rattle.states.specs.LiveLaws.{open_none, open_closed, open_beyond, open_set, open_all}
+use Rattle.states.specs.LiveLaws.{none_flagged, open_closed, open_beyond, open_set, open_all}
 use Rattle.states.proofs.configuration.open_branches.Goals as goal
 use Rattle.states.proofs.configuration.open_branches.Goals.{else-byte-eq-OPEN-via-then-byte-eq-OPEN+else-k-lt-MAX_BRANCHES, else-byte-eq-OPEN-via-else-byte-eq-OPEN}
 
 pub loop-switch-init : goal.loop-switch-init
-loop-switch-init c = open_none c.args.switches.now c.args.state.now
+loop-switch-init c = none_flagged c.args.switches.now c.args.state.now
 
 pub loop-switch-preserved-then-k-lt-MAX_BRANCHES : goal.loop-switch-preserved-then-k-lt-MAX_BRANCHES
 loop-switch-preserved-then-k-lt-MAX_BRANCHES c =

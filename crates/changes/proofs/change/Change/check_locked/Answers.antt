@@ -1,11 +1,14 @@
 -- `check_locked` meets its contract. The invariant: none of the switches before `at` is locked where it must move.
-use Rattle.std.proofs.Common.{arith, rules}
+use Rattle.std.proofs.Common.{arith, rules, length-take}
 use Rattle.changes.specs.Passing.{checked_counts}
 use Rattle.changes.proofs.Locking.{start_unlocked, bytes_long, one_unlocked, one_locked, all_unlocked}
 use Rattle.changes.proofs.change.Change.check_locked.Goals as goal
 
-pub shared_ref_as_front-switches : goal.shared_ref_as_front-switches
-shared_ref_as_front-switches c = omega (arith, c.from.ensures, (checked_counts _ c.requires.checked).2)
+pub slice_bounds-switches-end : goal.slice_bounds-switches-end
+slice_bounds-switches-end c = omega (arith, c.from.ensures, (checked_counts _ c.requires.checked).2)
+
+pub slice_bounds-listed-end : goal.slice_bounds-listed-end
+slice_bounds-listed-end c = omega (arith, c.from.ensures, (checked_counts _ c.requires.checked).2, length-take c.from.result c.args.network.switches)
 
 pub loop-at-init : goal.loop-at-init
 loop-at-init c = start_unlocked _ _ _
