@@ -2,7 +2,7 @@
 use mathlib.Core.Path.{◌≡◌, sym}
 use mathlib.Core.Bool.{Bool, true, false}
 use mathlib.Core.List.{List}
-use Prim.Native.Nat.{ℕ, suc, ◌-◌, min}
+use Prim.Native.Nat.{ℕ, suc, ◌+◌, ◌-◌, min}
 use native.Mathlib.Omega.{arith}
 use native.Mathlib.Numerals.{add-one}
 use lib.ListN.{length, get_or, take, get_or-eq_default}
@@ -13,7 +13,7 @@ use Rattle.std.proofs.lemmas.Bool.{cases_lt}
 use Rattle.std.specs.List.{count_by}
 use Rattle.std.proofs.lemmas.List.Sums.{count_by_more_yes, count_by_more_no}
 use Rattle.std.proofs.lemmas.List.{take_all}
-use Rattle.numbers.specs.Counts.{count, count_yes, count_no}
+use Rattle.numbers.specs.Counts.{count, count_yes, count_no, count_idle}
 use Rattle.graph.specs.declared.rows.Graph.{Graph}
 use Rattle.graph.specs.declared.walks.Walk.{Walk}
 use Rattle.graph.specs.Walk.{walk_by}
@@ -38,6 +38,17 @@ live_within live m n long e = go (cases_lt m 512)
     go : (m < 512) ⊎ (512 ≤ m) → count (flag live) m ≡ count_by (λ b. b) (take n live)
     go (inl l) = let same : n ≡ m = omega arith in rw same (live_taken live m)
     go (inr l) = rw (live_taken live m, take_all m live (omega arith), take_all n live (omega arith))
+
+-- one flag more, and the flags behind the array's end
+module _ (live : List Bool) (k : ℕ) {n : ℕ} (e : n ≡ count (flag live) k) where
+  pub one_live : get_or live k false ≡ true → n + 1 ≡ count (flag live) (k + 1)
+  one_live t = rw (add-one k, count_yes (flag live) k t, e) (omega arith)
+
+  pub one_dead : get_or live k false ≡ false → n ≡ count (flag live) (k + 1)
+  one_dead t = rw (add-one k, count_no (flag live) k t) e
+
+pub all_counted : (live : List Bool) (m : ℕ) → length live ≡ 512 → count (flag live) (min m 512) ≡ count (flag live) m
+all_counted live m l = sym (count_idle (flag live) (min m 512) m (omega arith) (λ x a b. get_or-eq_default live false (omega arith)))
 
 -- radiality by the three tests of the code
 module _ (g : Graph) (live : List Bool) where

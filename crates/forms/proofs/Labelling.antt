@@ -1,9 +1,9 @@
--- A branch added, by rising position: what then holds of the labels, of the first branch that closed a loop and of the links.
-use Rattle.std.proofs.Common.{◌≡◌, ◌≢◌, refl, sym, ap, ◌∙◌, Bool, true, false, Option, Some, None, List, map, ℕ, ◌+◌, ◌-◌, ◌≤◌, ◌<◌, min, length, get_or, add-one, arith}
+-- Labels in an array: each bus its own, one label made another by rising position. And a branch added, by rising position: what then holds of the labels, of the first branch that closed a loop and of the links.
+use Rattle.std.proofs.Common.{◌≡◌, ◌≢◌, refl, sym, ap, ◌∙◌, Bool, true, false, Option, Some, None, List, map, ℕ, ◌+◌, ◌-◌, ◌≤◌, ◌<◌, min, length, get_or, set, replicate, add-one, arith}
 use Rattle.std.specs.Option.{option_or}
 use Rattle.std.proofs.Math.ListN.{get_or-eq_default}
 use Rattle.numbers.specs.UpTo.{up_to, table}
-use Rattle.numbers.specs.TableLaws.{get_or_table, table_cong, map_table}
+use Rattle.numbers.specs.TableLaws.{get_or_table, as_table, table_cong, map_table, replicate_table, renewed, renewed_none, renewed_next, renewed_more, renewed_all, filled, filled_none, filled_all}
 use Rattle.numbers.specs.Choose.{least}
 use Rattle.numbers.specs.FirstLaws.{least_same, least_kept, least_idle, least_found}
 use Rattle.numbers.specs.Counts.{count, count_yes, count_no, count_le, count_idle}
@@ -16,6 +16,35 @@ use Rattle.graph.specs.declared.rows.Graph.{Graph}
 use Rattle.graph.specs.Rows.{flag, row_net, row_radial}
 use Rattle.forms.specs.declared.form.Added.{Added}
 use Rattle.forms.specs.Adding.{Adding, AllAdded}
+
+-- ---- own labels
+pub none_own : replicate 256 0 ≡ filled (λ (x : ℕ). x) 0 256 0
+none_own = replicate_table 0 256 ∙ filled_none (λ x. x) 0 256
+
+pub all_own : (x : ℕ) {l : List ℕ} → l ≡ filled (λ (x : ℕ). x) 0 256 x → 256 ≤ x → l ≡ table (λ x. x) 256
+all_own x e h = e ∙ filled_all (λ x. x) 0 256 x (λ j k m. absurd (omega arith))
+
+-- ---- one label made another
+module _ (f : ℕ → ℕ) (l : List ℕ) where
+  -- in the first x entries
+  unfoldable pub changed_to : ℕ → List ℕ
+  changed_to x = renewed (λ j. f (get_or l j 0)) (λ j. get_or l j 0) 256 x
+
+  module _ (long : length l ≡ 256) where
+    as_read : l ≡ table (λ j. get_or l j 0) 256
+    as_read = as_table _ 256 0 l long (λ i k. refl)
+
+    pub none_changed : l ≡ changed_to 0
+    unfolding changed_to
+    none_changed = as_read ∙ renewed_none _ _ 256
+
+    pub all_changed : (x : ℕ) {m : List ℕ} → m ≡ changed_to x → 256 ≤ x → m ≡ map f l
+    unfolding changed_to
+    all_changed x e h = e ∙ renewed_all _ _ 256 x (λ j k m. absurd (omega arith)) ∙ sym (ap (map f) as_read ∙ map_table f (λ j. get_or l j 0) 256)
+
+  pub one_changed : (x : ℕ) {m : List ℕ} → m ≡ changed_to x → x < 256 → (v : ℕ) → v ≡ f (get_or m x 0) → set m x v ≡ changed_to (x + 1)
+  unfolding changed_to
+  one_changed x e h v q = rw (q, e, renewed_next (λ j. f (get_or l j 0)) (λ j. get_or l j 0) 256 x 0 h) (renewed_more (λ j. f (get_or l j 0)) (λ j. get_or l j 0) 256 x h)
 
 -- ---- a branch added
 module _ {N : Net} {E : ℕ → Bool} {k : ℕ} {added : Added} (w : Adding N E k added) where

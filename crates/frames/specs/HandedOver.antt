@@ -1,5 +1,5 @@
 -- Records handed over: what a value's fields say of the records that it lists. Beyond its arrays these are zeros.
-use Rattle.std.specs.Prelude.{List, [], ◌∷◌}
+use Rattle.std.specs.Prelude.{Bool, true, false, cond, None, Some, List, [], ◌∷◌}
 use Prim.Native.Nat.{ℕ, zero, suc}
 use Rattle.std.proofs.Common.{lit<}
 use Rattle.std.specs.Float.Ieee.{of_bits, fits}
@@ -41,6 +41,11 @@ module _ {A : Type 0} (P : A → Type 0) (none : A) (p : P none) where
   unfolding table
   each_listed l h zero = tt
   each_listed l h (suc n) = each_append P (table (λ i. get_or l i none) n) (get_or l n none ∷ []) (each_listed l h n) (each_anywhere P l none h p n, tt)
+
+-- a supply, named or not, is as short as its id
+supply_named : (b : Bool) (id : ℕ) → Short id → Each Short (supplies (cond b (Some id) None))
+supply_named true id h = (h, tt)
+supply_named false id h = tt
 
 pub typed_writable : (n : PowerNetwork) → Typed n → Writable (records_of n)
 unfolding records_of head_of

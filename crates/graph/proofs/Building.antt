@@ -8,10 +8,24 @@ use lib.Seq.{get_or-set_same, get_or-set_other}
 use native.Mathlib.Omega.{arith}
 use Rattle.numbers.specs.UpTo.{up_to, up_to_more}
 use Rattle.numbers.specs.TableLaws.{as_table}
-use borrow.Author.Tests.{lt-ltb, le-ltb}
+use borrow.Author.Tests.{lt-ltb, le-ltb, eq-eqb, ne_eqb}
 use Rattle.graph.specs.declared.rows.Graph.{Graph}
-use Rattle.graph.specs.Rows.{far_end, far_of, rows, with_rows, put_branch, rows_of, graph_of}
+use Rattle.graph.specs.Rows.{far_end, far_of, rows, with_rows, put_half, put_branch, rows_of, graph_of}
 use Rattle.graph.specs.RowsHold.{far_even, far_odd}
+
+-- a branch goes into the row of its one bus, or into those of both
+module _ (first next : List ℕ) (k f t : ℕ) where
+  pub put_once : {first' next' : List ℕ} → f ≡ t → first' ≡ set first f (2 * k) → next' ≡ set next (2 * k) (get_or first f 0)
+      → rows first' next' ≡ put_branch k f t (rows first next)
+  unfolding put_branch put_half
+  put_once e p q = rw (eq-eqb f t e, p, q)
+
+  pub put_twice : {first₁ next₁ first₂ next₂ : List ℕ} → (f ≡ t → ⊥)
+      → first₁ ≡ set first t (2 * k + 1) → next₁ ≡ set next (2 * k + 1) (get_or first t 0)
+      → first₂ ≡ set first₁ f (2 * k) → next₂ ≡ set next₁ (2 * k) (get_or first₁ f 0)
+      → rows first₂ next₂ ≡ put_branch k f t (rows first next)
+  unfolding put_branch put_half
+  put_twice n p q u v = rw (ne_eqb f t n, u, v, p, q)
 
 module _ (from to : List ℕ) where
   -- the far ends of the first k branches stand in the array of the code

@@ -1,2 +1,3 @@
 pub mod ArrayLengths
 pub mod Building
+pub mod FormCases

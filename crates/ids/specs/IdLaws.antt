@@ -12,7 +12,7 @@ use Rattle.std.proofs.lemmas.List.{length-map, get_or-replicate}
 use Rattle.std.proofs.Math.Seq.{get_or-set_same}
 use borrow.Author.Tests.{lt-ltb, le-ltb, eq-eqb, ne_eqb, ltb-true, ltb-false}
 use Rattle.numbers.specs.UpTo.{up_to, up_to_more, table}
-use Rattle.numbers.specs.TableLaws.{get_or_table, replicate_table, table_cong, table_set}
+use Rattle.numbers.specs.TableLaws.{get_or_table, replicate_table, table_cong, table_set, filled, filled_none, filled_more, filled_all}
 use Rattle.numbers.specs.Choose.{index_of}
 use Rattle.numbers.specs.ChooseLaws.{index_here, index_behind}
 use Rattle.numbers.specs.Parts.{take_within}
@@ -191,6 +191,25 @@ position_found l short ids first next e count x c =
 -- the key at a position of the first n records
 key_at : {A : Type 0} (key : A → ℕ) (n : ℕ) (l : List A) (i : ℕ) (d : A) → i < n → get_or (map key (take n l)) i (key d) ≡ key (get_or l i d)
 key_at key n l i d h = get_or-map key (take n l) i d ∙ ap key (get_or-take n l i d h)
+
+-- ---- the ids of the first n of a list of records, in an array of the code; a record that is none has the id of none
+module _ {A : Type 0} (key : A → ℕ) (none : A) (l : List A) (n : ℕ) where
+  -- of the first i
+  pub ids_filled : ℕ → List ℕ
+  ids_filled i = filled (λ j. get_or (map key (take n l)) j (key none)) (key none) 512 i
+
+  pub no_ids_lem : replicate 512 (key none) ≡ ids_filled 0
+  unfolding ids_filled
+  no_ids_lem = replicate_table (key none) 512 ∙ filled_none _ (key none) 512
+
+  module _ {ids : List ℕ} (i : ℕ) (e : ids ≡ ids_filled i) where
+    pub one_id : i < n → n ≤ 512 → set ids i (key (get_or l i none)) ≡ ids_filled (i + 1)
+    unfolding ids_filled
+    one_id h k = rw (e, ← key_at key n l i none h) (filled_more _ (key none) 512 i (omega arith))
+
+    pub all_ids : n ≤ i → ids ≡ table (λ j. get_or (map key (take n l)) j (key none)) 512
+    unfolding ids_filled
+    all_ids h = e ∙ filled_all _ (key none) 512 i (λ j a b. get_or-eq_default (map key (take n l)) (key none) {n = j} (simp (length-map, length-take) (omega arith)))
 
 -- ---- the rows of the listed ones of an array of records, put in from the last position to the first
 module _ {A : Type 0} (key : A → ℕ) (none : A) (plain : key none ≡ 0) (l : List A) (n : ℕ) where

@@ -1,7 +1,7 @@
 -- The fields of a row, each read at its position, are the row's fields.
-use mathlib.Core.Path.{◌≡◌}
+use mathlib.Core.Path.{◌≡◌, refl}
 use mathlib.Core.List.{List}
-use Prim.Native.Nat.{ℕ, ◌^◌, ◌≤◌, ◌<◌}
+use Prim.Native.Nat.{ℕ, zero, suc, ◌^◌, ◌≤◌, ◌<◌}
 use native.Mathlib.Omega.{arith}
 use native.Mathlib.Nat.{pow-le-pow_right, min-le_left}
 use lib.Dec.{lit<}
@@ -31,3 +31,10 @@ unfolding method_of
 method_is BranchExchange e = rw (← e)
 method_is TabuSearch e = rw (← e)
 method_is Exhaustive e = rw (← e)
+
+-- a byte above the tabu search's is taken for the last method
+pub last_method : (m : ℕ) → 1 < m → Exhaustive ≡ method_of m
+unfolding method_of
+last_method zero h = absurd (omega arith)
+last_method (suc zero) h = absurd (omega arith)
+last_method (suc (suc m)) h = refl

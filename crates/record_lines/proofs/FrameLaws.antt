@@ -4,6 +4,7 @@ use mathlib.Core.List.{List}
 use Prim.Native.Nat.{ℕ, ◌+◌, ◌-◌, ◌<◌}
 use native.Mathlib.Omega.{arith}
 use lib.ListN.{length, take, drop, length-drop}
+use lib.Seq.{length-take-le}
 use Rattle.std.proofs.Common.{Result, Ok, Err}
 use Rattle.network.specs.declared.error.Refusal.{Refusal}
 use Rattle.network.specs.Answers.{Answer, accepted, refused, answer_of, number_of, place_of, ◌and_then◌, Fault, judge}
@@ -26,6 +27,11 @@ module _ (text : List ℕ) (at n : ℕ) where
 
   behind_kind_lem : behind_kind ≡ drop 2 (take n (drop at text))
   behind_kind_lem = part_rest line 2 ∙ ap (drop 2) (part_is text at n)
+
+-- all its characters are there
+module _ (text : List ℕ) (at kind n p : ℕ) (e : accepted tt ≡ judge_frame kind n p (cut (drop at text))) where
+  pub frame_long : length (take n (drop at text)) ≡ n
+  frame_long = length-take-le n (drop at text) (omega (arith, (framed kind n p (drop at text) (sym e)).room))
 
 -- what is judged of it
 module _ (text : List ℕ) (at p kind n : ℕ) (v : Result (Unit {0}) Refusal) (e : answer_of v ≡ judge_frame kind n p (cut (drop at text))) where

@@ -1,3 +1,4 @@
 pub mod FieldLaws
 pub mod FrameLaws
 pub mod HeadLaws
+pub mod NanLaws
