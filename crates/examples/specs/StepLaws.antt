@@ -56,6 +56,7 @@ use Rattle.printing.specs.Calls.{Call}
 use Rattle.printing.specs.CallLaws.{call_is}
 use Rattle.changes.specs.Change.{check_plan}
 use Rattle.plan.specs.declared.pairs.Pair.{Pair}
+use Rattle.plan.specs.declared.list.SwitchList.{SwitchList}
 use Rattle.plan.specs.MadePlans.{made_plan}
 use Rattle.plan.specs.Stored.{made_in}
 use Rattle.plan.specs.MadePlanLaws.{made_refused, made_accepted}
@@ -227,7 +228,7 @@ module _ (n left : PowerNetwork) (l : Left n left) where
       ap (λ (c : Call ℕ). c.out) (call_is _ (text_of (records_of left)) out l.good (omega (arith, room_for_both room)) e)
 
 -- ---- what making a plan answers
-pub made_answer : (N : Network) (present wanted : State) (m : Result (List Pair) Refusal) → made_in m ≡ made_plan N present wanted → (made_in m).answer ≡ check_plan N present wanted
+pub made_answer : (N : Network) (present wanted : State) (m : Result (SwitchList Pair) Refusal) → made_in m ≡ made_plan N present wanted → (made_in m).answer ≡ check_plan N present wanted
 made_answer N present wanted (Ok pairs) e = sym (made_accepted N present wanted (Ok pairs) e refl)
 made_answer N present wanted (Err r) e = made_refused N present wanted (Err r) e refl
 

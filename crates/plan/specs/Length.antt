@@ -1,5 +1,5 @@
--- How long a plan is: as many pairs as branches live in the wanted state are missing, so at most the buses less one, and at most as many moves as switches; how long a
--- plan's text is.
+-- How long a plan is: as many pairs as branches live in the wanted state are missing, so at most the buses less one, and at most as many moves as switches; how long a list of
+-- pairs is, and a plan's text.
 use Rattle.std.specs.Prelude.{◌≡◌, refl, ◌+◌, ◌-◌, ◌*◌, ◌≤◌, length}
 use mathlib.Core.List.{List, [], ◌∷◌, flat_map}
 use Rattle.std.proofs.Common.{arith, length-append}
@@ -16,7 +16,9 @@ use Rattle.feeders.specs.SupplyLaws.{network_records}
 use Rattle.printing.specs.Lengths.{pair_head_length, id_length, plan_length}
 use Rattle.printing.specs.LineTexts.{length_pair}
 use Rattle.changes.specs.Change.{only_in, check_plan}
+use Rattle.plan.specs.declared.pairs.Pair as code
 use Rattle.plan.specs.Plan.{Moves, plan, pairs, moves_of, plan_text}
+use Rattle.plan.specs.Stored.{switches_in, moves_in}
 use Rattle.plan.specs.Missing.{missing, only_so}
 use Rattle.plan.specs.Stages.{leads_missing}
 use Rattle.plan.specs.Planner.{pairs_lead}
@@ -37,6 +39,9 @@ plan_short N present wanted ok =
 pub plan_few : (N : Network) (present wanted : State) → check_plan N present wanted ≡ accepted tt → length (plan N present wanted) ≤ 255
 unfolding feeder
 plan_few N present wanted ok = omega (arith, plan_short N present wanted ok, (accepted_plannable N present wanted ok).joined.regular.few)
+
+pub length_moves : (l : List code.Pair) → length (moves_in l) ≡ length l
+length_moves l = length-map l switches_in
 
 -- "7 bytes a pair and 4 a moved switch"
 pub length_text : (N : Network) (l : List Moves) → length (plan_text l) ≡ pair_head_length * length l + id_length * length (switches_moved N l)

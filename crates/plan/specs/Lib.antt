@@ -1,3 +1,4 @@
+pub mod SwitchLists
 pub mod Plan
 pub mod MadePlans
 pub mod RowOpening

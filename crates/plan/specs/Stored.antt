@@ -6,6 +6,8 @@ use Rattle.printing.specs.Printed.{pair_text}
 use Rattle.printing.specs.Stored.{ids_in}
 use Rattle.plan.specs.declared.pairs.Pair.{Pair}
 use Rattle.plan.specs.declared.planner.PlanLines.{PlanLines}
+use Rattle.plan.specs.declared.list.SwitchList.{SwitchList}
+use Rattle.plan.specs.SwitchLists.{listed}
 use Rattle.plan.specs.Plan.{Moves}
 use Rattle.plan.specs.MadePlans.{Made}
 
@@ -20,8 +22,8 @@ abbrev pub line_length : Pair → ℕ
 line_length p = length (pair_text (ids_in p.closes) (ids_in p.opens))
 
 -- the answer of the planner's tests, and its pairs: beside a refusal there are none
-abbrev pub made_in : Result (List Pair) Refusal → Made
-made_in (Ok pairs) = record { answer = accepted tt; pairs = moves_in pairs }
+abbrev pub made_in : Result (SwitchList Pair) Refusal → Made
+made_in (Ok pairs) = record { answer = accepted tt; pairs = moves_in (listed pairs) }
 made_in (Err r) = record { answer = refused (number_of r) (place_of r); pairs = [] }
 
 -- how many bytes have been written: none beside a refusal

@@ -7,6 +7,7 @@ ghost use Rattle.printing.specs.Stored.{ids_in, no_entry};
 ghost use Rattle.graph.specs.Rows.{flag};
 ghost use Rattle.changes.specs.Change.{only_in};
 ghost use Rattle.changes.specs.Passing.{Passed};
+ghost use Rattle.plan.specs.SwitchLists.{listed};
 ghost use Rattle.plan.specs.Plan.{open_switches, id_of, plan};
 ghost use Rattle.plan.specs.Stored.{moves_in};
 
@@ -39,8 +40,8 @@ struct Stage {
 impl Stage {
     // The pair that closes branch k and opens branch f, made of the switches that it moves and done.
     fn pair_done(&mut self, k: u16, f: u16, pair: Pair)
-        requires { (k < 512) × (f < 512) × (length self.old.pairs < 512) }
-        ensures { (self.new.live ≡ set (set self.old.live k true) f false) × (self.new.pairs ≡ self.old.pairs ++ pair ∷ []) }
+        requires { (k < 512) × (f < 512) × (length (listed self.old.pairs) < 512) }
+        ensures { (self.new.live ≡ set (set self.old.live k true) f false) × (listed self.new.pairs ≡ listed self.old.pairs ++ pair ∷ []) }
     {
         self.live[usize::from(k)] = true;
         self.live[usize::from(f)] = false;
@@ -59,9 +60,9 @@ fn with_id(mut ids: SwitchIds, id: u16) -> SwitchIds
 }
 
 // For each branch position the ids of the switches on it that are open in the state, in list order.
-fn open_ids(network: PowerNetwork, state: &[u8]) -> [SwitchIds; PowerNetwork::MAX_BRANCHES]
-    requires { (check_records (records_of network) ≡ accepted tt) × (length state.now ≡ network.switch_count) }
-    ensures { (k : ℕ) → k < 512 → ids_in (get_or result k no_entry) ≡ map (id_of (records_of network)) (open_switches (records_of network) state.now k) }
+fn open_ids(network: &PowerNetwork, state: &[u8]) -> [SwitchIds; PowerNetwork::MAX_BRANCHES]
+    requires { (check_records (records_of network.now) ≡ accepted tt) × (length state.now ≡ network.now.switch_count) }
+    ensures { (k : ℕ) → k < 512 → ids_in (get_or result k no_entry) ≡ map (id_of (records_of network.now)) (open_switches (records_of network.now) state.now k) }
 {
     let mut ids = [SwitchIds::new(); PowerNetwork::MAX_BRANCHES];
     let switches = &network.switches[..usize::from(network.switch_count)];
@@ -84,17 +85,19 @@ fn is_closing(live: &[bool], wanted: &[bool], k: u16) -> bool
 // The plan of a change that is accepted: a pair for each branch live in the wanted state only, by the order of its first switch. From there on the branch
 // is live, so that its second switch makes no pair. A pair closes what is open on the one branch in the present state, and opens on the other what is open
 // in the wanted one.
+// Not inlined: `made_plan` would keep the arrays here on the stack while it checks the network, where the stack is deepest.
+#[inline(never)]
 pub(crate) fn pairs_of(
     network: PowerNetwork,
-    change: &Change,
+    change: Change,
     present: &[u8],
     wanted: &[u8],
 ) -> PairList
-    requires { Passed network change.now present.now wanted.now }
-    ensures { moves_in result ≡ plan (records_of network) present.now wanted.now }
+    requires { Passed network change present.now wanted.now }
+    ensures { moves_in (listed result) ≡ plan (records_of network) present.now wanted.now }
 {
-    let closes = open_ids(network, present);
-    let opens = open_ids(network, wanted);
+    let closes = open_ids(&network, present);
+    let opens = open_ids(&network, wanted);
     let none = SwitchIds::new();
     let pairs = PairList::new(Pair {
         closes: none,

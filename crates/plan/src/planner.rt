@@ -49,7 +49,7 @@ pub fn made_plan(network: PowerNetwork, present: &[u8], wanted: &[u8]) -> Result
 {
     let change = check_plan(network, present, wanted);
     change.verdict?;
-    Ok(pairs_of(network, &change, present, wanted))
+    Ok(pairs_of(network, change, present, wanted))
 }
 
 // The plan from the present state to the wanted one, as 86 lines at the front of the slice.

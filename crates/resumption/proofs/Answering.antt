@@ -1,5 +1,5 @@
 -- The answer to a plan that was cut off, case by case: the first refusal decides, and without one both lists are written.
-use Rattle.std.specs.Prelude.{◌≡◌, Result, List, ℕ, ◌*◌, ◌-◌, ◌≤◌, ◌<◌, length, take, drop}
+use Rattle.std.specs.Prelude.{◌≡◌, Result, Ok, List, ℕ, ◌*◌, ◌-◌, ◌≤◌, ◌<◌, length, take, drop}
 use Rattle.std.specs.Result.{IsErrAnd}
 use Rattle.std.proofs.Common.{ap, ◌∙◌, length-drop}
 use Rattle.std.proofs.lemmas.List.{length-take-le}
@@ -14,9 +14,21 @@ use Rattle.printing.specs.Lengths.{operation_length}
 use Rattle.printing.specs.CallLaws.{two_refused, first_short, second_short, two_done}
 use Rattle.changes.specs.Change.{check_plan}
 use Rattle.operations.specs.Operations.{operations_text}
-use Rattle.resumption.specs.SingleMoves.{going_back}
+use Rattle.plan.specs.declared.pairs.Pair.{Pair}
+use Rattle.plan.specs.declared.list.SwitchList.{SwitchList}
+use Rattle.plan.specs.SwitchLists.{listed}
+use Rattle.plan.specs.MadePlans.{made_plan}
+use Rattle.plan.specs.Stored.{moves_in, made_in}
+use Rattle.plan.specs.MadePlanLaws.{made_accepted, made_pairs, made_few}
+use Rattle.resumption.specs.SingleMoves.{single_moves, going_back}
 use Rattle.resumption.specs.Resume.{moves_of_plan, check_resume, resumed}
-use Rattle.resumption.specs.ResumeLaws.{count_passes, count_refused, remaining_long, back_long}
+use Rattle.resumption.specs.ResumeLaws.{singles_few, count_passes, count_refused, remaining_long, back_long}
+
+-- there is room for the moves of the planner's pairs
+pub moves_room : (N : Network) (present wanted : State) (m : Result (SwitchList Pair) Refusal) → made_in m ≡ made_plan N present wanted → {pairs : SwitchList Pair} → m ≡ Ok pairs
+    → (pairs.count ≤ 512) × (length (single_moves (moves_in (listed pairs))) ≤ 512)
+moves_room N present wanted m made e =
+    (made_few N present wanted m made e, rw (made_pairs N present wanted m made e) (singles_few N present wanted (made_accepted N present wanted m made e)))
 
 module _ (N : Network) (present wanted : State) (count : ℕ) (remaining back : List ℕ) where
   abbrev M : List SwitchOperation

@@ -1,5 +1,6 @@
 // The single moves of a plan.
 ghost use Rattle.std.specs.Prelude.{◌≡◌, [], ◌∷◌, ◌++◌, map, ◌+◌, ◌*◌, ◌≤◌, length};
+ghost use Rattle.plan.specs.SwitchLists.{listed};
 ghost use Rattle.plan.specs.Stored.{moves_in};
 ghost use Rattle.printing.specs.Lengths.{operation_length};
 ghost use Rattle.printing.specs.Stored.{ids_in};
@@ -18,7 +19,7 @@ pub(crate) type MoveList = SwitchList<SwitchOperation>;
 
 // No moves.
 fn no_moves() -> MoveList
-    ensures { result ≡ [] }
+    ensures { listed result ≡ [] }
 {
     MoveList::new(SwitchOperation {
         switch_id: 0,
@@ -28,8 +29,8 @@ fn no_moves() -> MoveList
 
 // One move more for each of the ids, in order.
 fn push_ids(moves: &mut MoveList, switches: SwitchIds, action: SwitchAction)
-    requires { length moves.old + length (ids_in switches) ≤ 512 }
-    ensures { moves.new ≡ moves.old ++ map (to action) (ids_in switches) }
+    requires { length (listed moves.old) + length (ids_in switches) ≤ 512 }
+    ensures { listed moves.new ≡ listed moves.old ++ map (to action) (ids_in switches) }
 {
     let n = usize::from(switches.count).min(PowerNetwork::MAX_SWITCHES_ON_BRANCH);
     for id in &switches.ids[..n] {
@@ -43,7 +44,7 @@ fn push_ids(moves: &mut MoveList, switches: SwitchIds, action: SwitchAction)
 // The single moves of the pairs, one pair behind the other: of each the closings, then the openings.
 pub(crate) fn moves_of(pairs: &[Pair]) -> MoveList
     requires { length (single_moves (moves_in pairs.now)) ≤ 512 }
-    ensures { result ≡ single_moves (moves_in pairs.now) }
+    ensures { listed result ≡ single_moves (moves_in pairs.now) }
 {
     let mut moves = no_moves();
     for pair in pairs {
@@ -70,7 +71,7 @@ fn inverse(operation: SwitchOperation) -> SwitchOperation
 // The moves that go back: those done inverted, the last one first.
 pub(crate) fn going_back(done: &[SwitchOperation]) -> MoveList
     requires { length done.now ≤ 512 }
-    ensures { result ≡ going_back done.now }
+    ensures { listed result ≡ going_back done.now }
 {
     let mut back = no_moves();
     for operation in done.iter().rev() {

@@ -13,28 +13,28 @@ loop-i-init c = rw c.new-ids.ensures (none_noted _ _)
 
 pub bounds-ids-on : goal.bounds-ids-on
 bounds-ids-on c =
-    let n = c.args.network in
+    let n = c.args.network.now in
     let same = read n _ c.loop-i.i c.from.ensures c.loop-i-test.true in
     let h : c.loop-i.i < n.switch_count = omega (arith, length-take c.from.result n.switches) in
     small _ _ c.loop-i.invariant h _ same c.if-state-i-eq-OPEN.true c.requires.0 c.from-on.ensures
 
 pub with_id-requires : goal.with_id-requires
 with_id-requires c =
-    let n = c.args.network in
+    let n = c.args.network.now in
     let same = read n _ c.loop-i.i c.from.ensures c.loop-i-test.true in
     let h : c.loop-i.i < n.switch_count = omega (arith, length-take c.from.result n.switches) in
     room _ _ c.loop-i.invariant h _ same c.if-state-i-eq-OPEN.true c.requires.0 c.from-on.ensures
 
 pub bounds-ids-on-then-state-i-eq-OPEN : goal.bounds-ids-on-then-state-i-eq-OPEN
 bounds-ids-on-then-state-i-eq-OPEN c =
-    let n = c.args.network in
+    let n = c.args.network.now in
     let same = read n _ c.loop-i.i c.from.ensures c.loop-i-test.true in
     let h : c.loop-i.i < n.switch_count = omega (arith, length-take c.from.result n.switches) in
     small _ _ c.loop-i.invariant h _ same c.if-state-i-eq-OPEN.true c.requires.0 c.from-on.ensures
 
 pub loop-i-preserved : goal.loop-i-preserved
 loop-i-preserved c =
-    let n = c.args.network in
+    let n = c.args.network.now in
     let same = read n _ c.loop-i.i c.from.ensures c.loop-i-test.true in
     let h : c.loop-i.i < n.switch_count = omega (arith, length-take c.from.result n.switches) in
     elim c.if-state-i-eq-OPEN.branch [
@@ -43,4 +43,4 @@ loop-i-preserved c =
     ]
 
 pub returns : goal.returns
-returns c = λ k l. all_noted _ _ c.loop-i.invariant (omega (arith, length-take c.from.result c.args.network.switches)) k l
+returns c = λ k l. all_noted _ _ c.loop-i.invariant (omega (arith, length-take c.from.result c.args.network.now.switches)) k l

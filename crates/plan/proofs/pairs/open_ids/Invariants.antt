@@ -3,4 +3,4 @@ use Rattle.plan.proofs.OpenIds.{Noted}
 use Rattle.plan.proofs.pairs.open_ids.Given as goal
 
 abbrev pub invariant-loop-i : goal.invariant-loop-i
-invariant-loop-i l = Noted l.fn.network l.state l.ids l.i
+invariant-loop-i l = Noted l.network l.state l.ids l.i

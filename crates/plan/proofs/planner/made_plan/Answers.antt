@@ -10,4 +10,4 @@ pub pairs_of-requires : goal.pairs_of-requires
 pairs_of-requires c = accepted_passed _ c.in_ok-change.was c.check_plan-change.ensures
 
 pub returns : goal.returns
-returns c = plan_made _ _ _ c.in_ok-change.was (verdict_so _ _ _ c.check_plan-change.result c.check_plan-change.ensures) _ c.pairs_of.ensures
+returns c = plan_made _ _ _ c.in_ok-change.was (verdict_so _ _ _ c.check_plan-change.result c.check_plan-change.ensures) c.pairs_of.result c.pairs_of.ensures
