@@ -1,8 +1,9 @@
 -- The rounds of the exchange: where the code stands, the rounds that are left lead to the definition's answer.
-use Rattle.std.specs.Prelude.{◌≡◌, true, false, Float, length, set}
+use Rattle.std.specs.Prelude.{◌≡◌, true, false, not, Float, length, set}
 use Rattle.std.proofs.Math.Path.{refl, sym, ap}
 use Rattle.std.proofs.Common.{◌∙◌, add-one, arith, length-set}
 use Rattle.std.specs.Prelude.{Option, None, Some}
+use Rattle.std.specs.Option.{is_some}
 use Prim.Native.Nat.{ℕ, suc, ◌+◌, ◌≤◌, ◌<◌}
 use Rattle.states.specs.declared.configuration.NetworkConfiguration.{NetworkConfiguration}
 use Rattle.network.specs.declared.topology.PowerNetwork.{PowerNetwork}
@@ -10,6 +11,7 @@ use Rattle.network.specs.Records.{Network, records_of}
 use Rattle.network.specs.Answers.{accepted}
 use Rattle.network.specs.Check.{check_records}
 use Rattle.states.specs.Live.{base_state}
+use Rattle.exchange.specs.declared.exchange.BranchExchange.{BranchExchange}
 use Rattle.exchange.specs.declared.exchange.Trial.{Trial}
 use Rattle.searches.specs.States.{state_of}
 use Rattle.searches.specs.Given.{Held, Base}
@@ -24,6 +26,15 @@ use Rattle.exchange.specs.ExchangeLaws.{Swap, round_swaps}
 use Rattle.exchange.specs.ExchangeValues.{trial_of, current_of, exchange_of}
 
 -- ---- the rounds
+-- a round more, wherever the exchange stands: the trial that was found is what the next round begins with, and without one the search ends
+pub counted : (N : Network) (x : Exchange) (last : Option State) (y : BranchExchange) (step : Option Trial) (r : BranchExchange) → y ≡ exchange_of x → step ≡ trial_of N last
+    → ((t : Trial) → step ≡ Some t → r ≡ record { current = t; rounds = y.rounds + 1 })
+    → (step ≡ None → r ≡ record { current = y.current; rounds = y.rounds + 1 })
+    → (r ≡ exchange_of (after_round N x last)) × ((after_round N x last).ended ≡ not (is_some step))
+unfolding exchange_of after_round trial_of
+counted N x None y step r e q t f = (f q ∙ rw (e, add-one), rw q)
+counted N x (Some s) y step r e q t f = (t _ q ∙ rw (e, add-one), rw q)
+
 round_counts : (N : Network) (x : Exchange) (last : Option State) → (after_round N x last).rounds ≡ suc x.rounds
 unfolding after_round
 round_counts N x None = refl

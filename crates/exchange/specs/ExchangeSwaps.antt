@@ -103,6 +103,14 @@ module _ (N : Network) where
       go None h = tt
       go (Some i) h = eqb-true _ _ (both (eqb (branch_of N i) k) _ h).0
 
+-- beyond an array of sections there is none
+pub section_within : (sections : List (Option ℕ)) (k i : ℕ) → get_or sections k None ≡ Some i → k < length sections
+section_within sections k i e = go (dec_lt k (length sections))
+  where
+    go : Dec (k < length sections) → k < length sections
+    go (yes h) = h
+    go (no n) = absurd (let none : None ≡ Some i = sym (get_or-eq_default sections None (omega arith)) ∙ e in cc)
+
 -- ---- a swap by the rows
 module _ (n : PowerNetwork) (ok : check_records (records_of n) ≡ accepted tt) (c : NetworkConfiguration) (held : Held n c) (tie : ℕ) (l : tie < n.switch_count) (still_open : byte (state_of n c) tie ≡ 1) where
   abbrev N : Network

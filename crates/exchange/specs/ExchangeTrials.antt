@@ -1,7 +1,7 @@
 -- What the code holds of a trial: the first swap along a path, the loop of a tie by the rows, and the last improving trial of a round.
 use Rattle.std.proofs.Math.Path.{◌≡◌, refl, ap}
 use Rattle.std.proofs.Common.{sym, ◌∙◌, arith}
-use Rattle.std.specs.Prelude.{Bool, ◌&&◌, List, [], ◌∷◌, ℕ, ◌+◌, ◌<◌, eqb, Float, length, drop, set}
+use Rattle.std.specs.Prelude.{Bool, cond, ◌&&◌, List, [], ◌∷◌, ℕ, ◌+◌, ◌<◌, eqb, Float, length, drop, set}
 use Rattle.std.proofs.Math.Bool.{true, false}
 use Rattle.std.specs.Prelude.{Option, None, Some}
 use Rattle.std.specs.Option.{is_some}
@@ -133,42 +133,62 @@ seen_read n c i l b e =
     ∙ ap (λ x. (get_or n.switches i no_switch).normally_open && ((get_or n.switches i no_switch).can_operate && eqb x 1)) (byte_at n c i l)
     ∙ sym e
 
+-- whatever was found before it
+module _ (N : Network) (s : State) (current : Float) (before : Option State) (last : Option Trial) (q : last ≡ trial_of N before) (i : ℕ) where
+  pub see_unseen : seen N s i ≡ false → last ≡ trial_of N (improving N s current i or_else before)
+  unfolding ◌or_else◌
+  see_unseen f = rw f q
+
+  module _ (t : seen N s i ≡ true) where
+    pub see_none : trial N s i ≡ None → last ≡ trial_of N (improving N s current i or_else before)
+    unfolding improved ◌or_else◌
+    see_none e = rw (t, e) q
+
+    pub see_tried : (u : State) → trial N s i ≡ Some u → (loss : Float) → loss ≡ loss_in N u → (d : NetworkConfiguration) → d ≡ configuration_of u
+        → cond (lt loss (sub binary64 current billionth)) (Some (record { configuration = d; loss = loss })) last ≡ trial_of N (improving N s current i or_else before)
+    unfolding improved improves trial_of ◌or_else◌
+    see_tried u e loss l d p = rw (t, e, l, p) (go (lt (loss_in N u) (sub binary64 current billionth)))
+      where
+        go : (better : Bool) → cond better (Some (record { configuration = configuration_of u; loss = loss_in N u })) last ≡ trial_of N (cond better (Some u) None or_else before)
+        go true = refl
+        go false = q
+
+-- the last of the first i switches
 module _ (N : Network) (s : State) (current : Float) (i : ℕ) (last : Option Trial) (q : last ≡ trial_of N (last_some (improving N s current) i)) where
   abbrev so_far : Option State
   so_far = last_some (improving N s current) i
 
-  more : {next : Option Trial} (found : Option State) → improving N s current i ≡ found → next ≡ trial_of N (found or_else so_far) → next ≡ trial_of N (last_some (improving N s current) (i + 1))
-  more found e h = h ∙ ap (λ o. trial_of N (o or_else so_far)) (sym e) ∙ ap (trial_of N) (sym (last_more (improving N s current) i))
+  more : {next : Option Trial} → next ≡ trial_of N (improving N s current i or_else so_far) → next ≡ trial_of N (last_some (improving N s current) (i + 1))
+  more h = h ∙ ap (trial_of N) (sym (last_more (improving N s current) i))
 
   pub none_seen : seen N s i ≡ false → last ≡ trial_of N (last_some (improving N s current) (i + 1))
-  unfolding ◌or_else◌
-  none_seen f = more None (rw f) q
+  none_seen f = more (see_unseen N s current so_far last q i f)
 
   module _ (sees : seen N s i ≡ true) (tried : Option Trial) (e : tried ≡ trial_of N (trial N s i)) where
     pub none_tried : tried ≡ None → last ≡ trial_of N (last_some (improving N s current) (i + 1))
-    unfolding trial_of improved ◌or_else◌
-    none_tried h = more _ (rw sees) (go (trial N s i) (sym e ∙ h))
+    unfolding trial_of
+    none_tried h = go (trial N s i) refl (sym e ∙ h)
       where
-        go : (found : Option State) → trial_of N found ≡ None → last ≡ trial_of N (improved N current found or_else so_far)
-        go None f = q
-        go (Some u) f = absurd (cc)
+        go : (found : Option State) → trial N s i ≡ found → trial_of N found ≡ None → last ≡ trial_of N (last_some (improving N s current) (i + 1))
+        go None f g = more (see_none N s current so_far last q i sees f)
+        go (Some u) f g = absurd (cc)
 
     module _ {t : Trial} (h : tried ≡ Some t) where
-      pub better_tried : lt t.loss (sub binary64 current billionth) ≡ true → Some t ≡ trial_of N (last_some (improving N s current) (i + 1))
-      unfolding trial_of improved improves ◌or_else◌
-      better_tried b = more _ (rw sees) (go (trial N s i) (sym e ∙ h))
+      tried_it : cond (lt t.loss (sub binary64 current billionth)) (Some t) last ≡ trial_of N (last_some (improving N s current) (i + 1))
+      unfolding trial_of
+      tried_it = go (trial N s i) refl (sym e ∙ h)
         where
-          go : (found : Option State) → trial_of N found ≡ Some t → Some t ≡ trial_of N (improved N current found or_else so_far)
-          go None f = absurd (cc)
-          go (Some u) f = let same : record { configuration = configuration_of u; loss = loss_in N u } ≡ t = cc in rw (ap (λ (w : Trial). w.loss) same, b) (ap Some (sym same))
+          go : (found : Option State) → trial N s i ≡ found → trial_of N found ≡ Some t → cond (lt t.loss (sub binary64 current billionth)) (Some t) last ≡ trial_of N (last_some (improving N s current) (i + 1))
+          go None f g = absurd (cc)
+          go (Some u) f g =
+              let same : record { configuration = configuration_of u; loss = loss_in N u } ≡ t = cc in
+              more (see_tried N s current so_far last q i sees u f t.loss (sym (ap (λ (w : Trial). w.loss) same)) t.configuration (sym (ap (λ (w : Trial). w.configuration) same)))
+
+      pub better_tried : lt t.loss (sub binary64 current billionth) ≡ true → Some t ≡ trial_of N (last_some (improving N s current) (i + 1))
+      better_tried b = rw b at tried_it
 
       pub other_tried : lt t.loss (sub binary64 current billionth) ≡ false → last ≡ trial_of N (last_some (improving N s current) (i + 1))
-      unfolding trial_of improved improves ◌or_else◌
-      other_tried b = more _ (rw sees) (go (trial N s i) (sym e ∙ h))
-        where
-          go : (found : Option State) → trial_of N found ≡ Some t → last ≡ trial_of N (improved N current found or_else so_far)
-          go None f = absurd (cc)
-          go (Some u) f = let same : record { configuration = configuration_of u; loss = loss_in N u } ≡ t = cc in rw (ap (λ (w : Trial). w.loss) same, b) q
+      other_tried b = rw b at tried_it
 
 -- what a round lends to its trials is of its network, its start and the state with which it began
 pub record InRound (r : Round) : Type 0 where

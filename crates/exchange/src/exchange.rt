@@ -212,22 +212,24 @@ impl Round<'_> {
 }
 
 // A round: the last improving trial among the switches in list order, each tried from the state as the round found it. One that improves takes the place of the one before, better or not.
+// The network is lent, so that a round keeps no copy of it.
 fn branch_exchange_step(
-    network: PowerNetwork,
+    network: &PowerNetwork,
     start: &Start,
     sections: &[Option<u16>; PowerNetwork::MAX_BRANCHES],
     current: &Trial,
 ) -> Option<Trial>
-    requires { Started network start.now × (sections.now ≡ sections_of (records_of network)) × Held network current.now.configuration }
-    ensures { result ≡ trial_of (records_of network) (round_of (records_of network) (state_of network current.now.configuration) current.now.loss) }
+    requires { Started network.now start.now × (sections.now ≡ sections_of (records_of network.now)) × Held network.now current.now.configuration
+        × (length network.now.buses ≡ 256) × (length network.now.branches ≡ 512) }
+    ensures { result ≡ trial_of (records_of network.now) (round_of (records_of network.now) (state_of network.now current.now.configuration) current.now.loss) }
 {
     let round = Round {
-        network: &network,
+        network,
         start,
         sections,
         current,
-        live: live_branches(network, current.configuration),
-        counts: open_counts(network, current.configuration),
+        live: live_branches(*network, current.configuration),
+        counts: open_counts(*network, current.configuration),
     };
     let mut last = None;
     for i in 0..usize::from(network.switch_count) {
@@ -254,7 +256,7 @@ fn branch_exchange_rounds(network: PowerNetwork, start: &Start) -> BranchExchang
         loss: start.loss,
     };
     for round in 0..network.max_iterations {
-        let Some(trial) = branch_exchange_step(network, start, &sections, &current) else {
+        let Some(trial) = branch_exchange_step(&network, start, &sections, &current) else {
             return BranchExchange {
                 current,
                 rounds: round + 1,

@@ -1,5 +1,5 @@
 -- Masks as the code goes through them: the bits of a mask that are left, and the state of a mask.
-use Rattle.std.specs.Prelude.{◌≡◌, refl, Bool, true, false, ◌&&◌, ℕ, zero, suc, bit_and, ◌+◌, ◌≤◌, ◌<◌, ◌/◌, ◌%◌, ◌^◌, eqb, length, get_or, take}
+use Rattle.std.specs.Prelude.{◌≡◌, refl, Bool, true, false, cond, ◌&&◌, ℕ, zero, suc, bit_and, ◌+◌, ◌≤◌, ◌<◌, ◌/◌, ◌%◌, ◌^◌, eqb, length, get_or, take}
 use Rattle.std.proofs.Math.Path.{sym, ap}
 use Rattle.std.proofs.Common.{◌∙◌, div-one, add-one, arith, shr-shr}
 use Rattle.std.proofs.Math.Bool.{not}
@@ -43,6 +43,10 @@ low_bit_free n = rw (low_bit n) (go (n % 2) (omega arith))
     go (suc (suc k)) l = absurd (omega arith)
 
 -- ---- the bits of a mask: the i-th tie takes bit i, which is the lowest that those before it left
+bit_taken : (tie : Bool) (mask k : ℕ) → cond tie (mask / 2 ^ k / 2) (mask / 2 ^ k) ≡ mask / 2 ^ cond tie (suc k) k
+bit_taken true mask k = shr-shr mask k 1 ∙ ap (λ e. mask / 2 ^ e) (add-one k)
+bit_taken false mask k = refl
+
 module _ (n : PowerNetwork) (mask : ℕ) where
   -- what the first i switches leave
   unfoldable pub bits_from : ℕ → ℕ
@@ -65,6 +69,19 @@ module _ (n : PowerNetwork) (mask : ℕ) where
       byte_at : get_or (masked (records_of n) mask) i 0 ≡ state_byte (is_tie (records_of n) i && not (eqb (bits_from i % 2) 1))
       unfolding bits_from
       byte_at = masked_byte_lem (records_of n) mask i (omega (arith, switches_listed n))
+
+      abbrev here : Bool
+      here = (get_or n.switches i no_switch).normally_open
+
+      same_tie : is_tie (records_of n) i ≡ here
+      same_tie = ap (λ w. w.normally_open) (switch_at_lem n i l)
+
+      pub bits_next : cond here (bits_from i / 2) (bits_from i) ≡ bits_from (i + 1)
+      unfolding bits_from count
+      bits_next = rw (add-one i, same_tie) (bit_taken here mask (count (is_tie (records_of n)) i))
+
+      pub masked_at : get_or (masked (records_of n) mask) i 0 ≡ state_byte (here && not (eqb (bits_from i % 2) 1))
+      masked_at = byte_at ∙ ap (λ b. state_byte (b && not (eqb (bits_from i % 2) 1))) same_tie
 
       pub tie_byte : is_tie (records_of n) i ≡ true → get_or (masked (records_of n) mask) i 0 ≡ state_byte (not (eqb (bits_from i % 2) 1))
       tie_byte tie = rw (byte_at, tie)

@@ -109,9 +109,9 @@ fn is_tie(switch: Switch) -> bool
 }
 
 // The state of a mask: bit i closes the i-th tie. A tie takes the lowest bit of those that are left; a section is closed.
-fn masked(network: PowerNetwork, mask: u16) -> NetworkConfiguration
-    requires { network.switch_count ≤ 512 }
-    ensures { result ≡ configuration_of (masked (records_of network) mask) }
+fn masked(network: &PowerNetwork, mask: u16) -> NetworkConfiguration
+    requires { network.now.switch_count ≤ 512 }
+    ensures { result ≡ configuration_of (masked (records_of network.now) mask) }
 {
     let count = usize::from(network.switch_count);
     let mut configuration = NetworkConfiguration::new();
@@ -126,9 +126,9 @@ fn masked(network: PowerNetwork, mask: u16) -> NetworkConfiguration
 }
 
 // The ties, of which there are at most ten.
-fn find_ties(network: PowerNetwork) -> Ties
-    requires { (check_records (records_of network) ≡ accepted tt) × (tie_count (records_of network) ≤ 10) }
-    ensures { result ≡ ties_of (records_of network) (tie_count (records_of network)) }
+fn find_ties(network: &PowerNetwork) -> Ties
+    requires { (check_records (records_of network.now) ≡ accepted tt) × (tie_count (records_of network.now) ≤ 10) }
+    ensures { result ≡ ties_of (records_of network.now) (tie_count (records_of network.now)) }
 {
     let count = usize::from(network.switch_count);
     let mut ties = Ties::new();
@@ -196,15 +196,16 @@ fn with_base(start: &Start) -> ExhaustiveSearch
 
 // One mask more, whose state is radial.
 fn with_mask(
-    network: PowerNetwork,
+    network: &PowerNetwork,
     start: &Start,
     search: ExhaustiveSearch,
     live: [bool; PowerNetwork::MAX_BRANCHES],
     mask: u16,
 ) -> ExhaustiveSearch
-    requires { Started network start.now × (search.radial_count < 65535) × (live ≡ live_flags (records_of network) (masked (records_of network) mask))
-        × (radial_in (records_of network) (masked (records_of network) mask) ≡ true) }
-    ensures { (x : Exhaustive) → search ≡ exhaustive_of x → result ≡ exhaustive_of (try_mask (records_of network) x mask) }
+    requires { Started network.now start.now × (length network.now.buses ≡ 256) × (search.radial_count < 65535)
+        × (live ≡ live_flags (records_of network.now) (masked (records_of network.now) mask))
+        × (radial_in (records_of network.now) (masked (records_of network.now) mask) ≡ true) }
+    ensures { (x : Exhaustive) → search ≡ exhaustive_of x → result ≡ exhaustive_of (try_mask (records_of network.now) x mask) }
 {
     let loss = live_loss(
         start.graph,
@@ -222,11 +223,11 @@ fn with_mask(
 
 // Document 01's exhaustive search, by rising masks. Their live branches follow from those with every switch closed: only a radial mask has its state made and
 // its loss taken.
-fn exhaustive_masks(network: PowerNetwork, start: &Start) -> ExhaustiveSearch
-    requires { Started network start.now × (network.algorithm ≡ ReconfigAlgorithm.Exhaustive) }
-    ensures { result ≡ exhaustive_of (exhaustive (records_of network)) }
+fn exhaustive_masks(network: &PowerNetwork, start: &Start) -> ExhaustiveSearch
+    requires { Started network.now start.now × (network.now.algorithm ≡ ReconfigAlgorithm.Exhaustive) × (length network.now.buses ≡ 256) }
+    ensures { result ≡ exhaustive_of (exhaustive (records_of network.now)) }
 {
-    let closed_live = live_branches(network, NetworkConfiguration::new());
+    let closed_live = live_branches(*network, NetworkConfiguration::new());
     let ties = find_ties(network);
     let mut search = with_base(start);
     for mask in 1..count_masks(ties.count) {
@@ -239,9 +240,9 @@ fn exhaustive_masks(network: PowerNetwork, start: &Start) -> ExhaustiveSearch
 }
 
 // What the exhaustive search finds, the base where no mask is radial: it counts the radial states, and it converged.
-fn search(network: PowerNetwork, start: &Start) -> Found
-    requires { Started network start.now × (network.algorithm ≡ ReconfigAlgorithm.Exhaustive) }
-    ensures { result ≡ found_of (records_of network) (exhaustive_best (records_of network)) }
+fn search(network: &PowerNetwork, start: &Start) -> Found
+    requires { Started network.now start.now × (network.now.algorithm ≡ ReconfigAlgorithm.Exhaustive) × (length network.now.buses ≡ 256) }
+    ensures { result ≡ found_of (records_of network.now) (exhaustive_best (records_of network.now)) }
 {
     let done = exhaustive_masks(network, start);
     let best = done.least.unwrap_or(base_of(start));
@@ -253,14 +254,16 @@ fn search(network: PowerNetwork, start: &Start) -> Found
     }
 }
 
-// The exhaustive search of a feeder that asks for it: so it has at most ten ties.
-fn solve_as_exhaustive(network: PowerNetwork, out: &mut [u8]) -> Result<ReconfigResult, Refusal>
-    requires { network.algorithm ≡ ReconfigAlgorithm.Exhaustive }
-    ensures { record { answer = valued result_of (answer_of result); out = out.new } ≡ solved_by exhaustive_best (records_of network) out.old }
+// The exhaustive search of a feeder that asks for it: so it has at most ten ties. The network is lent from here on: by value each function would keep a copy of its
+// own on the stack. A lent one doesn't say how long its arrays are, so the clauses do.
+fn solve_as_exhaustive(network: &PowerNetwork, out: &mut [u8]) -> Result<ReconfigResult, Refusal>
+    requires { (network.now.algorithm ≡ ReconfigAlgorithm.Exhaustive) × (length network.now.buses ≡ 256) }
+    ensures { record { answer = valued result_of (answer_of result); out = out.new } ≡ solved_by exhaustive_best (records_of network.now) out.old }
 {
-    check_search(network, out.len())?;
-    let start = start_of(network);
-    Ok(answer_with(network, start, search(network, &start), out))
+    check_search(*network, out.len())?;
+    let start = start_of(*network);
+    let found = search(network, &start);
+    Ok(answer_with(*network, start, found, out))
 }
 
 // The feeder with method 02 in its head.
@@ -279,8 +282,8 @@ pub fn exhaustive_solve(network: PowerNetwork, out: &mut [u8]) -> Result<Reconfi
     ensures { record { answer = valued result_of (answer_of result); out = out.new }
         ≡ solved_by exhaustive_best (as_exhaustive (records_of network)) out.old }
 {
-    if network.algorithm == ReconfigAlgorithm::Exhaustive {
-        return solve_as_exhaustive(network, out);
+    if let ReconfigAlgorithm::Exhaustive = network.algorithm {
+        return solve_as_exhaustive(&network, out);
     }
-    solve_as_exhaustive(as_exhaustive(network), out)
+    solve_as_exhaustive(&as_exhaustive(network), out)
 }

@@ -68,6 +68,9 @@ module _ (n : PowerNetwork) (y : TabuSearch) (x : Tabu) (w : Stands n y x) where
   unfolding tabu_of
   barred_is = ap (λ z. z.barred) w.held_by
 
+  pub barred_held : length y.barred ≤ 7
+  barred_held = rw barred_is w.short
+
   module _ (ok : check_records (records_of n) ≡ accepted tt) (i : ℕ) (below : i < n.switch_count) (sw : Switch) (here : sw ≡ get_or n.switches i no_switch) where
     abbrev N : Network
     N = records_of n

@@ -1,5 +1,5 @@
 -- The rounds of the tabu search: where the code stands, the rounds that are left lead to the definition's answer.
-use Rattle.std.specs.Prelude.{◌≡◌, refl, Bool, true, false, cond, [], ◌∷◌, ◌++◌, ℕ, ◌+◌, ◌<◌, Float}
+use Rattle.std.specs.Prelude.{◌≡◌, refl, Bool, true, false, cond, [], ◌∷◌, ◌++◌, ℕ, ◌+◌, ◌≤◌, ◌<◌, Float, length}
 use Rattle.std.proofs.Common.{sym, ◌∙◌, add-one}
 use Rattle.std.specs.Prelude.{Option, None, Some}
 use native.Mathlib.Omega.{arith}
@@ -16,10 +16,11 @@ use Rattle.tabu.specs.declared.tabu.TabuSearch.{TabuSearch}
 use Rattle.searches.specs.Given.{Base}
 use Rattle.searches.specs.FromBase.{FromBase, from_base, toggled_from_base}
 use Rattle.numbers.specs.IfSome.{IfSome}
-use Rattle.searches.specs.RoundLaws.{Left, left_all, held_ended, held_none, held_less}
+use Rattle.searches.specs.RoundLaws.{until_keeps, Left, left_all, held_ended, held_none, held_less}
 use Rattle.tabu.specs.Tabu.{Move, Tabu, best_move, last_seven, after_move, next, tabu_start, tabu}
 use Rattle.tabu.specs.TabuLaws.{MoveFrom, best_move_moves}
 use Rattle.tabu.specs.TabuValues.{as_candidate, candidate_of, tabu_of, Stands}
+use Rattle.tabu.specs.TabuListLaws.{seven_short}
 
 -- ---- a round
 choice_held : (b : Bool) (s t : State) → cond b (configuration_of s) (configuration_of t) ≡ configuration_of (cond b s t)
@@ -65,10 +66,16 @@ module _ (N : Network) (x : Tabu) (found : Option Move) (y : TabuSearch) (step :
     after_worse = chosen false
 
 -- ---- what a round keeps
-keeps : (N : Network) (x : Tabu) → FromBase N x.state → (found : Option Move) → IfSome (MoveFrom N x.state) found → FromBase N (after_move x found).state
-unfolding after_move
-keeps N x h None w = h
-keeps N x h (Some m) w = rw w.toggle.result (toggled_from_base N x.state h w.toggle.moved w.toggle.operates)
+module _ (N : Network) (x : Tabu) where
+  keeps : FromBase N x.state → length x.barred ≤ 7 → (found : Option Move) → IfSome (MoveFrom N x.state) found → FromBase N (after_move x found).state × (length (after_move x found).barred ≤ 7)
+  unfolding after_move
+  keeps h s None w = (h, s)
+  keeps h s (Some m) w = (rw w.toggle.result (toggled_from_base N x.state h w.toggle.moved w.toggle.operates), seven_short _)
+
+-- "The last 7 moved ids are barred": at most 7 are, however many rounds there are
+pub seven_barred : (N : Network) → length (tabu N).barred ≤ 7
+unfolding tabu
+seven_barred N = (until_keeps (λ x. x.ended) (next N) (λ x. FromBase N x.state × (length x.barred ≤ 7)) (λ x e h. keeps N x h.0 h.1 (best_move N x) (best_move_moves N x)) N.iterations (tabu_start N) (from_base N, omega arith)).1
 
 -- ---- the base
 pub base_held : (n : PowerNetwork) (c : NetworkConfiguration) (radial : Bool) (loss : Float) → Base n c loss → radial ≡ radial_in (records_of n) (base_state (records_of n))
@@ -92,7 +99,7 @@ module _ (n : PowerNetwork) (y : TabuSearch) where
   standing_base e =
       record {
         at = tabu_start (records_of n);
-        stands = record { held_by = e; from_base = from_base (records_of n) };
+        stands = record { held_by = e; from_base = from_base (records_of n); short = omega arith };
         left = left_all _ _ _ _ (tabu_start (records_of n)) refl;
       }
 
@@ -110,8 +117,9 @@ module _ (n : PowerNetwork) (y : TabuSearch) where
         let N = records_of n in
         let x = w.at in
         let moves = best_move_moves N x in
+        let kept = keeps N x w.stands.from_base w.stands.short (best_move N x) moves in
         record {
           at = next N x;
-          stands = record { held_by = h N x (best_move N x) w.stands.held_by moves (s x w.stands); from_base = keeps N x w.stands.from_base (best_move N x) moves };
+          stands = record { held_by = h N x (best_move N x) w.stands.held_by moves (s x w.stands); from_base = kept.0; short = kept.1 };
           left = rw (add-one k) (held_less _ _ _ _ k x w.left (tabu_of N) (λ z. z.ended) (ended_held N) y w.stands.held_by more e);
         }

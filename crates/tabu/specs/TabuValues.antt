@@ -1,5 +1,5 @@
 -- The values by which the code holds where the tabu search stands and what it finds.
-use Rattle.std.specs.Prelude.{◌≡◌, Bool, cond, not, ◌||◌, ℕ}
+use Rattle.std.specs.Prelude.{◌≡◌, Bool, cond, not, ◌||◌, ℕ, ◌≤◌, length}
 use Rattle.std.specs.Prelude.{Option, None, Some}
 use Rattle.std.specs.Float.Ieee.{lt}
 use Rattle.numbers.specs.Choose.{among}
@@ -58,3 +58,4 @@ seen y best m = cond (allows y m) (lesser_candidate best m) best
 pub record Stands (n : PowerNetwork) (y : TabuSearch) (x : Tabu) : Type 0 where
   pub held_by : y ≡ tabu_of (records_of n) x
   pub from_base : FromBase (records_of n) x.state
+  pub short : length x.barred ≤ 7

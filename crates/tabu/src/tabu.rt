@@ -1,6 +1,6 @@
 // Translated and changed from src/network/reconfiguration.rs of oxigrid. Copyright 2024-2026 COOLJAPAN OU (Team Kitasan), Apache License 2.0.
 // Document 01's tabu search.
-ghost use Rattle.std.specs.Prelude.{◌≡◌, true, false, not, ◌&&◌, ◌<◌, eqb, set};
+ghost use Rattle.std.specs.Prelude.{◌≡◌, true, false, not, ◌&&◌, ◌<◌, eqb, length, set};
 ghost use Rattle.std.specs.Prelude.{Option, Some};
 ghost use Rattle.network.specs.Answers.{accepted, answer_of, valued};
 ghost use Rattle.network.specs.Check.{check_records};
@@ -177,14 +177,15 @@ impl TabuSearch {
 }
 
 // A round from a radial state. Each of the two rounds has its loop: a shared one would take the test and the loss as a closure over the graph, the loads and the flags,
-// whose clauses are longer than the loop. Only a toggle that makes no branch live or dead leaves it radial, and the loss as it is.
+// whose clauses are longer than the loop. Only a toggle that makes no branch live or dead leaves it radial, and the loss as it is. The network is lent, so that a round
+// keeps no copy of it.
 #[tactic(auto, using(states::specs::Listed::few_switches))]
-fn best_from_radial(network: PowerNetwork, search: &TabuSearch) -> Option<Candidate>
-    requires { check_records (records_of network) ≡ accepted tt }
-    ensures { (x : Tabu) → Stands network search.now x → search.now.radial ≡ true → result ≡ candidate_of (best_move (records_of network) x) }
+fn best_from_radial(network: &PowerNetwork, search: &TabuSearch) -> Option<Candidate>
+    requires { (check_records (records_of network.now) ≡ accepted tt) × (length network.now.branches ≡ 512) }
+    ensures { (x : Tabu) → Stands network.now search.now x → search.now.radial ≡ true → result ≡ candidate_of (best_move (records_of network.now) x) }
 {
     let configuration = search.configuration;
-    let counts = open_counts(network, configuration);
+    let counts = open_counts(*network, configuration);
     let count = usize::from(network.switch_count);
     let mut best = None;
     for (i, switch) in network.switches[..count].iter().enumerate() {
@@ -199,13 +200,13 @@ fn best_from_radial(network: PowerNetwork, search: &TabuSearch) -> Option<Candid
 }
 
 // A round from a state that is not radial. Only a toggle that makes a branch live or dead can make it so.
-fn best_from_other(network: PowerNetwork, start: &Start, search: &TabuSearch) -> Option<Candidate>
-    requires { Started network start.now }
-    ensures { (x : Tabu) → Stands network search.now x → search.now.radial ≡ false → result ≡ candidate_of (best_move (records_of network) x) }
+fn best_from_other(network: &PowerNetwork, start: &Start, search: &TabuSearch) -> Option<Candidate>
+    requires { Started network.now start.now × (length network.now.buses ≡ 256) × (length network.now.branches ≡ 512) }
+    ensures { (x : Tabu) → Stands network.now search.now x → search.now.radial ≡ false → result ≡ candidate_of (best_move (records_of network.now) x) }
 {
     let configuration = search.configuration;
-    let live = live_branches(network, configuration);
-    let counts = open_counts(network, configuration);
+    let live = live_branches(*network, configuration);
+    let counts = open_counts(*network, configuration);
     let count = usize::from(network.switch_count);
     let mut best = None;
     for (i, switch) in network.switches[..count].iter().enumerate() {
@@ -240,9 +241,9 @@ fn tabu_rounds(network: PowerNetwork, start: &Start) -> TabuSearch
             break;
         }
         let step = if search.radial {
-            best_from_radial(network, &search)
+            best_from_radial(&network, &search)
         } else {
-            best_from_other(network, start, &search)
+            best_from_other(&network, start, &search)
         };
         search.after_move(step);
     }

@@ -3,7 +3,6 @@ use Rattle.std.proofs.Common.{◌≡◌, ◌<◌, refl, sym, ap, ◌∙◌, arit
 use Rattle.states.specs.Listed.{few_switches, switches_listed}
 use Rattle.feeders.specs.SupplyLaws.{network_records}
 use Rattle.states.specs.Switches.{size}
-use Rattle.network.proofs.ArrayLengths.{branches_512, buses_256}
 use Rattle.network.specs.Records.{records_of}
 use Rattle.searches.specs.States.{state_of}
 use Rattle.numbers.specs.Choose.{last_some}
@@ -19,14 +18,14 @@ unfolding last_some up_to trial_of
 loop-i-init c = refl
 
 pub bounds-network-i : goal.bounds-network-i
-bounds-network-i c = omega (arith, few_switches c.args.network (network_records _ c.requires.0.0))
+bounds-network-i c = omega (arith, few_switches c.args.network.now (network_records _ c.requires.0.0))
 
 pub bounds-current-i : goal.bounds-current-i
-bounds-current-i c = omega (arith, few_switches c.args.network (network_records _ c.requires.0.0))
+bounds-current-i c = omega (arith, few_switches c.args.network.now (network_records _ c.requires.0.0))
 
 pub loop-i-preserved : goal.loop-i-preserved
 loop-i-preserved c =
-    let n = c.args.network in
+    let n = c.args.network.now in
     let N = records_of n in
     let s = state_of n c.args.current.now.configuration in
     let current = c.args.current.now.loss in
@@ -45,12 +44,12 @@ loop-i-preserved c =
 
 pub trial-requires : goal.trial-requires
 trial-requires c =
-    let n = c.args.network in
+    let n = c.args.network.now in
     let listed : c.loop-i.i < n.switch_count = omega arith in (
       record {
         started = c.requires.0;
-        buses = buses_256 n c.well_formed.0;
-        branches = branches_512 n c.well_formed.0;
+        buses = c.requires.3;
+        branches = c.requires.4;
         listed = c.requires.1;
         held = c.requires.2;
         live = c.live_branches.ensures;
@@ -63,6 +62,6 @@ trial-requires c =
 pub returns : goal.returns
 unfolding round_of
 returns c =
-    let N = records_of c.args.network in
-    let all : c.loop-i.i ≡ size N = omega (arith, switches_listed c.args.network) in
-    c.loop-i.invariant ∙ ap (λ m. trial_of N (last_some (improving N (state_of c.args.network c.args.current.now.configuration) c.args.current.now.loss) m)) all
+    let N = records_of c.args.network.now in
+    let all : c.loop-i.i ≡ size N = omega (arith, switches_listed c.args.network.now) in
+    c.loop-i.invariant ∙ ap (λ m. trial_of N (last_some (improving N (state_of c.args.network.now c.args.current.now.configuration) c.args.current.now.loss) m)) all

@@ -3,7 +3,6 @@ use Rattle.std.proofs.Common.{◌≡◌, sym, ap, ◌∙◌, arith, ◌^◌, pow
 use Rattle.numbers.specs.UpTo.{up_to, up_to_more}
 use Rattle.network.specs.Records.{records_of}
 use Rattle.feeders.specs.FeederRows.{live_flags}
-use Rattle.network.proofs.ArrayLengths.{buses_256}
 use Rattle.exhaustive.specs.Exhaustive.{no_mask, try_mask, exhaustive}
 use Rattle.exhaustive.specs.ExhaustiveTrials.{mask_passed, radial_room}
 use Rattle.exhaustive.specs.ExhaustiveValues.{exhaustive_of}
@@ -12,24 +11,25 @@ use Rattle.exhaustive.proofs.exhaustive.exhaustive_masks.Goals as goal
 use Rattle.exhaustive.proofs.exhaustive.exhaustive_masks.Goals.{then-is_radial, else-is_radial}
 
 pub find_ties-ties-requires : goal.find_ties-ties-requires
-find_ties-ties-requires c = few_ties c.args.network (buses_256 c.args.network c.well_formed.0) c.requires.0 c.requires.1
+find_ties-ties-requires c = few_ties c.args.network.now c.requires.2 c.requires.0 c.requires.1
 
 pub count_masks-mask-end-requires : goal.count_masks-mask-end-requires
-count_masks-mask-end-requires c = (ties_inside c.args.network (buses_256 c.args.network c.well_formed.0) c.requires.0 c.requires.1 c.find_ties-ties.ensures).0
+count_masks-mask-end-requires c = (ties_inside c.args.network.now c.requires.2 c.requires.0 c.requires.1 c.find_ties-ties.ensures).0
 
 pub loop-mask-init : goal.loop-mask-init
 unfolding up_to
-loop-mask-init c = c.with_base-search.ensures c.args.network (buses_256 c.args.network c.well_formed.0) c.requires.0
+loop-mask-init c = c.with_base-search.ensures c.args.network.now c.requires.2 c.requires.0
 
 pub masked_live-live-requires : goal.masked_live-live-requires
-masked_live-live-requires c = ties_inside c.args.network (buses_256 c.args.network c.well_formed.0) c.requires.0 c.requires.1 c.find_ties-ties.ensures
+masked_live-live-requires c = ties_inside c.args.network.now c.requires.2 c.requires.0 c.requires.1 c.find_ties-ties.ensures
 
 pub with_mask-search-requires : goal.with_mask-search-requires
 with_mask-search-requires c =
-    let n = c.args.network in
-    let sized = buses_256 n c.well_formed.0 in
+    let n = c.args.network.now in
+    let sized = c.requires.2 in
     let closed = c.live_branches-closed_live.ensures ∙ ap (λ d. live_flags (records_of n) d.switches) c.new.ensures in (
       c.requires.0,
+      c.requires.2,
       omega (arith, radial_room (records_of n) c.loop-mask.mask c.loop-mask.search c.loop-mask.invariant),
       mask_flags n sized c.requires.0 c.requires.1 c.find_ties-ties.ensures c.loop-mask.mask closed c.masked_live-live.ensures,
       sym (mask_judged n sized c.requires.0 c.requires.1 c.find_ties-ties.ensures c.loop-mask.mask closed c.masked_live-live.ensures c.is_radial.ensures) ∙ c.if-is_radial.true,
@@ -37,11 +37,11 @@ with_mask-search-requires c =
 
 pub loop-mask-preserved : goal.loop-mask-preserved
 loop-mask-preserved c =
-    let n = c.args.network in
+    let n = c.args.network.now in
     let N = records_of n in
     let closed = c.live_branches-closed_live.ensures ∙ ap (λ d. live_flags N d.switches) c.new.ensures in
     let judged =
-    mask_judged n (buses_256 n c.well_formed.0) c.requires.0 c.requires.1 c.find_ties-ties.ensures c.loop-mask.mask closed c.masked_live-live.ensures c.is_radial.ensures in
+    mask_judged n c.requires.2 c.requires.0 c.requires.1 c.find_ties-ties.ensures c.loop-mask.mask closed c.masked_live-live.ensures c.is_radial.ensures in
     let so_far = c.loop-mask.invariant in
     let more = ap exhaustive_of (sym (up_to_more (try_mask N) no_mask c.loop-mask.mask)) in
     elim c.if-is_radial.branch [
@@ -52,8 +52,8 @@ loop-mask-preserved c =
 pub returns : goal.returns
 unfolding exhaustive
 returns c =
-    let n = c.args.network in
+    let n = c.args.network.now in
     let N = records_of n in
-    let counted = ties_counted n (buses_256 n c.well_formed.0) c.requires.0 c.requires.1 c.find_ties-ties.ensures in
+    let counted = ties_counted n c.requires.2 c.requires.0 c.requires.1 c.find_ties-ties.ensures in
     let all : c.loop-mask.mask ≡ c.count_masks-mask-end.result = omega (arith, c.count_masks-mask-end.ensures, pow_pos c.find_ties-ties.result.count) in
     c.loop-mask.invariant ∙ ap (λ m. exhaustive_of (up_to (try_mask N) no_mask m)) (all ∙ c.count_masks-mask-end.ensures ∙ ap (λ t. 2 ^ t) counted)

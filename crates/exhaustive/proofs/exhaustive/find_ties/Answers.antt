@@ -3,7 +3,6 @@ use Rattle.std.proofs.Common.{◌≡◌, sym, ap, ◌∙◌, true, arith, ◌<�
 use Rattle.numbers.specs.Counts.{count}
 use Rattle.network.specs.declared.switch.Switch.{Switch}
 use Rattle.network.specs.Records.{records_of}
-use Rattle.network.proofs.ArrayLengths.{switches_512}
 use Rattle.states.specs.Listed.{few_switches, switches_listed}
 use Rattle.states.specs.Switches.{size, is_tie}
 use Rattle.exhaustive.specs.ExhaustiveMasks.{switch_read, tie_read}
@@ -13,7 +12,7 @@ use Rattle.exhaustive.proofs.exhaustive.find_ties.Goals as goal
 use Rattle.exhaustive.proofs.exhaustive.find_ties.Goals.{then-is_tie, else-is_tie}
 
 pub shared_ref_as_front-switch-items : goal.shared_ref_as_front-switch-items
-shared_ref_as_front-switch-items c = omega (arith, few_switches c.args.network c.requires.0)
+shared_ref_as_front-switch-items c = omega (arith, few_switches c.args.network.now c.requires.0)
 
 pub loop-switch-init : goal.loop-switch-init
 unfolding count
@@ -21,7 +20,7 @@ loop-switch-init c = c.new-ties.ensures _
 
 pub with-ties-requires : goal.with-ties-requires
 with-ties-requires c =
-    let n = c.args.network in
+    let n = c.args.network.now in
     let i = c.loop-switch.switch-index in
     let below : i < c.from-count.result = omega (arith, length-take {A = Switch}) in
     let tie : is_tie (records_of n) i ≡ true = tie_read n c.from-count.ensures i below c.is_tie.ensures ∙ c.if-is_tie.true in
@@ -31,7 +30,7 @@ with-ties-requires c =
 
 pub loop-switch-preserved : goal.loop-switch-preserved
 loop-switch-preserved c =
-    let n = c.args.network in
+    let n = c.args.network.now in
     let i = c.loop-switch.switch-index in
     let below : i < c.from-count.result = omega (arith, length-take {A = Switch}) in
     let read : is_tie (records_of n) i ≡ c.is_tie.result = tie_read n c.from-count.ensures i below c.is_tie.ensures in
@@ -46,7 +45,7 @@ loop-switch-preserved c =
 
 pub returns : goal.returns
 returns c =
-    let n = c.args.network in
+    let n = c.args.network.now in
     let few = few_switches n c.requires.0 in
-    let all : c.loop-switch.switch-index ≡ size (records_of n) = omega (arith, length-take c.from-count.result n.switches, switches_512 n c.well_formed.0, switches_listed n) in
+    let all : c.loop-switch.switch-index ≡ size (records_of n) = omega (arith, length-take c.from-count.result n.switches, switches_listed n) in
     c.loop-switch.invariant ∙ ap (λ m. ties_of (records_of n) (count (is_tie (records_of n)) m)) all

@@ -16,7 +16,7 @@ loop-i-init c = record { bytes = ap (λ n. n.switches) c.new-configuration.ensur
 
 pub loop-i-preserved : goal.loop-i-preserved
 loop-i-preserved c =
-    let n = c.args.network in
+    let n = c.args.network.now in
     let i = c.loop-i.i in
     let mask = c.args.mask in
     let below : i < c.from-count.result = omega (arith, length-take {A = Switch}) in
@@ -38,4 +38,4 @@ loop-i-preserved c =
     ]
 
 pub returns : goal.returns
-returns c = ap (λ l. record { switches = l }) (c.loop-i.invariant.bytes ∙ filled_all _ 0 512 c.loop-i.i (λ j h k. masked_beyond c.args.network c.args.mask j (omega (arith, length-take c.from-count.result c.args.network.switches))))
+returns c = ap (λ l. record { switches = l }) (c.loop-i.invariant.bytes ∙ filled_all _ 0 512 c.loop-i.i (λ j h k. masked_beyond c.args.network.now c.args.mask j (omega (arith, length-take c.from-count.result c.args.network.now.switches))))

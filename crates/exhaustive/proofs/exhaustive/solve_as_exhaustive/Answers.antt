@@ -2,7 +2,6 @@
 use Rattle.std.proofs.Common.{ap, ◌∙◌}
 use Rattle.network.specs.Answers.{valued}
 use Rattle.network.specs.AnswerLaws.{handed_on}
-use Rattle.network.proofs.ArrayLengths.{buses_256}
 use Rattle.searches.specs.Results.{result_of}
 use Rattle.searches.specs.SearchLaws.{search_refused, search_checked, search_answered}
 use Rattle.exhaustive.specs.Exhaustive.{exhaustive_best}
@@ -14,11 +13,11 @@ returns-in_err-check_search c =
     ap (λ a. record { answer = valued result_of a; out = c.args.out.now }) (handed_on _ _ c.from_residual.ensures.1)
     ∙ search_refused _ exhaustive_best exhaustive_sound _ _ c.check_search.ensures c.in_err-check_search.was
 
-pub search-requires : goal.search-requires
-search-requires c = ((search_checked _ _ c.in_ok-check_search.was c.check_search.ensures, c.start_of-start.ensures), c.requires)
+pub search-found-requires : goal.search-found-requires
+search-found-requires c = ((search_checked _ _ c.in_ok-check_search.was c.check_search.ensures, c.start_of-start.ensures), c.requires.0, c.requires.1)
 
 pub returns : goal.returns
 returns c =
     c.answer_with.ensures
     ∙ search_answered _ exhaustive_best exhaustive_sound _ _ c.check_search.ensures c.in_ok-check_search.was
-    (buses_256 c.args.network c.well_formed.0) c.start_of-start.ensures c.search.ensures
+    c.requires.1 c.start_of-start.ensures c.search-found.ensures

@@ -4,7 +4,6 @@ use Rattle.std.specs.Prelude.{None}
 use Rattle.std.proofs.Common.{arith, length-take}
 use Rattle.numbers.specs.UpTo.{up_to}
 use Rattle.network.specs.Records.{records_of}
-use Rattle.network.proofs.ArrayLengths.{branches_512, buses_256, switches_512}
 use Rattle.states.specs.Listed.{few_switches, switches_listed}
 use Rattle.states.specs.Switches.{size, toggled}
 use Rattle.feeders.specs.FeederRowLaws.{flags_radial}
@@ -23,21 +22,24 @@ unfolding candidate_of up_to
 loop-i-init c = λ x s r. refl
 
 pub shared_ref_as_front-switch-items : goal.shared_ref_as_front-switch-items
-shared_ref_as_front-switch-items c = omega (arith, few_switches c.args.network (network_records _ c.requires.0))
+shared_ref_as_front-switch-items c = omega (arith, few_switches c.args.network.now (network_records _ c.requires.0.0))
+
+pub bounds-configuration-i : goal.bounds-configuration-i
+bounds-configuration-i c = let n = c.args.network.now in omega (arith, few_switches n (network_records _ c.requires.0.0), length-take c.from-count.result n.switches)
 
 pub bounds-network-on : goal.bounds-network-on
-bounds-network-on c = read_on c.args.network _ _ c.from-count.ensures c.loop-i-test.true (network_records _ c.requires.0) _ c.from-on.ensures
+bounds-network-on c = read_on c.args.network.now _ _ c.from-count.ensures c.loop-i-test.true (network_records _ c.requires.0.0) _ c.from-on.ensures
 
 pub bounds-counts-on : goal.bounds-counts-on
-bounds-counts-on c = read_on c.args.network _ _ c.from-count.ensures c.loop-i-test.true (network_records _ c.requires.0) _ c.from-on.ensures
+bounds-counts-on c = read_on c.args.network.now _ _ c.from-count.ensures c.loop-i-test.true (network_records _ c.requires.0.0) _ c.from-on.ensures
 
 pub loop-i-preserved : goal.loop-i-preserved
 loop-i-preserved c =
-    let n = c.args.network in
+    let n = c.args.network.now in
     let y = c.args.search.now in
-    let sized = buses_256 n c.well_formed.0 in
-    let ok = network_records (records_of n) c.requires.0 in
-    let given = start_given n sized c.requires.0 c.requires.1 in
+    let sized = c.requires.1 in
+    let ok = network_records (records_of n) c.requires.0.0 in
+    let given = start_given n sized c.requires.0.0 c.requires.0.1 in
     let i = c.loop-i.i in
     let below = read_below n _ _ c.from-count.ensures c.loop-i-test.true in
     let here = read_here n _ _ c.from-count.ensures c.loop-i-test.true in
@@ -45,7 +47,7 @@ loop-i-preserved c =
     λ x s r.
     let so_far = c.loop-i.invariant x s r in
     let t = toggled x.state i in
-    let decided = c.decides_branch-decides.ensures ∙ decides_read n y x s ok i below _ here (branches_512 n c.well_formed.0) _ c.open_counts-counts.ensures _ c.from-on.ensures in
+    let decided = c.decides_branch-decides.ensures ∙ decides_read n y x s ok i below _ here c.requires.2 _ c.open_counts-counts.ensures _ c.from-on.ensures in
     seen_more _ _ _ _
     (elim c.if-is_deciding.branch [
       | then-is_deciding+then-is_radial w ↦
@@ -66,7 +68,7 @@ loop-i-preserved c =
 pub returns : goal.returns
 unfolding best_move
 returns c =
-    let n = c.args.network in
-    let ok = network_records (records_of n) c.requires.0 in
-    let all : c.loop-i.i ≡ size (records_of n) = omega (arith, switches_listed n, few_switches n ok, switches_512 n c.well_formed.0, length-take c.from-count.result n.switches) in
+    let n = c.args.network.now in
+    let ok = network_records (records_of n) c.requires.0.0 in
+    let all : c.loop-i.i ≡ size (records_of n) = omega (arith, switches_listed n, few_switches n ok, length-take c.from-count.result n.switches) in
     λ x s r. c.loop-i.invariant x s r ∙ ap (λ m. candidate_of (up_to (seeing (records_of n) x) None m)) all

@@ -4,7 +4,6 @@ use Rattle.std.specs.Prelude.{None}
 use Rattle.std.proofs.Common.{arith, length-take}
 use Rattle.numbers.specs.UpTo.{up_to}
 use Rattle.network.specs.Records.{records_of}
-use Rattle.network.proofs.ArrayLengths.{branches_512, switches_512}
 use Rattle.states.specs.Listed.{few_switches, switches_listed}
 use Rattle.states.specs.Switches.{size}
 use Rattle.tabu.specs.Tabu.{seeing, best_move}
@@ -19,22 +18,22 @@ unfolding candidate_of up_to
 loop-i-init c = λ x s r. refl
 
 pub bounds-network-on : goal.bounds-network-on
-bounds-network-on c = read_on c.args.network _ _ c.from-count.ensures c.loop-i-test.true c.requires _ c.from-on.ensures
+bounds-network-on c = read_on c.args.network.now _ _ c.from-count.ensures c.loop-i-test.true c.requires.0 _ c.from-on.ensures
 
 pub bounds-counts-on : goal.bounds-counts-on
-bounds-counts-on c = read_on c.args.network _ _ c.from-count.ensures c.loop-i-test.true c.requires _ c.from-on.ensures
+bounds-counts-on c = read_on c.args.network.now _ _ c.from-count.ensures c.loop-i-test.true c.requires.0 _ c.from-on.ensures
 
 pub loop-i-preserved : goal.loop-i-preserved
 loop-i-preserved c =
-    let n = c.args.network in
+    let n = c.args.network.now in
     let y = c.args.search.now in
-    let ok = c.requires in
+    let ok = c.requires.0 in
     let i = c.loop-i.i in
     let below = read_below n _ _ c.from-count.ensures c.loop-i-test.true in
     let here = read_here n _ _ c.from-count.ensures c.loop-i-test.true in
     λ x s r.
     let so_far = c.loop-i.invariant x s r in
-    let decided = c.decides_branch-decides.ensures ∙ decides_read n y x s ok i below _ here (branches_512 n c.well_formed.0) _ c.open_counts-counts.ensures _ c.from-on.ensures in
+    let decided = c.decides_branch-decides.ensures ∙ decides_read n y x s ok i below _ here (c.requires.1) _ c.open_counts-counts.ensures _ c.from-on.ensures in
     seen_more _ _ _ _
     (elim c.if-is_idle.branch [
       | then-is_idle w ↦ w.best-is ∙ see_idle n y x s ok i below _ here _ decided _ _ so_far _ r (sym c.is_idle.ensures ∙ w.if-is_idle.true) w.see_toggle-best.ensures
@@ -44,6 +43,6 @@ loop-i-preserved c =
 pub returns : goal.returns
 unfolding best_move
 returns c =
-    let n = c.args.network in
-    let all : c.loop-i.i ≡ size (records_of n) = omega (arith, switches_listed n, few_switches n c.requires, switches_512 n c.well_formed.0, length-take c.from-count.result n.switches) in
+    let n = c.args.network.now in
+    let all : c.loop-i.i ≡ size (records_of n) = omega (arith, switches_listed n, few_switches n c.requires.0, length-take c.from-count.result n.switches) in
     λ x s r. c.loop-i.invariant x s r ∙ ap (λ m. candidate_of (up_to (seeing (records_of n) x) None m)) all

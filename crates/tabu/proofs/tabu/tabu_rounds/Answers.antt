@@ -1,7 +1,7 @@
 -- `tabu_rounds` meets its contract: the rounds that are left lead from where it stands to the definition's answer.
 use Rattle.std.proofs.Common.{◌∙◌, arith}
 use Rattle.network.specs.Records.{records_of}
-use Rattle.network.proofs.ArrayLengths.{buses_256}
+use Rattle.network.proofs.ArrayLengths.{branches_512, buses_256}
 use Rattle.feeders.specs.SupplyLaws.{network_records}
 use Rattle.searches.specs.StartLaws.{start_base, start_radial}
 use Rattle.tabu.specs.TabuRounds.{standing_base, standing_ended, standing_done, standing_next}
@@ -15,7 +15,10 @@ loop-round-init c =
     standing_base _ _ (c.at_base-search.ensures n (start_base n sized c.requires.0 c.requires.1) (start_radial n sized (network_records (records_of n) c.requires.0) c.requires.1))
 
 pub best_from_radial-step-requires : goal.best_from_radial-step-requires
-best_from_radial-step-requires c = network_records _ c.requires.0
+best_from_radial-step-requires c = (network_records _ c.requires.0, branches_512 c.args.network c.well_formed.0)
+
+pub best_from_other-step-requires : goal.best_from_other-step-requires
+best_from_other-step-requires c = (c.requires, buses_256 c.args.network c.well_formed.0, branches_512 c.args.network c.well_formed.0)
 
 pub loop-round-preserved : goal.loop-round-preserved
 loop-round-preserved c =
