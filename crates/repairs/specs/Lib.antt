@@ -1,5 +1,6 @@
 pub mod Repairs
 pub mod RepairValues
+pub mod DroppedLines
 pub mod RepairLaws
 pub mod PrintedLaws
 pub mod Claim
