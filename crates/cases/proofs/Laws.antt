@@ -1,6 +1,6 @@
 -- A line as it is found, digits and numbers character after character, for the loops that pass them, and the parts that are made of them.
 use mathlib.Core.Path.{◌≡◌, refl, sym, ap, ◌∙◌}
-use mathlib.Core.Bool.{or-true}
+use mathlib.Core.Bool.{and-false, or-true}
 use mathlib.Core.List.{List}
 use Prim.Native.Nat.{ℕ, zero, suc, ◌+◌, ◌*◌, ◌-◌, ◌≤◌, ◌<◌, min}
 use native.Mathlib.Numerals.{add-one}
@@ -8,6 +8,7 @@ use native.Mathlib.Omega.{arith}
 use lib.ListN.{length, take, drop, get_or, length-take, length-drop, drop_of_length-le}
 use lib.Seq.{drop-cons, ext_get_or, get_or-take}
 use borrow.Author.Tests.{le-leb, lt-leb, eq-eqb, ne_eqb}
+use Rattle.numbers.specs.Choose.{index_of}
 use Rattle.numbers.specs.Parts.{part_rest}
 use Rattle.numbers.specs.UpTo.{table}
 use Rattle.numbers.specs.TableLaws.{as_table}
@@ -18,6 +19,25 @@ use Rattle.cases.specs.Cases.{Inside, part_of, line_length, line_behind, digit_o
 use Rattle.cases.specs.declared.Case.{Case}
 use Rattle.cases.specs.declared.Number.{Number}
 use Rattle.cases.specs.declared.Part.{Part}
+
+-- ---- a line
+pub line_is : (t : List ℕ) (n : ℕ) → n ≡ index_of 10 t → n ≡ line_length t
+unfolding line_length
+line_is t n e = e
+
+-- ---- a digit
+module _ (c : ℕ) where
+  pub under_digits : c < 48 → digit_of c ≡ 255
+  unfolding digit_of
+  under_digits h = rw (lt-leb 48 c h)
+
+  pub of_digits : 48 ≤ c → c < 58 → digit_of c ≡ c - 48
+  unfolding digit_of
+  of_digits h k = rw (le-leb 48 c h, le-leb c 57 (omega arith))
+
+  pub over_digits : 58 ≤ c → digit_of c ≡ 255
+  unfolding digit_of
+  over_digits h = rw (lt-leb c 57 (omega arith), and-false)
 
 -- ---- a number
 abbrev pub number : ℕ → ℕ → Number

@@ -9,6 +9,7 @@ ghost use Rattle.cases.specs.LentLaws.{lent_text, cases_left};
 ghost use Rattle.cases.specs.Cases.{Inside, part_of, line_length, line_behind, digit_of, leading_number, first_case, state_bytes};
 
 pub mod faults;
+pub mod unheeded;
 
 use scan::find;
 use std::array;

@@ -2,6 +2,7 @@
 #![tactic(auto)]
 
 use cases::filled;
+use cases::unheeded::Unheeded;
 use frames::reader::read_text;
 use std::io;
 
@@ -13,6 +14,7 @@ fn print_verdict(rt: &impl Print, character: u8) -> io::Result<()> {
 }
 
 fn main(rt: HostRuntime) -> io::Result<()> {
+    let rt = Unheeded(&rt);
     for character in [b'0', b'\n', 255] {
         print_verdict(&rt, character)?;
     }

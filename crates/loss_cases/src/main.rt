@@ -4,6 +4,7 @@
 #![tactic(auto)]
 
 use cases::faults::with_fault;
+use cases::unheeded::Unheeded;
 use cases::{Cases, LentCase, State, filled};
 use frames::reader::read_stored;
 use input::read_available;
@@ -48,6 +49,7 @@ fn main(rt: HostRuntime) -> io::Result<()> {
     // Room for all cases.
     let mut room = filled::<327_680>(0);
     let n = read_available(&mut rt.stdin(), &mut room);
+    let rt = Unheeded(&rt);
     for case in Cases::of(&room[..n], 1) {
         rt.write_all(case.name)?;
         print_answer(&rt, case)?;

@@ -5,6 +5,7 @@
 #![tactic(auto)]
 
 use cases::faults::with_fault;
+use cases::unheeded::Unheeded;
 use cases::{Cases, DOT, LentCase, State, filled};
 use frames::reader::read_stored;
 use input::read_available;
@@ -39,6 +40,7 @@ fn main(rt: HostRuntime) -> io::Result<()> {
     // Room for all cases.
     let mut room = filled::<655_360>(0);
     let n = read_available(&mut rt.stdin(), &mut room);
+    let rt = Unheeded(&rt);
     let mut network = PowerNetwork::new(1.0, ReconfigAlgorithm::BranchExchange, 100);
     for case in Cases::of(&room[..n], 3) {
         rt.write_all(case.name)?;

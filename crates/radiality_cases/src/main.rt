@@ -4,6 +4,7 @@
 
 mod changes;
 
+use cases::unheeded::Unheeded;
 use cases::{Cases, State, filled};
 use changes::changed;
 use frames::reader::read_stored;
@@ -39,6 +40,7 @@ fn main(rt: HostRuntime) -> io::Result<()> {
     // Room for all cases.
     let mut room = filled::<458_752>(0);
     let n = read_available(&mut rt.stdin(), &mut room);
+    let rt = Unheeded(&rt);
     let mut network = PowerNetwork::new(1.0, ReconfigAlgorithm::BranchExchange, 100);
     for case in Cases::of(&room[..n], 1) {
         rt.write_all(case.name)?;

@@ -1,6 +1,7 @@
 // Reads the frame texts on standard input and prints each one's verdict. A case is a line 'LENGTH NAME', the text, and a line feed.
 #![tactic(auto)]
 
+use cases::unheeded::Unheeded;
 use cases::{Cases, LentCase, filled};
 use frames::reader::read_text;
 use input::read_available;
@@ -18,6 +19,7 @@ fn main(rt: HostRuntime) -> io::Result<()> {
     // Room for all cases.
     let mut room = filled::<622_592>(0);
     let n = read_available(&mut rt.stdin(), &mut room);
+    let rt = Unheeded(&rt);
     for case in Cases::of(&room[..n], 0) {
         print_case(&rt, case)?;
     }

@@ -9,6 +9,7 @@
 ghost use Rattle.std.specs.Prelude.{◌≤◌};
 ghost use Rattle.frames.specs.Lengths.{longest_text};
 
+use cases::unheeded::Unheeded;
 use cases::{Cases, DOT, LentCase, begins_with, filled};
 use frames::reader::read_text;
 use input::read_available;
@@ -100,6 +101,7 @@ fn main(rt: HostRuntime) -> io::Result<()> {
     // Room for all cases.
     let mut room = filled::<344_064>(0);
     let n = read_available(&mut rt.stdin(), &mut room);
+    let rt = Unheeded(&rt);
     for case in Cases::of(&room[..n], 1) {
         print_case(&rt, case)?;
     }

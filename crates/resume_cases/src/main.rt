@@ -13,6 +13,7 @@
 ghost use Rattle.std.specs.Prelude.{◌≡◌, ◌≤◌};
 
 use cases::faults::with_fault;
+use cases::unheeded::Unheeded;
 use cases::{Cases, DOT, LentCase, State, filled};
 use frames::reader::read_stored;
 use input::read_available;
@@ -171,8 +172,10 @@ fn print_long_plan(rt: &impl Print, plan: &CutPlan, moves: u16) -> io::Result<()
 }
 
 // The length of a slice, from four digits.
-fn room_at(line: &[u8], at: usize) -> usize {
-    number_at(line, at, 4) as usize
+fn room_at(line: &[u8], at: usize) -> usize
+    ensures { result ≤ 4864 }
+{
+    (number_at(line, at, 4) as usize).min(MAX_ROOM)
 }
 
 fn print_calls(rt: &impl Print, plan: &CutPlan, calls: &[u8]) -> io::Result<()> {
@@ -210,6 +213,7 @@ fn main(rt: HostRuntime) -> io::Result<()> {
     // Room for all cases.
     let mut room = filled::<524_288>(0);
     let n = read_available(&mut rt.stdin(), &mut room);
+    let rt = Unheeded(&rt);
     let mut network = PowerNetwork::new(1.0, ReconfigAlgorithm::BranchExchange, 100);
     for case in Cases::of(&room[..n], 3) {
         rt.write_all(case.name)?;

@@ -6,6 +6,7 @@
 
 mod changes;
 
+use cases::unheeded::Unheeded;
 use cases::{Cases, DOT, LentCase, begins_with, filled};
 use changes::changed;
 use frames::reader::read_stored;
@@ -69,6 +70,7 @@ fn main(rt: HostRuntime) -> io::Result<()> {
     // Room for all cases.
     let mut room = filled::<278_528>(0);
     let n = read_available(&mut rt.stdin(), &mut room);
+    let rt = Unheeded(&rt);
     for case in Cases::of(&room[..n], 1) {
         print_case(&rt, case)?;
     }
