@@ -22,7 +22,7 @@
 extern "C" {
 #endif
 
-#define FEEDER_VERSION "0.11"
+#define FEEDER_VERSION "0.12"
 
 /* What a text may list, how many of its switches may be on one branch, how many iterations its head may ask for, and how many of its switches may be normally
  * open with method 02. */
@@ -83,18 +83,18 @@ extern "C" {
 /* Bytes of stack that each call needs, the most of three buses and of 256: measured to 64 bytes on a stack that ends at a page which faults
  * (tests/interface/stack.c, which fails where a call needs more), on what include/build writes; tested, not proved. FEEDER_STACK is for a thread
  * that makes any of the calls: the greatest of them and a quarter, in whole pages. */
-#define FEEDER_RADIALITY_STACK 173504
-#define FEEDER_FORM_STACK 173504
-#define FEEDER_LOSS_STACK 185728
-#define FEEDER_PLAN_STACK 242688
-#define FEEDER_RESUME_STACK 237504
-#define FEEDER_ANSWER_TEXT_STACK 309248
-#define FEEDER_BASE_STATE_STACK 153472
-#define FEEDER_SOLVE_STACK 299712
-#define FEEDER_OPERATIONS_STACK 168384
-#define FEEDER_WRITE_TEXT_STACK 164992
-#define FEEDER_REPAIR_TEXT_STACK 193984
-#define FEEDER_STACK 389120
+#define FEEDER_RADIALITY_STACK 171392
+#define FEEDER_FORM_STACK 171392
+#define FEEDER_LOSS_STACK 160576
+#define FEEDER_PLAN_STACK 227840
+#define FEEDER_RESUME_STACK 222656
+#define FEEDER_ANSWER_TEXT_STACK 260416
+#define FEEDER_BASE_STATE_STACK 148288
+#define FEEDER_SOLVE_STACK 263232
+#define FEEDER_OPERATIONS_STACK 163200
+#define FEEDER_WRITE_TEXT_STACK 159872
+#define FEEDER_REPAIR_TEXT_STACK 191872
+#define FEEDER_STACK 331776
 
 /* The refusals, as docs/INTERFACE.md has them. The place of 1 to 9, 14, 15 and 17 is the text's line, from 1: the first faulty line is answered, and of its numbers the lowest (2
  * where it is over 36 characters). The place of 10 and 11 is 0 for the present, first or only state and 1 for the wanted or second one; that of 12 is the
